@@ -1,0 +1,17 @@
+pub mod Lists
+pub mod CallNames
+pub mod Own
+pub mod Distinct
+pub mod Order
+pub mod Happens
+pub mod Run
+pub mod Numbers
+pub mod Story
+pub mod Stands
+pub mod CacheLaw
+pub mod Rows
+pub mod LoadLaw
+pub mod Places
+pub mod Greatest
+pub mod Queue
+pub mod WakeLaw

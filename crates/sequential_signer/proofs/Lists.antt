@@ -1,0 +1,94 @@
+-- One more item at the end of a list.
+use Rattle.std.proofs.Common.{◌≡◌, Bool, true, false, cond, ◌&&◌, ◌||◌, List, [], ◌∷◌, ◌++◌, Some, None, refl, sym, ◌∙◌, ap, filter, fold, find}
+use Rattle.std.specs.List.{list_any, list_all}
+use Rattle.std.proofs.lemmas.List.{append-nil, append_assoc}
+use Rattle.std.proofs.lemmas.List.Elements.{filter-append}
+use Rattle.sequential_signer.specs.Transcript.{last_of, each_after}
+
+pub or_false : (a : Bool) → (a || false) ≡ a
+or_false true = refl
+or_false false = refl
+
+pub or_true : (a : Bool) → (a || true) ≡ true
+or_true true = refl
+or_true false = refl
+
+pub and_false : (a : Bool) → (a && false) ≡ false
+and_false true = refl
+and_false false = refl
+
+module _ {X : Type 0} where
+  -- what holds of each item, where what it follows from does
+  pub list_all-by : (p q : X → Bool) → ((x : X) → p x ≡ true → q x ≡ true) → (xs : List X) → list_all p xs ≡ true → list_all q xs ≡ true
+  list_all-by p q f [] h = refl
+  list_all-by p q f (x ∷ xs) h =
+      (elim (p x) as (λ v. p x ≡ v → (v && list_all p xs) ≡ true → (q x && list_all q xs) ≡ true)
+      [ true ↦ λ e r. rw (f x e) (list_all-by p q f xs r) | false ↦ λ e r. (cc) ]) refl h
+
+  pub filter-same : (p q : X → Bool) → ((x : X) → p x ≡ q x) → (xs : List X) → filter p xs ≡ filter q xs
+  filter-same p q f [] = refl
+  filter-same p q f (x ∷ xs) = rw (f x, filter-same p q f xs) refl
+
+  pub list_all-filter : (p : X → Bool) (xs : List X) → list_all p (filter p xs) ≡ true
+  list_all-filter p [] = refl
+  list_all-filter p (x ∷ xs) =
+      (elim (p x) as (λ v. p x ≡ v → list_all p (cond v (x ∷ filter p xs) (filter p xs)) ≡ true)
+      [ true ↦ λ e. rw e (list_all-filter p xs) | false ↦ λ e. list_all-filter p xs ]) refl
+
+  -- two folds are one where their steps are, at each item that passes
+  pub fold-same : {B : Type 0} (f g : B → X → B) (p : X → Bool) → ((x : X) → p x ≡ true → (b : B) → f b x ≡ g b x) → (xs : List X) → list_all p xs ≡ true → (b : B) → fold f b xs ≡ fold g b xs
+  fold-same f g p h [] all b = refl
+  fold-same f g p h (x ∷ xs) all b =
+      (elim (p x) as (λ v. p x ≡ v → (v && list_all p xs) ≡ true → fold f (f b x) xs ≡ fold g (g b x) xs)
+      [ true ↦ λ e r. rw (h x e b) (fold-same f g p h xs r (g b x)) | false ↦ λ e r. (cc) ]) refl all
+
+  pub filter-more : (p : X → Bool) (xs : List X) (x : X) → filter p (xs ++ x ∷ []) ≡ cond (p x) (filter p xs ++ x ∷ []) (filter p xs)
+  filter-more p xs x =
+      filter-append p xs (x ∷ [])
+      ∙ elim (p x) as (λ v. filter p xs ++ cond v (x ∷ []) [] ≡ cond v (filter p xs ++ x ∷ []) (filter p xs)) [ true ↦ refl | false ↦ append-nil (filter p xs) ]
+
+  pub filter-more_yes : (p : X → Bool) (xs : List X) (x : X) → p x ≡ true → filter p (xs ++ x ∷ []) ≡ filter p xs ++ x ∷ []
+  filter-more_yes p xs x h = filter-more p xs x ∙ ap (λ v. cond v (filter p xs ++ x ∷ []) (filter p xs)) h
+
+  pub filter-more_no : (p : X → Bool) (xs : List X) (x : X) → p x ≡ false → filter p (xs ++ x ∷ []) ≡ filter p xs
+  filter-more_no p xs x h = filter-more p xs x ∙ ap (λ v. cond v (filter p xs ++ x ∷ []) (filter p xs)) h
+
+  pub list_any-more : (p : X → Bool) (xs : List X) (x : X) → list_any p (xs ++ x ∷ []) ≡ (list_any p xs || p x)
+  list_any-more p [] x = elim (p x) as (λ v. (v || false) ≡ v) [ true ↦ refl | false ↦ refl ]
+  list_any-more p (y ∷ ys) x =
+      elim (p y) as (λ v. (v || list_any p (ys ++ x ∷ [])) ≡ ((v || list_any p ys) || p x)) [ true ↦ refl | false ↦ list_any-more p ys x ]
+
+  pub list_all-more : (p : X → Bool) (xs : List X) (x : X) → list_all p (xs ++ x ∷ []) ≡ (list_all p xs && p x)
+  list_all-more p [] x = elim (p x) as (λ v. (v && true) ≡ v) [ true ↦ refl | false ↦ refl ]
+  list_all-more p (y ∷ ys) x =
+      elim (p y) as (λ v. (v && list_all p (ys ++ x ∷ [])) ≡ ((v && list_all p ys) && p x)) [ true ↦ list_all-more p ys x | false ↦ refl ]
+
+  pub last_of-more : (xs : List X) (x : X) → last_of (xs ++ x ∷ []) ≡ Some x
+  last_of-more [] x = refl
+  last_of-more (y ∷ []) x = refl
+  last_of-more (y ∷ (z ∷ rest)) x = last_of-more (z ∷ rest) x
+
+  pub each_after-more : (before xs : List X) (x : X) → each_after before (xs ++ x ∷ []) ≡ each_after before xs ++ (before ++ xs, x) ∷ []
+  each_after-more before [] x = ap (λ v. (v, x) ∷ []) (sym (append-nil before))
+  each_after-more before (y ∷ ys) x =
+      ap (λ rest. (before, y) ∷ rest)
+      (each_after-more (before ++ y ∷ []) ys x
+      ∙ ap (λ v. each_after (before ++ y ∷ []) ys ++ (v, x) ∷ []) (append_assoc before (y ∷ []) ys))
+
+  -- what is found first stays found
+  pub find-more_found : (p : X → Bool) (xs : List X) (x y : X) → find p xs ≡ Some y → find p (xs ++ x ∷ []) ≡ Some y
+  find-more_found p [] x y h = cc
+  find-more_found p (z ∷ zs) x y h =
+      (elim (p z) as (λ v. cond v (Some z) (find p zs) ≡ Some y → cond v (Some z) (find p (zs ++ x ∷ [])) ≡ Some y)
+      [ true ↦ λ e. e | false ↦ λ e. find-more_found p zs x y e ]) h
+
+  pub find-more_no : (p : X → Bool) (xs : List X) (x : X) → p x ≡ false → find p (xs ++ x ∷ []) ≡ find p xs
+  find-more_no p [] x h = ap (λ v. cond v (Some x) None) h
+  find-more_no p (z ∷ zs) x h =
+      elim (p z) as (λ v. cond v (Some z) (find p (zs ++ x ∷ [])) ≡ cond v (Some z) (find p zs)) [ true ↦ refl | false ↦ find-more_no p zs x h ]
+
+  pub find-more_yes : (p : X → Bool) (xs : List X) (x : X) → find p xs ≡ None → p x ≡ true → find p (xs ++ x ∷ []) ≡ Some x
+  find-more_yes p [] x n h = ap (λ v. cond v (Some x) None) h
+  find-more_yes p (z ∷ zs) x n h =
+      (elim (p z) as (λ v. cond v (Some z) (find p zs) ≡ None → cond v (Some z) (find p (zs ++ x ∷ [])) ≡ Some x)
+      [ true ↦ λ e. (cc) | false ↦ λ e. find-more_yes p zs x e h ]) n

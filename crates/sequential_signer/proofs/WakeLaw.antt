@@ -1,0 +1,218 @@
+-- Who is woken: the call that stands after the holder, by the entry that ends the holder's hold.
+use Rattle.std.proofs.Common.{◌≡◌, if◌then◌else◌, ℕ, Bool, true, false, not, cond, ◌&&◌, ◌||◌, List, [], ◌∷◌, ◌++◌, Some, None, filter, find, refl, sym, ◌∙◌, ap, subst}
+use Rattle.std.specs.List.{list_any}
+use Rattle.wake_lock.specs.declared.CallId.{CallId}
+use Rattle.sequential_signer.specs.Policy.{Policy}
+use Rattle.sequential_signer.specs.Setup.{Setup, cache_of, is_of_cache}
+use Rattle.sequential_signer.specs.Transcript.{same_call, call_of}
+use Rattle.sequential_signer.specs.Phase.{Phase, Unknown, Fresh, Queued, Loading, Signing, Ended, phase_of, is_queued}
+use Rattle.sequential_signer.specs.Turn.{ends_hold, poll_order, hold_is_finished, has_turn}
+use Rattle.sequential_signer.specs.Wake.{gets_turn, call_to_wake}
+use Rattle.sequential_signer.specs.declared.event.Entry.{Entry}
+use Rattle.sequential_signer.proofs.Lists.{or_true}
+use Rattle.sequential_signer.proofs.CallNames.{same_call-eq, same_call-refl, same_call-comm, or_left, or_right}
+use Rattle.sequential_signer.proofs.Distinct.{IsOnce, once-filter}
+use Rattle.sequential_signer.proofs.Order.{is_polled, is_polled-more, hold_is_finished-other}
+use Rattle.sequential_signer.proofs.Run.{IsRun}
+use Rattle.sequential_signer.proofs.Story.{Stands, unknown_call, fresh_call, queued_call, loading_call, signing_call, over_call, cancelled_call}
+use Rattle.sequential_signer.proofs.Stands.{stands}
+use Rattle.sequential_signer.proofs.CacheLaw.{order_of_cache, order_once, number_of, list_all-member}
+use Rattle.sequential_signer.proofs.Queue.{is_first, first_of, after_first, queue, queue-leaves, has_turn-polled, is_empty, all-finished}
+
+pub find-none : (p : CallId → Bool) (xs : List CallId) → ((b : CallId) → list_any (same_call b) xs ≡ true → p b ≡ false) → find p xs ≡ None
+find-none p [] h = refl
+find-none p (x ∷ xs) h =
+    let here : p x ≡ false = h x (ap (λ v. v || list_any (same_call x) xs) (same_call-refl x)) in
+    let later : find p xs ≡ None = find-none p xs (λ b m. h b (ap (λ v. same_call b x || v) m ∙ or_true _)) in
+    rw (here, later) refl
+
+-- a search by a test that is passed by the first call of another list alone
+find_same : (p q : CallId → Bool) (xs : List CallId) → ((b : CallId) → list_any (same_call b) xs ≡ true → p b ≡ q b) → find p xs ≡ find q xs
+find_same p q [] h = refl
+find_same p q (x ∷ xs) h =
+    let here : p x ≡ q x = h x (ap (λ v. v || list_any (same_call x) xs) (same_call-refl x)) in
+    let later : find p xs ≡ find q xs = find_same p q xs (λ b m. h b (ap (λ v. same_call b x || v) m ∙ or_true _)) in
+    rw (here, later) refl
+
+find_never : (xs : List CallId) → find (λ (b : CallId). false) xs ≡ None
+find_never [] = refl
+find_never (x ∷ xs) = find_never xs
+
+find_step : (h x : CallId) (xs : List CallId) → (s : Bool) → same_call h x ≡ s → (s || list_any (same_call h) xs) ≡ true → (list_any (same_call h) xs ≡ true → find (λ b. same_call b h) xs ≡ Some h) → find (λ b. same_call b h) (x ∷ xs) ≡ Some h
+find_step h x xs true s m rest = let e : same_call x h ≡ true = same_call-comm x h ∙ s in rw e (ap Some (sym (same_call-eq h x s)))
+find_step h x xs false s m rest = let e : same_call x h ≡ false = same_call-comm x h ∙ s in rw e (rest m)
+
+find_call_itself : (h : CallId) (xs : List CallId) → list_any (same_call h) xs ≡ true → find (λ b. same_call b h) xs ≡ Some h
+find_call_itself h [] m = cc
+find_call_itself h (x ∷ xs) m = find_step h x xs (same_call h x) refl m (λ k. find_call_itself h xs k)
+
+find_first : (ys xs : List CallId) → ((h : CallId) → is_first h ys ≡ true → list_any (same_call h) xs ≡ true) → find (λ b. is_first b ys) xs ≡ first_of ys
+find_first [] xs h = find_never xs
+find_first (y ∷ ys) xs h = find_call_itself y xs (h y (same_call-refl y))
+
+filter-out_absent : (a : CallId) (xs : List CallId) → list_any (same_call a) xs ≡ false → filter (λ x. not (same_call x a)) xs ≡ xs
+filter-out_absent a [] h = refl
+filter-out_absent a (x ∷ xs) h =
+    let e : same_call x a ≡ false = same_call-comm x a ∙ or_left _ _ h in
+    let later : filter (λ x. not (same_call x a)) xs ≡ xs = filter-out_absent a xs (or_right _ _ h) in
+    rw (e, later) refl
+
+member-filter : (q : CallId → Bool) (b : CallId) (xs : List CallId) → list_any (same_call b) (filter q xs) ≡ true → (list_any (same_call b) xs ≡ true) × (q b ≡ true)
+member-filter q b [] m = absurd (cc)
+member-filter q b (x ∷ xs) m = by_test (q x) refl m (λ k. member-filter q b xs k)
+  where
+    by_place : (s : Bool) → same_call b x ≡ s → q x ≡ true → (s || list_any (same_call b) (filter q xs)) ≡ true → (list_any (same_call b) (filter q xs) ≡ true → (list_any (same_call b) xs ≡ true) × (q b ≡ true)) → ((same_call b x || list_any (same_call b) xs) ≡ true) × (q b ≡ true)
+    by_place true s t m rest = (ap (λ v. v || list_any (same_call b) xs) s, ap q (same_call-eq b x s) ∙ t)
+    by_place false s t m rest = let r = rest m in (ap (λ v. same_call b x || v) r.0 ∙ or_true _, r.1)
+
+    by_test : (t : Bool) → q x ≡ t → list_any (same_call b) (cond t (x ∷ filter q xs) (filter q xs)) ≡ true → (list_any (same_call b) (filter q xs) ≡ true → (list_any (same_call b) xs ≡ true) × (q b ≡ true)) → ((same_call b x || list_any (same_call b) xs) ≡ true) × (q b ≡ true)
+    by_test true t m rest = by_place (same_call b x) refl t m rest
+    by_test false t m rest = let r = rest m in (ap (λ v. same_call b x || v) r.0 ∙ or_true _, r.1)
+
+first_member : (b : CallId) (xs : List CallId) → is_first b xs ≡ true → list_any (same_call b) xs ≡ true
+first_member b [] h = h
+first_member b (x ∷ xs) h = ap (λ v. v || list_any (same_call b) xs) h
+
+later_member : (a b : CallId) (xs : List CallId) → list_any (same_call b) (after_first a xs) ≡ true → list_any (same_call b) xs ≡ true
+later_member a b [] h = h
+later_member a b (x ∷ xs) h =
+    (elim (same_call a x) as (λ v. list_any (same_call b) (cond v xs []) ≡ true → (same_call b x || list_any (same_call b) xs) ≡ true)
+    [ true ↦ λ k. ap (λ v. same_call b x || v) k ∙ or_true _ | false ↦ λ k. (cc) ]) h
+
+module _ {K D : Type 0} (policy : Policy K D) (setup : Setup D) (entries : List (Entry K)) (run : IsRun policy setup entries) (i : ℕ) (e : Entry K)
+    (ends : ends_hold e.reply ≡ true) (order : poll_order setup (entries ++ e ∷ []) i ≡ poll_order setup entries i) where
+  -- an open hold of a call that was polled and does not hold is queued
+  waits_queued : (b : CallId) (p : Phase) → phase_of entries b ≡ p → is_polled setup entries i b ≡ true → hold_is_finished entries b ≡ false → has_turn setup entries i b ≡ false → Stands setup entries i b p → is_queued p ≡ true
+  waits_queued b Unknown h m o t (unknown_call x) = let u = x.unpolled in cc
+  waits_queued b Fresh h m o t (fresh_call x _ u) = cc
+  waits_queued b Queued h m o t s = refl
+  waits_queued b Loading h m o t (loading_call x) = let u = x.had.turn in cc
+  waits_queued b Signing h m o t (signing_call x) = let u = x.finished in cc
+  waits_queued b Ended h m o t (over_call x) = let u = x.finished in cc
+  waits_queued b Ended h m o t (cancelled_call x) = let u = x.finished in cc
+
+  -- a finished hold is not queued
+  queued_open : (b : CallId) (p : Phase) → hold_is_finished entries b ≡ true → Stands setup entries i b p → is_queued p ≡ false
+  queued_open b Queued f (queued_call x _) = let u = x.unfinished in cc
+  queued_open b Unknown f s = refl
+  queued_open b Fresh f s = refl
+  queued_open b Loading f s = refl
+  queued_open b Signing f s = refl
+  queued_open b Ended f s = refl
+
+  stand : (b : CallId) → is_polled setup entries i b ≡ true → Stands setup entries i b (phase_of entries b)
+  stand b m = stands policy setup entries run b i (number_of i (cache_of setup b) (list_all-member (is_of_cache setup i) b (poll_order setup entries i) (order_of_cache setup entries i) m))
+
+  once : IsOnce (queue setup entries i)
+  once = once-filter (λ x. not (hold_is_finished entries x)) (poll_order setup entries i) (order_once setup entries i)
+
+  false_by : (v : Bool) → (v ≡ true → ⊥) → v ≡ false
+  false_by true h = absurd (h refl)
+  false_by false h = refl
+
+  never_both : (v : Bool) → (v && not v) ≡ false
+  never_both true = refl
+  never_both false = refl
+
+  -- the call of the entry is not the one that stands after it
+  not_itself : (a : CallId) (q : List CallId) → IsOnce q → is_first a (after_first a q) ≡ true → ⊥
+  not_itself a [] o h = cc
+  not_itself a (x ∷ rest) o h = by_place (same_call a x) refl h
+    where
+      by_place : (s : Bool) → same_call a x ≡ s → is_first a (cond s rest []) ≡ true → ⊥
+      by_place false s k = cc
+      by_place true s k =
+          let m : list_any (same_call a) rest ≡ true = first_member a rest k in
+          let n : list_any (same_call a) rest ≡ false = subst (λ y. list_any (same_call y) rest ≡ false) (sym (same_call-eq a x s)) o.0 in cc
+
+  -- of an open hold of another call: it gets its turn exactly where it stands after the holder
+  open_by : (a b : CallId) → same_call a b ≡ false → (q : List CallId) → IsOnce q → (queued : Bool) → (is_first b q ≡ false → queued ≡ true)
+      → (queued && (is_first b (filter (λ x. not (same_call x a)) q) && not (is_first b q))) ≡ is_first b (after_first a q)
+  open_by a b d [] o queued w = and_zero queued
+    where
+      and_zero : (v : Bool) → (v && false) ≡ false
+      and_zero true = refl
+      and_zero false = refl
+  open_by a b d (x ∷ rest) o queued w = by_place (same_call a x) refl
+    where
+      and_zero : (v : Bool) → (v && false) ≡ false
+      and_zero true = refl
+      and_zero false = refl
+
+      and_one : (v : Bool) → (v && true) ≡ v
+      and_one true = refl
+      and_one false = refl
+
+      by_place : (s : Bool) → same_call a x ≡ s → (queued && (is_first b (filter (λ y. not (same_call y a)) (x ∷ rest)) && not (same_call b x))) ≡ is_first b (if same_call a x then rest else [])
+      by_place true s =
+          let same : a ≡ x = same_call-eq a x s in
+          let xa : same_call x a ≡ true = same_call-comm x a ∙ s in
+          let bx : same_call b x ≡ false = ap (same_call b) (sym same) ∙ same_call-comm b a ∙ d in
+          let gone : list_any (same_call a) rest ≡ false = subst (λ y. list_any (same_call y) rest ≡ false) (sym same) o.0 in
+          let kept : filter (λ y. not (same_call y a)) rest ≡ rest = filter-out_absent a rest gone in
+          let one : queued ≡ true = w bx in
+          rw (s, xa, bx, one, kept) (and_one (is_first b rest))
+      by_place false s =
+          let xa : same_call x a ≡ false = same_call-comm x a ∙ s in
+          rw (s, xa, never_both (same_call b x)) (and_zero queued)
+
+  gets_by : (b : CallId) → is_polled setup entries i b ≡ true → (f : Bool) → hold_is_finished entries b ≡ f → (s : Bool) → same_call (call_of e.event) b ≡ s
+      → gets_turn setup entries i e b ≡ is_first b (after_first (call_of e.event) (queue setup entries i))
+  gets_by b m true f s _ =
+      let nq : is_queued (phase_of entries b) ≡ false = queued_open b (phase_of entries b) f (stand b m) in
+      let none : is_first b (after_first (call_of e.event) (queue setup entries i)) ≡ false =
+      false_by (is_first b (after_first (call_of e.event) (queue setup entries i)))
+      (λ h. let k = member-filter (λ x. not (hold_is_finished entries x)) b (poll_order setup entries i) (later_member (call_of e.event) b (queue setup entries i) (first_member b (after_first (call_of e.event) (queue setup entries i)) h)) in
+      let bad : not (hold_is_finished entries b) ≡ true = k.1 in cc) in
+      rw (nq, none) (zero (not (same_call (call_of e.event) b)) (has_turn setup (entries ++ e ∷ []) i b && not (has_turn setup entries i b)))
+    where
+      zero : (v w : Bool) → ((v && false) && w) ≡ false
+      zero true w = refl
+      zero false w = refl
+  gets_by b m false f true s =
+      let same : call_of e.event ≡ b = same_call-eq (call_of e.event) b s in
+      let none : is_first b (after_first (call_of e.event) (queue setup entries i)) ≡ false =
+      false_by (is_first b (after_first (call_of e.event) (queue setup entries i)))
+      (λ h. not_itself b (queue setup entries i) once (subst (λ y. is_first b (after_first y (queue setup entries i)) ≡ true) same h)) in
+      rw (s, none) refl
+  gets_by b m false f false s =
+      let f' : hold_is_finished (entries ++ e ∷ []) b ≡ false = hold_is_finished-other setup entries e b (same_call-comm b (call_of e.event) ∙ s) ∙ f in
+      let m' : is_polled setup (entries ++ e ∷ []) i b ≡ true = is_polled-more setup entries i e b m in
+      let after : has_turn setup (entries ++ e ∷ []) i b ≡ is_first b (filter (λ x. not (same_call x (call_of e.event))) (queue setup entries i)) = has_turn-polled setup (entries ++ e ∷ []) i b f' m' ∙ ap (is_first b) (queue-leaves setup entries i e ends order) in
+      let before : has_turn setup entries i b ≡ is_first b (queue setup entries i) = has_turn-polled setup entries i b f m in
+      rw (s, after, before)
+      (open_by (call_of e.event) b s (queue setup entries i) once (is_queued (phase_of entries b))
+      (λ n. waits_queued b (phase_of entries b) refl m f (before ∙ n) (stand b m)))
+
+  -- the call to wake is the one that stands after the holder
+  pub wakes : call_to_wake setup entries i e ≡ first_of (after_first (call_of e.event) (queue setup entries i))
+  unfolding call_to_wake
+  wakes =
+      find_same (gets_turn setup entries i e) (λ b. is_first b (after_first (call_of e.event) (queue setup entries i))) (poll_order setup entries i) (λ b m. gets_by b m (hold_is_finished entries b) refl (same_call (call_of e.event) b) refl)
+      ∙ find_first (after_first (call_of e.event) (queue setup entries i)) (poll_order setup entries i)
+      (λ h k. (member-filter (λ x. not (hold_is_finished entries x)) h (poll_order setup entries i) (later_member (call_of e.event) h (queue setup entries i) (first_member h (after_first (call_of e.event) (queue setup entries i)) k))).0)
+
+module _ {K D : Type 0} (policy : Policy K D) (setup : Setup D) (entries : List (Entry K)) (run : IsRun policy setup entries) (i : ℕ) (e : Entry K) where
+  idle : (b : CallId) (p : Phase) → hold_is_finished entries b ≡ true → Stands setup entries i b p → is_queued p ≡ false
+  idle b Queued f (queued_call x _) = let u = x.unfinished in cc
+  idle b Unknown f s = refl
+  idle b Fresh f s = refl
+  idle b Loading f s = refl
+  idle b Signing f s = refl
+  idle b Ended f s = refl
+
+  -- where nobody holds, nobody is woken, as by a first poll that ends its hold at once
+  pub wakes-nobody : is_empty (queue setup entries i) ≡ true → call_to_wake setup entries i e ≡ None
+  unfolding call_to_wake
+  wakes-nobody h = find-none (gets_turn setup entries i e) (poll_order setup entries i) (λ b m. none b m)
+    where
+      zero : (v w : Bool) → ((v && false) && w) ≡ false
+      zero true w = refl
+      zero false w = refl
+
+      none : (b : CallId) → list_any (same_call b) (poll_order setup entries i) ≡ true → gets_turn setup entries i e b ≡ false
+      none b m =
+          let f : hold_is_finished entries b ≡ true = list_all-member (hold_is_finished entries) b (poll_order setup entries i) (all-finished (hold_is_finished entries) (poll_order setup entries i) ∙ h) m in
+          let at : cache_of setup b ≡ Some i = number_of i (cache_of setup b) (list_all-member (is_of_cache setup i) b (poll_order setup entries i) (order_of_cache setup entries i) m) in
+          let q : is_queued (phase_of entries b) ≡ false = idle b (phase_of entries b) f (stands policy setup entries run b i at) in
+          rw q (zero (not (same_call (call_of e.event) b)) (has_turn setup (entries ++ e ∷ []) i b && not (has_turn setup entries i b)))

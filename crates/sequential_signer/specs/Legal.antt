@@ -1,0 +1,55 @@
+-- The transcripts that a desk may have.
+use Rattle.std.specs.Prelude.{◌≡◌, Bool, true, false, ◌&&◌, List, [], ◌∷◌, ◌++◌, IsTrue, ◌⊎◌}
+use Rattle.sequential_signer.specs.Policy.{Policy}
+use Rattle.sequential_signer.specs.Setup.{Setup}
+use Rattle.sequential_signer.specs.Transcript.{kept}
+use Rattle.sequential_signer.specs.Phase.{event_fits}
+use Rattle.sequential_signer.specs.ReplyDue.{reply_due}
+use Rattle.sequential_signer.specs.declared.event.Answer.TheVariants.{Found}
+use Rattle.sequential_signer.specs.declared.event.Entry.{Entry}
+use Rattle.sequential_signer.specs.declared.event.Event.{Event}
+use Rattle.sequential_signer.specs.declared.event.Event.TheVariants.{Begin, Poll, Provided, Signed, Cancel}
+use Rattle.sequential_signer.specs.declared.event.Reply.{Reply}
+use Rattle.sequential_signer.specs.declared.event.Reply.TheVariants.{OutOfMemory, Sign}
+use Rattle.sequential_signer.specs.declared.event.Verdict.TheVariants.{Accepted}
+
+abbrev pub is_sign : {K : Type 0} → Reply K → Bool
+is_sign (Sign credential wake) = true
+is_sign _ = false
+
+-- whether an event takes memory where it fits: a begin, a look that hands out, a credential found, a head accepted
+abbrev pub takes_memory : {K D : Type 0} → Policy K D → Setup D → List (Entry K) → Event K → Bool
+takes_memory policy setup entries (Begin call head expires_in) = true
+takes_memory policy setup entries (Poll call now) = is_sign (reply_due policy setup entries (Poll call now))
+takes_memory policy setup entries (Provided call now (Found c)) = true
+takes_memory policy setup entries (Provided call now _) = false
+takes_memory policy setup entries (Signed call (Accepted candidate)) = true
+takes_memory policy setup entries (Signed call _) = false
+takes_memory policy setup entries (Cancel call) = false
+
+abbrev pub allocates : {K D : Type 0} → Policy K D → Setup D → List (Entry K) → Event K → Bool
+allocates policy setup entries event =
+    event_fits setup entries event && takes_memory policy setup entries event
+
+-- after the entries that count, this one has the reply that is due, or it allocates and memory was wanting
+abbrev pub IsLegalEntry : {K D : Type 0} → Policy K D → Setup D → List (Entry K) → Entry K → Type 0
+IsLegalEntry policy setup entries entry =
+    (entry.reply ≡ reply_due policy setup entries entry.event)
+    ⊎ ((entry.reply ≡ OutOfMemory) × IsTrue (allocates policy setup entries entry.event))
+
+-- each entry is legal after those before it; these come after `before`
+abbrev pub IsLegalAfter : {K D : Type 0} → Policy K D → Setup D → List (Entry K) → List (Entry K) → Type 0
+IsLegalAfter policy setup before [] = Unit {0}
+IsLegalAfter policy setup before (entry ∷ rest) =
+    IsLegalEntry policy setup (kept before) entry × IsLegalAfter policy setup (before ++ entry ∷ []) rest
+
+-- a transcript that a desk with this setup may have
+unfoldable pub IsLegal : {K D : Type 0} → Policy K D → Setup D → List (Entry K) → Type 0
+IsLegal policy setup entries = IsLegalAfter policy setup [] entries
+
+-- the replies that are due to events one after another, where memory never wants; these come after `before`
+unfoldable pub replies_due : {K D : Type 0} → Policy K D → Setup D → List (Entry K) → List (Event K) → List (Reply K)
+replies_due policy setup before [] = []
+replies_due policy setup before (event ∷ rest) =
+    let reply = reply_due policy setup before event in
+    reply ∷ replies_due policy setup (before ++ record { event = event; reply = reply } ∷ []) rest

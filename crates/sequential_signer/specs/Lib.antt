@@ -1,0 +1,13 @@
+pub mod Transcript
+pub mod Policy
+pub mod Lookup
+pub mod SequentialCall
+pub mod Setup
+pub mod Phase
+pub mod Turn
+pub mod Hold
+pub mod SequentialCache
+pub mod Wake
+pub mod ReplyDue
+pub mod Legal
+pub mod LiveCall

@@ -1,0 +1,114 @@
+-- How far a call is, and which events fit, read from a transcript.
+use Rattle.std.specs.Prelude.{ℕ, Bool, true, false, not, ◌&&◌, ◌||◌, ◌==◌, nat_lt, List, Option, Some, None, filter, is_some, if◌then◌else◌}
+use Rattle.std.specs.List.{list_any, list_all}
+use Rattle.wake_lock.specs.declared.CallId.{CallId}
+use Rattle.sequential_signer.specs.Transcript.{last_of, call_of, entries_of}
+use Rattle.sequential_signer.specs.Setup.{Setup, cache_of}
+use Rattle.sequential_signer.specs.declared.event.Entry.{Entry}
+use Rattle.sequential_signer.specs.declared.event.Event.{Event}
+use Rattle.sequential_signer.specs.declared.event.Event.TheVariants.{Begin, Poll, Provided, Signed, Cancel}
+use Rattle.sequential_signer.specs.declared.event.Reply.{Reply}
+use Rattle.sequential_signer.specs.declared.event.Reply.TheVariants.{Begun, Pending, NotNow, OutOfMemory, Ask, Sign, Refused, Done, Cancelled}
+
+pub data Phase : Type 0 where
+  Unknown : Phase
+  Fresh : Phase
+  Queued : Phase
+  Loading : Phase
+  Signing : Phase
+  Ended : Phase
+
+-- a reply that tells how far a call is: any but `Pending` and `NotNow`
+abbrev pub is_mark : {K : Type 0} → Reply K → Bool
+is_mark Pending = false
+is_mark NotNow = false
+is_mark _ = true
+
+abbrev pub is_pending : {K : Type 0} → Reply K → Bool
+is_pending Pending = true
+is_pending _ = false
+
+abbrev pub is_begun : {K : Type 0} → Reply K → Bool
+is_begun Begun = true
+is_begun _ = false
+
+abbrev pub is_not_now : {K : Type 0} → Reply K → Bool
+is_not_now NotNow = true
+is_not_now _ = false
+
+abbrev pub is_poll : {K : Type 0} → Event K → Bool
+is_poll (Poll call now) = true
+is_poll _ = false
+
+-- a poll that was answered `Pending`
+abbrev pub is_waiting_poll : {K : Type 0} → Entry K → Bool
+is_waiting_poll e = is_poll e.event && is_pending e.reply
+
+-- how far a call with this mark is
+abbrev pub phase_by : {K : Type 0} → Bool → Reply K → Phase
+phase_by waited Begun = if waited then Queued else Fresh
+phase_by waited (Ask provider) = Loading
+phase_by waited (Sign credential wake) = Signing
+phase_by waited (Done head) = Ended
+phase_by waited (Refused why wake) = Ended
+phase_by waited (Cancelled wake) = Ended
+phase_by waited Pending = Unknown
+phase_by waited NotNow = Unknown
+phase_by waited OutOfMemory = Unknown
+
+abbrev pub phase_at : {K : Type 0} → Bool → Option (Entry K) → Phase
+phase_at waited None = Unknown
+phase_at waited (Some mark) = phase_by waited mark.reply
+
+-- how far a call with these entries is: by the last one that tells it
+unfoldable pub phase_in : {K : Type 0} → List (Entry K) → Phase
+phase_in entries = phase_at (list_any is_waiting_poll entries) (last_of (filter (λ e. is_mark e.reply) entries))
+
+-- how far the call is
+unfoldable pub phase_of : {K : Type 0} → List (Entry K) → CallId → Phase
+phase_of entries call = phase_in (entries_of entries call)
+
+-- begun, and neither done, refused nor cancelled
+abbrev pub is_live : Phase → Bool
+is_live Unknown = false
+is_live Ended = false
+is_live _ = true
+
+-- begun, and its turn has not been answered yet
+abbrev pub is_waiting : Phase → Bool
+is_waiting Fresh = true
+is_waiting Queued = true
+is_waiting _ = false
+
+abbrev pub is_queued : Phase → Bool
+is_queued Queued = true
+is_queued _ = false
+
+abbrev pub is_loading : Phase → Bool
+is_loading Loading = true
+is_loading _ = false
+
+abbrev pub is_signing : Phase → Bool
+is_signing Signing = true
+is_signing _ = false
+
+-- a begin under the handle that was accepted
+abbrev pub is_begin_under : {K : Type 0} → ℕ → Entry K → Bool
+is_begin_under handle e = is_begun e.reply && (call_of e.event).handle == handle
+
+-- whether the number is above those of all begun calls of the handle
+unfoldable pub is_new_number : {K : Type 0} → List (Entry K) → CallId → Bool
+is_new_number entries call =
+    list_all (λ e. not (is_begin_under call.handle e) || nat_lt (call_of e.event).number call.number) entries
+
+-- the handle exists, and the number is new
+abbrev pub begin_fits : {K D : Type 0} → Setup D → List (Entry K) → CallId → Bool
+begin_fits setup entries call = is_some (cache_of setup call) && is_new_number entries call
+
+-- whether an event fits how far its call is
+abbrev pub event_fits : {K D : Type 0} → Setup D → List (Entry K) → Event K → Bool
+event_fits setup entries (Begin call head expires_in) = begin_fits setup entries call
+event_fits setup entries (Poll call now) = is_live (phase_of entries call)
+event_fits setup entries (Provided call now answer) = is_loading (phase_of entries call)
+event_fits setup entries (Signed call answer) = is_signing (phase_of entries call)
+event_fits setup entries (Cancel call) = is_live (phase_of entries call)

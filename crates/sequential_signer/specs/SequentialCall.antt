@@ -1,0 +1,49 @@
+-- What one call gets that no other call disturbs.
+use Rattle.std.specs.Prelude.{ℕ, ℤ, List, Option, Some, None, if◌then◌else◌, length, nat_lt}
+use Rattle.sequential_signer.specs.Policy.{Policy}
+use Rattle.sequential_signer.specs.Lookup.{Outcome, Refuse, cache_lookup, check_refreshed}
+use Rattle.sequential_signer.specs.Transcript.{last_of}
+use Rattle.sequential_signer.specs.declared.event.Answer.{Answer}
+use Rattle.sequential_signer.specs.declared.event.Answer.TheVariants.{Found, Missing, Failed}
+use Rattle.sequential_signer.specs.declared.event.Loader.{Loader}
+use Rattle.sequential_signer.specs.declared.event.Loader.TheVariants.{Single, Chain}
+use Rattle.sequential_signer.specs.declared.event.Why.TheVariants as why
+
+-- how far the call is: it asks a provider, or it is over, with an outcome and the cache that it leaves
+pub data Progress (K : Type 0) : Type 0 where
+  Asking : ℕ → Progress K
+  Over : Outcome K → Option K → Progress K
+
+-- after so many answers of a chain of n, none of which was a credential
+abbrev pub next_of_chain : {K : Type 0} → ℕ → Option K → ℕ → Progress K
+next_of_chain n cache count = if nat_lt count n then Asking count else Over (Refuse why.Missing) cache
+
+-- the load, after so many answers, by the last of them
+abbrev pub load_progress : {K D : Type 0} → Policy K D → Loader → D → Option ℕ → Option K → ℕ → Option (Answer K × ℤ) → Progress K
+load_progress policy loader rule duration cache count (Some (Found c, now)) =
+    Over (check_refreshed policy c rule duration now) (Some c)
+load_progress policy Single rule duration cache count None = Asking 0
+load_progress policy Single rule duration cache count (Some (Missing, now)) = Over (Refuse why.Missing) cache
+load_progress policy Single rule duration cache count (Some (Failed e, now)) = Over (Refuse (why.Loader e)) cache
+load_progress policy (Chain n) rule duration cache count None = next_of_chain n cache count
+load_progress policy (Chain n) rule duration cache count (Some (Missing, now)) = next_of_chain n cache count
+load_progress policy (Chain n) rule duration cache count (Some (Failed e, now)) = next_of_chain n cache count
+
+-- a look that decides leaves the cache; else the load goes on
+abbrev pub after_lookup : {K : Type 0} → Option (Outcome K) → Option K → Progress K → Progress K
+after_lookup (Some outcome) cache load = Over outcome cache
+after_lookup None cache load = load
+
+-- the call's rule, its duration, the moment of its look, and the providers' answers so far, each with its moment
+pub record HoldInput (K D : Type 0) : Type 0 where
+  pub rule : D
+  pub duration : Option ℕ
+  pub now : ℤ
+  pub answers : List (Answer K × ℤ)
+
+abbrev pub sequential_call : {K D : Type 0} → Policy K D → Option K → Loader → HoldInput K D → Progress K
+sequential_call policy cache loader i =
+    after_lookup
+    (cache_lookup policy cache i.rule i.duration i.now)
+    cache
+    (load_progress policy loader i.rule i.duration cache (length i.answers) (last_of i.answers))

@@ -1,0 +1,47 @@
+-- Transcripts: what happened at a desk so far, the oldest entry first.
+use Rattle.std.specs.Prelude.{Bool, true, false, not, ◌&&◌, ◌==◌, List, [], ◌∷◌, ◌++◌, Option, Some, None, filter}
+use Rattle.wake_lock.specs.declared.CallId.{CallId}
+use Rattle.sequential_signer.specs.declared.event.Entry.{Entry}
+use Rattle.sequential_signer.specs.declared.event.Event.{Event}
+use Rattle.sequential_signer.specs.declared.event.Event.TheVariants.{Begin, Poll, Provided, Signed, Cancel}
+use Rattle.sequential_signer.specs.declared.event.Reply.{Reply}
+use Rattle.sequential_signer.specs.declared.event.Reply.TheVariants.{OutOfMemory}
+
+-- whether two names are of one call
+abbrev pub same_call : CallId → CallId → Bool
+same_call a b = a.handle == b.handle && a.number == b.number
+
+-- the call that an event is about
+abbrev pub call_of : {K : Type 0} → Event K → CallId
+call_of (Begin call head expires_in) = call
+call_of (Poll call now) = call
+call_of (Provided call now answer) = call
+call_of (Signed call answer) = call
+call_of (Cancel call) = call
+
+-- the last item of a list
+abbrev pub last_of : {A : Type 0} → List A → Option A
+last_of [] = None
+last_of (x ∷ []) = Some x
+last_of (x ∷ (y ∷ rest)) = last_of (y ∷ rest)
+
+-- each item of a list, with the items before it; these come after `before`
+abbrev pub each_after : {A : Type 0} → List A → List A → List (List A × A)
+each_after before [] = []
+each_after before (x ∷ rest) = (before, x) ∷ each_after (before ++ x ∷ []) rest
+
+abbrev pub is_out_of_memory : {K : Type 0} → Reply K → Bool
+is_out_of_memory OutOfMemory = true
+is_out_of_memory _ = false
+
+-- what counts: the entries that did not want for memory
+unfoldable pub kept : {K : Type 0} → List (Entry K) → List (Entry K)
+kept entries = filter (λ e. not (is_out_of_memory e.reply)) entries
+
+-- whether an entry is about the call
+abbrev pub is_about : {K : Type 0} → CallId → Entry K → Bool
+is_about call e = same_call call (call_of e.event)
+
+-- the entries about one call
+unfoldable pub entries_of : {K : Type 0} → List (Entry K) → CallId → List (Entry K)
+entries_of entries call = filter (is_about call) entries

@@ -1,0 +1,57 @@
+-- The map of the live calls, read by the names of calls.
+use Rattle.std.proofs.Common.{◌≡◌, ℕ, Bool, true, false, cond, ◌&&◌, ◌==◌, List, [], ◌∷◌, Option, is_some, refl, sym, ◌∙◌, ap, nat_cmp, arith}
+use Rattle.std.proofs.lemmas.Bool.Decides.{nat_tests}
+use Rattle.std.specs.declared.cmp.Ordering.{Ordering}
+use Rattle.std.specs.declared.cmp.Ordering.TheVariants.{Less, Equal, Greater}
+use Rattle.std.specs.Ordering.{is_eq, ordering_then}
+use Rattle.std.specs.BTreeMap.{BTreeMap, get, is_at}
+use Rattle.std.specs.Map.{lookup}
+use Rattle.wake_lock.specs.declared.CallId.{CallId}
+use Rattle.sequential_signer.specs.Transcript.{same_call}
+use Rattle.sign_desk.specs.Kept.{find_call, AtMostOne}
+use Rattle.sign_desk.specs.declared.calls.CallRecord.{CallRecord}
+use Rattle.sequential_signer.proofs.CallNames.{same_call-eq, same_call-refl}
+
+module _ (cmp : CallId → CallId → Ordering) (same : (a b : CallId) → is_eq (cmp a b) ≡ same_call a b) where
+  lookup_is : (q : CallId) (es : List (CallId × CallRecord)) → lookup (is_at (cmp q)) es ≡ find_call q es
+  lookup_is q [] = refl
+  lookup_is q (e ∷ es) = rw (same q e.0, lookup_is q es) refl
+
+  pub get_is : (m : BTreeMap CallId CallRecord) (q : CallId) → get cmp m q ≡ find_call q m.entries
+  get_is m q = lookup_is q m.entries
+
+  -- after a change at one call
+  pub find_call-after : (m n : BTreeMap CallId CallRecord) (k : CallId) (w : Option CallRecord) → ((q : CallId) → get cmp n q ≡ cond (is_at (cmp k) q) w (get cmp m q)) → (q : CallId) → find_call q n.entries ≡ cond (same_call k q) w (find_call q m.entries)
+  find_call-after m n k w h q = sym (get_is n q) ∙ h q ∙ ap (λ v. cond v w (get cmp m q)) (same k q) ∙ ap (λ v. cond (same_call k q) w v) (get_is m q)
+
+pub find_call-this : (m n : List (CallId × CallRecord)) (k : CallId) (w : Option CallRecord) → ((q : CallId) → find_call q n ≡ cond (same_call k q) w (find_call q m)) → find_call k n ≡ w
+find_call-this m n k w h = h k ∙ ap (λ v. cond v w (find_call k m)) (same_call-refl k)
+
+pub find_call-other : (m n : List (CallId × CallRecord)) (k : CallId) (w : Option CallRecord) → ((q : CallId) → find_call q n ≡ cond (same_call k q) w (find_call q m)) → (q : CallId) → same_call k q ≡ false → find_call q n ≡ find_call q m
+find_call-other m n k w h q s = h q ∙ ap (λ v. cond v w (find_call q m)) s
+
+number_eq : (a b : ℕ) → is_eq (nat_cmp a b) ≡ (a == b)
+number_eq a b = grind (arith, nat_tests)
+
+then_eq : (o p : Ordering) → is_eq (ordering_then o p) ≡ (is_eq o && is_eq p)
+then_eq Less p = refl
+then_eq Equal p = refl
+then_eq Greater p = refl
+
+-- what the derived order of names says
+pub call_order : (a b : CallId) → is_eq (ordering_then (nat_cmp a.handle b.handle) (nat_cmp a.number b.number)) ≡ same_call a b
+call_order a b =
+    then_eq (nat_cmp a.handle b.handle) (nat_cmp a.number b.number)
+    ∙ ap (λ v. v && is_eq (nat_cmp a.number b.number)) (number_eq a.handle b.handle)
+    ∙ ap (λ v. (a.handle == b.handle) && v) (number_eq a.number b.number)
+
+-- a change at a call that was kept, or that keeps nothing of it, leaves one call at most
+pub at_most_one-after : (m n : List (CallId × CallRecord)) (k : CallId) (w : Option CallRecord) → ((q : CallId) → find_call q n ≡ cond (same_call k q) w (find_call q m)) → (is_some w ≡ true → is_some (find_call k m) ≡ true) → AtMostOne m → AtMostOne n
+at_most_one-after m n k w h kept one a b sa sb = one a b (before a sa) (before b sb)
+  where
+    before_by : (q : CallId) (s : Bool) → same_call k q ≡ s → is_some (cond s w (find_call q m)) ≡ true → is_some (find_call q m) ≡ true
+    before_by q true s t = ap (λ x. is_some (find_call x m)) (sym (same_call-eq k q s)) ∙ kept t
+    before_by q false s t = t
+
+    before : (q : CallId) → is_some (find_call q n) ≡ true → is_some (find_call q m) ≡ true
+    before q t = before_by q (same_call k q) refl (ap is_some (sym (h q)) ∙ t)

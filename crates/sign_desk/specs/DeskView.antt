@@ -1,0 +1,23 @@
+-- What contracts see of a desk.
+use Rattle.std.specs.Prelude.{map}
+use Rattle.sign_desk.specs.Kept.{Kept, AtMostOne}
+use Rattle.sequential_signer.specs.Setup.{Handle}
+use Rattle.sign_desk.specs.declared.desk.HandleRecord.{HandleRecord}
+use Rattle.sign_desk.specs.declared.desk.Desk.TheInside.{Inside}
+
+abbrev pub handle_view : HandleRecord → Handle
+handle_view h = record { cache = h.cache; rule = h.rule }
+
+abbrev pub desk_view : {K D : Type 0} → Inside K D → Kept K D
+desk_view desk = record {
+  loaders = desk.loaders.items;
+  rules = desk.rules.items;
+  handles = map handle_view desk.handles.items;
+  caches = desk.caches.items;
+  greatest = desk.greatest.items;
+  calls = desk.calls.entries;
+}
+
+-- there is one live call at most
+abbrev pub IsSound : {K D : Type 0} → Inside K D → Type 0
+IsSound desk = AtMostOne desk.calls.entries

@@ -1,0 +1,58 @@
+-- What a desk keeps, and the transcripts that it stands for.
+use Rattle.std.specs.Prelude.{◌≡◌, ℕ, List, [], ◌∷◌, Option, Some, None, slice_get, option_map, is_some, true, if◌then◌else◌, length, max}
+use Rattle.wake_lock.specs.declared.CallId.{CallId}
+use Rattle.sequential_signer.specs.Policy.{Policy}
+use Rattle.sequential_signer.specs.Setup.{Setup, Handle}
+use Rattle.sequential_signer.specs.Transcript.{same_call, call_of, kept}
+use Rattle.sequential_signer.specs.Phase.{Phase, Unknown, Fresh, Queued, Loading, Signing, Ended, phase_of, is_begin_under}
+use Rattle.sequential_signer.specs.LiveCall.{LiveCall, live_call, greatest_begun}
+use Rattle.sequential_signer.specs.SequentialCache.{sequential_cache}
+use Rattle.sequential_signer.specs.Legal.{IsLegal}
+use Rattle.std.specs.Duration.{as_nanos}
+use Rattle.sign_desk.specs.declared.calls.CallRecord.{CallRecord}
+use Rattle.sign_desk.specs.declared.calls.Stage.{Stage}
+use Rattle.sign_desk.specs.declared.calls.Stage.TheVariants as stage
+use Rattle.sequential_signer.specs.declared.event.Entry.{Entry}
+use Rattle.sequential_signer.specs.declared.event.Loader.{Loader}
+
+abbrev pub phase_of_stage : Stage → Phase
+phase_of_stage stage.Fresh = Fresh
+phase_of_stage stage.Queued = Queued
+phase_of_stage stage.Loading = Loading
+phase_of_stage stage.Signing = Signing
+
+-- what a record that is kept says of its call
+abbrev pub live_view : CallRecord → LiveCall
+live_view r = record {
+  phase = phase_of_stage r.stage;
+  begin = record { head = r.head; duration = option_map as_nanos r.expires_in };
+  answers = r.answers;
+}
+
+-- what a desk keeps: its setup, each cache, the greatest number begun under each handle, and the live calls
+pub record Kept (K D : Type 0) : Type 0 where
+  pub loaders : List Loader
+  pub rules : List D
+  pub handles : List Handle
+  pub caches : List (Option K)
+  pub greatest : List (Option ℕ)
+  pub calls : List (CallId × CallRecord)
+
+abbrev pub setup_of : {K D : Type 0} → Kept K D → Setup D
+setup_of desk = record { loaders = desk.loaders; rules = desk.rules; handles = desk.handles }
+
+-- what is kept of the call
+abbrev pub find_call : CallId → List (CallId × CallRecord) → Option CallRecord
+find_call call [] = None
+find_call call ((id, live) ∷ rest) = if same_call call id then Some live else find_call call rest
+
+-- the records are of one call at most
+abbrev pub AtMostOne : List (CallId × CallRecord) → Type 0
+AtMostOne calls = (a b : CallId) → is_some (find_call a calls) ≡ true → is_some (find_call b calls) ≡ true → same_call a b ≡ true
+
+-- the desk stands for the transcript
+pub record Represents {K D : Type 0} (policy : Policy K D) (desk : Kept K D) (entries : List (Entry K)) : Type 0 where
+  pub legal : IsLegal policy (setup_of desk) entries
+  pub caches : (i : ℕ) → slice_get desk.caches i ≡ option_map (λ _. sequential_cache policy (setup_of desk) (kept entries) i) (slice_get desk.loaders i)
+  pub greatest : (h : ℕ) → slice_get desk.greatest h ≡ option_map (λ _. greatest_begun h (kept entries)) (slice_get desk.handles h)
+  pub calls : (call : CallId) → option_map live_view (find_call call desk.calls) ≡ live_call (kept entries) call

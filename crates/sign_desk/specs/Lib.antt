@@ -1,0 +1,5 @@
+pub mod Kept
+pub mod DeskView
+pub mod Moves
+pub mod LookSays
+pub mod JudgeSays
