@@ -1,0 +1,108 @@
+//! Where bytes come from. A source gives them in pieces of any size, may tell in contracts what is
+//! still to come, and counts its faults, so that a failed read has a cause that a caller can see.
+ghost use Rattle.std.specs.Prelude.{◌≡◌, ℕ, Option, Some, None, List, length, take, drop, ◌++◌, min, ◌<◌, ◌≤◌, OnErr};
+ghost use Rattle.std.specs.Io.KnownBytes.{ReadConsumes};
+ghost use Rattle.std.specs.Io.{ReadsAtMost};
+ghost use Rattle.sign_base.specs.Faults.{HasRisen};
+
+use std::io::Read;
+use std::marker::Model;
+
+/// A read or a write did not happen.
+#[derive(Clone, Copy, Debug, PartialEq, Eq)]
+pub struct Failed;
+
+/// Bytes that are read once, front to end.
+pub trait Source {
+    /// The bytes that are still to come, where the source tells them.
+    ghost left: { Self → Option (List ℕ) };
+
+    /// How often a read has failed.
+    ghost faults: { Self → ℕ };
+
+    /// Reads the next bytes into the front of `buf` and answers their number, at most the length
+    /// of `buf`. No bytes are the end. After `Failed` what is to come is as before.
+    fn read(&mut self, buf: &mut [u8]) -> Result<usize, Failed>
+        requires { 0 < length buf.old }
+        ensures bound { ReadsAtMost result buf.new }
+        ensures bytes { ReadConsumes (left self.old) (left self.new) result buf.new }
+        ensures cause { OnErr result (HasRisen (faults self.old) (faults self.new)) }
+        ensures count { faults self.old ≤ faults self.new };
+}
+
+/// Bytes in memory. It never fails.
+#[derive(Debug, Drop)]
+pub struct MemorySource {
+    bytes: Vec<u8>,
+    at: usize,
+}
+
+impl Model for MemorySource {
+    ghost use Rattle.std.specs.Prelude.{ℕ, List, drop, vec_len, ◌≤◌};
+
+    ghost Value = { List ℕ };
+
+    ghost view = { λ s. drop s.at s.bytes.items };
+
+    ghost invariant = { λ s. s.at ≤ vec_len s.bytes };
+}
+
+impl MemorySource {
+    pub fn new(bytes: Vec<u8>) -> MemorySource
+        ensures { result ≡ bytes.items }
+    {
+        MemorySource { bytes, at: 0 }
+    }
+}
+
+impl Source for MemorySource {
+    ghost left = { λ s. Some s };
+
+    ghost faults = { λ _. 0 };
+
+    fn read(&mut self, buf: &mut [u8]) -> Result<usize, Failed> {
+        let n = copy_front(&self.bytes[self.at..], buf);
+        self.at += n;
+        Ok(n)
+    }
+}
+
+/// A reader of the system. It tells nothing of its bytes, and counts its faults up to the last
+/// number of a `u64`. Nothing is tried again, also where the reader was interrupted.
+#[derive(Debug, Drop)]
+pub struct StdSource<R> {
+    reader: R,
+    faults: u64,
+}
+
+impl<R: Read> StdSource<R> {
+    pub fn new(reader: R) -> StdSource<R> {
+        StdSource { reader, faults: 0 }
+    }
+}
+
+impl<R: Read> Source for StdSource<R> {
+    ghost left = { λ _. None };
+
+    ghost faults = { λ s. s.faults };
+
+    fn read(&mut self, buf: &mut [u8]) -> Result<usize, Failed> {
+        match self.reader.read(buf) {
+            Ok(n) => Ok(n),
+            Err(_) => {
+                self.faults = self.faults.saturating_add(1);
+                Err(Failed)
+            }
+        }
+    }
+}
+
+/// Copies as many bytes as there are and fit, from the front of one slice to that of the other.
+fn copy_front(from: &[u8], to: &mut [u8]) -> usize
+    ensures count { result ≡ min (length from.now) (length to.old) }
+    ensures copied { take result to.new ++ drop result from.now ≡ from.now }
+{
+    let n = from.len().min(to.len());
+    to[..n].copy_from_slice(&from[..n]);
+    n
+}
