@@ -15,3 +15,4 @@ pub mod Places
 pub mod Greatest
 pub mod Queue
 pub mod WakeLaw
+pub mod Due

@@ -28,7 +28,7 @@ pub kept-lost : {K : Type 0} (entries : List (Entry K)) (e : Entry K) → is_out
 unfolding kept
 kept-lost entries e h = filter-more_no (λ e. not (is_out_of_memory e.reply)) entries e (ap not h)
 
-kept-none : {K : Type 0} → kept {K = K} [] ≡ []
+pub kept-none : {K : Type 0} → kept {K = K} [] ≡ []
 unfolding kept
 kept-none = refl
 

@@ -1,5 +1,5 @@
 -- The transcripts that a desk may have.
-use Rattle.std.specs.Prelude.{◌≡◌, Bool, true, false, ◌&&◌, List, [], ◌∷◌, ◌++◌, IsTrue, ◌⊎◌}
+use Rattle.std.specs.Prelude.{◌≡◌, Bool, true, false, ◌&&◌, List, [], ◌∷◌, ◌++◌, IsTrue, ◌⊎◌, fold, map}
 use Rattle.sequential_signer.specs.Policy.{Policy}
 use Rattle.sequential_signer.specs.Setup.{Setup}
 use Rattle.sequential_signer.specs.Transcript.{kept}
@@ -47,9 +47,15 @@ IsLegalAfter policy setup before (entry ∷ rest) =
 unfoldable pub IsLegal : {K D : Type 0} → Policy K D → Setup D → List (Entry K) → Type 0
 IsLegal policy setup entries = IsLegalAfter policy setup [] entries
 
--- the replies that are due to events one after another, where memory never wants; these come after `before`
-unfoldable pub replies_due : {K D : Type 0} → Policy K D → Setup D → List (Entry K) → List (Event K) → List (Reply K)
-replies_due policy setup before [] = []
-replies_due policy setup before (event ∷ rest) =
-    let reply = reply_due policy setup before event in
-    reply ∷ replies_due policy setup (before ++ record { event = event; reply = reply } ∷ []) rest
+-- one more event, with the reply that is due
+abbrev pub with_reply_due : {K D : Type 0} → Policy K D → Setup D → List (Entry K) → Event K → List (Entry K)
+with_reply_due policy setup entries event =
+    entries ++ record { event = event; reply = reply_due policy setup entries event } ∷ []
+
+-- the events one after another, each with the reply that is due: the transcript in which memory never wants
+unfoldable pub entries_due : {K D : Type 0} → Policy K D → Setup D → List (Event K) → List (Entry K)
+entries_due policy setup events = fold (with_reply_due policy setup) [] events
+
+-- the replies that are due to these events
+abbrev pub replies_due : {K D : Type 0} → Policy K D → Setup D → List (Event K) → List (Reply K)
+replies_due policy setup events = map (λ e. e.reply) (entries_due policy setup events)

@@ -1,5 +1,5 @@
 -- What a transcript says of the calls that are live, and of the numbers that were begun.
-use Rattle.std.specs.Prelude.{ℕ, List, [], ◌∷◌, Option, Some, None, if◌then◌else◌, length, max, Bool, true, false, nat_lt}
+use Rattle.std.specs.Prelude.{ℕ, List, [], ◌∷◌, Option, Some, None, if◌then◌else◌, length, max, Bool, true, nat_lt}
 use Rattle.wake_lock.specs.declared.CallId.{CallId}
 use Rattle.sequential_signer.specs.Transcript.{call_of}
 use Rattle.sequential_signer.specs.Phase.{Phase, Unknown, Ended, phase_of, is_begin_under}
