@@ -9,17 +9,17 @@ use Rattle.sequential_signer.specs.SequentialCall.{HoldInput}
 use Rattle.sequential_signer.specs.Setup.{Setup, cache_of, is_of_cache, is_number}
 use Rattle.sequential_signer.specs.Transcript.{same_call, call_of, entries_of}
 use Rattle.sequential_signer.specs.Phase.{Phase, Unknown, Fresh, Queued, Loading, Signing, Ended, phase_of}
-use Rattle.sequential_signer.specs.Turn.{before_call, poll_order, is_true_poll, is_poll_at, serves, hold_is_finished, is_served, has_turn}
+use Rattle.sequential_signer.specs.Turn.{before_call, poll_order, is_fitting_poll, is_poll_at, serves, hold_is_finished, is_served, has_turn}
 use Rattle.sequential_signer.specs.Hold.{BeginInput, begin_in, begin_of, answers_of, answers_in, turn_moment, hold_input}
 use Rattle.sequential_signer.specs.SequentialCache.{cache_after, served_calls, sequential_cache}
 use Rattle.sequential_signer.specs.declared.event.Entry.{Entry}
 use Rattle.sequential_signer.proofs.Lists.{filter-more_no, filter-same, list_all-by, list_all-filter, fold-same, or_true}
 use Rattle.sequential_signer.proofs.CallNames.{same_call-eq, same_call-refl, same_call-comm, and_left, and_right}
 use Rattle.sequential_signer.proofs.Distinct.{IsOnce, first_of_each-once, list_all-filter_of, list_all-first_of_each, list_all-map, filter-newly}
-use Rattle.sequential_signer.proofs.Own.{entries_of-own, entries_of-other, begin_in-found}
-use Rattle.sequential_signer.proofs.Order.{is_polled, OrderAfter, stays, grows, order_after, calls_ahead-more, is_served-own, is_served-other, turn_moment-found, turn_moment-no}
+use Rattle.sequential_signer.proofs.OwnEntries.{entries_of-own, entries_of-other, begin_in-found}
+use Rattle.sequential_signer.proofs.PollOrder.{is_polled, OrderAfter, stays, grows, order_after, calls_ahead-more, is_served-own, is_served-other, turn_moment-found, turn_moment-no}
 use Rattle.sequential_signer.proofs.Run.{IsRun}
-use Rattle.sequential_signer.proofs.Story.{IsServed, Stands, unknown_call, fresh_call, queued_call, loading_call, signing_call, over_call, cancelled_call}
+use Rattle.sequential_signer.proofs.Standing.{IsServed, Stands, unknown_call, fresh_call, queued_call, loading_call, signing_call, over_call, cancelled_call}
 use Rattle.sequential_signer.proofs.Stands.{stands}
 
 pub list_all-member : (q : CallId → Bool) (b : CallId) (xs : List CallId) → list_all q xs ≡ true → list_any (same_call b) xs ≡ true → q b ≡ true
@@ -97,7 +97,7 @@ module _ {K D : Type 0} (policy : Policy K D) (setup : Setup D) (entries : List 
       let own = entries_of-other entries call e s in
       let b : begin_of (entries ++ e ∷ []) call ≡ begin_of entries call = ap begin_in own in
       let a : answers_of (entries ++ e ∷ []) call ≡ answers_of entries call = ap answers_in own in
-      let m : turn_moment setup (entries ++ e ∷ []) i call ≡ turn_moment setup entries i call = turn_moment-no setup entries i e call (ap (λ v. (v && is_true_poll e) && has_turn setup entries i call) s) in
+      let m : turn_moment setup (entries ++ e ∷ []) i call ≡ turn_moment setup entries i call = turn_moment-no setup entries i e call (ap (λ v. (v && is_fitting_poll e) && has_turn setup entries i call) s) in
       rw (b, m, a) refl
 
   -- so the served holds, one after another, leave the cache that they left

@@ -9,7 +9,7 @@ use Rattle.sequential_signer.specs.SequentialCall.{HoldInput, Asking, Over, sequ
 use Rattle.sequential_signer.specs.Setup.{Setup, cache_of}
 use Rattle.sequential_signer.specs.Transcript.{same_call, call_of, entries_of, last_of}
 use Rattle.sequential_signer.specs.Phase.{Phase, Unknown, Fresh, Queued, Loading, Signing, Ended, phase_of, phase_in, is_loading, is_waiting, is_waiting_poll}
-use Rattle.sequential_signer.specs.Turn.{is_true_poll, has_turn}
+use Rattle.sequential_signer.specs.Turn.{is_fitting_poll, has_turn}
 use Rattle.sequential_signer.specs.Hold.{BeginInput, begin_in, begin_of, answers_of, answers_in, turn_moment, hold_input}
 use Rattle.sequential_signer.specs.SequentialCache.{sequential_cache}
 use Rattle.sequential_signer.specs.declared.event.Entry.{Entry}
@@ -18,14 +18,14 @@ use Rattle.sequential_signer.specs.declared.event.Loader.{Loader}
 use Rattle.sequential_signer.specs.declared.event.Reply.{Reply}
 use Rattle.sequential_signer.specs.declared.event.Reply.TheVariants.{NotNow, Ask}
 use Rattle.sequential_signer.proofs.CallNames.{same_call-eq, same_call-refl}
-use Rattle.sequential_signer.proofs.Own.{entries_of-own, entries_of-other, to_queued, begin_in-found}
-use Rattle.sequential_signer.proofs.Order.{turn_moment-found, turn_moment-no}
+use Rattle.sequential_signer.proofs.OwnEntries.{entries_of-own, entries_of-other, to_queued, begin_in-found}
+use Rattle.sequential_signer.proofs.PollOrder.{turn_moment-found, turn_moment-no}
 use Rattle.sequential_signer.proofs.Happens.{Happens, misfits, begins, waits, idles, looks, gets, accepts, fails, cancels}
 use Rattle.sequential_signer.proofs.Run.{IsRun, start, more}
-use Rattle.sequential_signer.proofs.Story.{Waits, Loads, answers-own_none, refused_answers, phase-own_mark, phase-other, refused_phase}
+use Rattle.sequential_signer.proofs.Standing.{Waits, Loads, answers-own_none, refused_answers, phase-own_mark, phase-other, refused_phase}
 use Rattle.sequential_signer.proofs.Stands.{stands, waiting_waits, loading_loads, signing_served, pending_phase}
 use Rattle.sequential_signer.proofs.CacheLaw.{cache_other}
-use Rattle.sequential_signer.proofs.Rows.{stays_not_now, stays_other, stays_served, stays_unserved, input_looked, input_got, one_turn}
+use Rattle.sequential_signer.proofs.CacheRows.{stays_not_now, stays_other, stays_served, stays_unserved, input_looked, input_got, one_turn}
 
 same_number : (a b : ℕ) → (a == b) ≡ true → a ≡ b
 same_number a b h = grind (arith, nat_tests)
@@ -114,7 +114,7 @@ module _ {K D : Type 0} (policy : Policy K D) (setup : Setup D) where
         let own = entries_of-other entries call e s in
         let b : begin_of (entries ++ e ∷ []) call ≡ begin_of entries call = ap begin_in own in
         let a : answers_of (entries ++ e ∷ []) call ≡ answers_of entries call = ap answers_in own in
-        let m : turn_moment setup (entries ++ e ∷ []) i call ≡ turn_moment setup entries i call = turn_moment-no setup entries i e call (ap (λ v. (v && is_true_poll e) && has_turn setup entries i call) s) in
+        let m : turn_moment setup (entries ++ e ∷ []) i call ≡ turn_moment setup entries i call = turn_moment-no setup entries i e call (ap (λ v. (v && is_fitting_poll e) && has_turn setup entries i call) s) in
         rw (b, m, a) refl
 
     input_own : (e : Entry K) (i : ℕ) (call : CallId) → same_call call (call_of e.event) ≡ true → Loads setup entries i call → answers_of (entries ++ e ∷ []) call ≡ answers_of entries call → hold_input {K = K} setup (entries ++ e ∷ []) i call ≡ hold_input setup entries i call

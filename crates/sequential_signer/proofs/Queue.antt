@@ -8,7 +8,7 @@ use Rattle.sequential_signer.specs.Turn.{before_call, ends_hold, poll_order, hol
 use Rattle.sequential_signer.specs.declared.event.Entry.{Entry}
 use Rattle.sequential_signer.proofs.CallNames.{before_call-absent, same_call-eq}
 use Rattle.sequential_signer.proofs.Lists.{or_false, filter-more_yes}
-use Rattle.sequential_signer.proofs.Order.{is_polled, OrderAfter, stays, grows, hold_is_finished-own, hold_is_finished-other}
+use Rattle.sequential_signer.proofs.PollOrder.{is_polled, OrderAfter, stays, grows, hold_is_finished-own, hold_is_finished-other}
 
 -- the first of a list is the call
 abbrev pub is_first : CallId → List CallId → Bool

@@ -9,7 +9,7 @@ use Rattle.sequential_signer.specs.SequentialCall.{Progress, Asking, Over}
 use Rattle.sequential_signer.specs.Setup.{Setup, cache_of, is_of_cache, is_number}
 use Rattle.sequential_signer.specs.Transcript.{same_call, call_of, entries_of}
 use Rattle.sequential_signer.specs.Phase.{Phase, Unknown, Fresh, Queued, Loading, Signing, Ended, is_begun, phase_in, phase_of, is_live, is_waiting, is_loading, is_signing, is_new_number}
-use Rattle.sequential_signer.specs.Turn.{poll_order, is_true_poll, hold_is_finished, is_served, has_turn}
+use Rattle.sequential_signer.specs.Turn.{poll_order, is_fitting_poll, hold_is_finished, is_served, has_turn}
 use Rattle.sequential_signer.specs.Hold.{begin_in, begin_of, answers_in, is_poll_at_turn, turn_moment}
 use Rattle.sequential_signer.specs.ReplyDue.{progress_reply, with_wake}
 use Rattle.sequential_signer.specs.declared.event.Answer.{Answer}
@@ -19,12 +19,12 @@ use Rattle.sequential_signer.specs.declared.event.Event.TheVariants.{Begin, Poll
 use Rattle.sequential_signer.specs.declared.event.Reply.{Reply}
 use Rattle.sequential_signer.specs.declared.event.Reply.TheVariants.{Begun, Pending, Ask, Sign, Refused, Cancelled}
 use Rattle.sequential_signer.proofs.CallNames.{same_call-eq, same_call-refl, number_refl}
-use Rattle.sequential_signer.proofs.Own.{entries_of-own, to_queued, phase_in-pending, begin_in-new}
-use Rattle.sequential_signer.proofs.Numbers.{new_is_unbegun}
-use Rattle.sequential_signer.proofs.Order.{is_polled-own, has_turn-own, turn_moment-yes, had_no_turn-more}
+use Rattle.sequential_signer.proofs.OwnEntries.{entries_of-own, to_queued, phase_in-pending, begin_in-new}
+use Rattle.sequential_signer.proofs.NewNumbers.{new_is_unbegun}
+use Rattle.sequential_signer.proofs.PollOrder.{is_polled-own, has_turn-own, turn_moment-yes, had_no_turn-more}
 use Rattle.sequential_signer.proofs.Happens.{Happens, misfits, begins, waits, idles, looks, gets, accepts, fails, cancels, is_busy}
 use Rattle.sequential_signer.proofs.Run.{IsRun, start, more}
-use Rattle.sequential_signer.proofs.Story.{HadTurn, Waits, IsBlank, Loads, IsServed, Stands, unknown_call, fresh_call, queued_call, loading_call, signing_call, over_call, cancelled_call, stands-other, phase-other, had-more, refused_stands, refused_phase, served_stays, loads_stays, waits_queued, now_served, now_cancelled, answers-own_none, phase-own_mark, waited-own, unpolled-own, no_poll-turn, served-own, finished-own, begun-own}
+use Rattle.sequential_signer.proofs.Standing.{HadTurn, Waits, IsBlank, Loads, IsServed, Stands, unknown_call, fresh_call, queued_call, loading_call, signing_call, over_call, cancelled_call, stands-other, phase-other, had-more, refused_stands, refused_phase, served_stays, loads_stays, waits_queued, now_served, now_cancelled, answers-own_none, phase-own_mark, waited-own, unpolled-own, no_poll-turn, served-own, finished-own, begun-own}
 
 module _ {K D : Type 0} (policy : Policy K D) (setup : Setup D) where
   -- a waiting call, in either of its phases
@@ -70,14 +70,14 @@ module _ {K D : Type 0} (policy : Policy K D) (setup : Setup D) where
     at_cache : is_of_cache setup i call ≡ true
     at_cache = ap (is_number i) at ∙ number_refl i
 
-    own_turn : (now : ℤ) (reply : Reply K) → is_true_poll (record { event = Poll call now; reply = reply }) ≡ true → is_poll_at_turn setup i call (entries, record { event = Poll call now; reply = reply }) ≡ has_turn setup entries i call
+    own_turn : (now : ℤ) (reply : Reply K) → is_fitting_poll (record { event = Poll call now; reply = reply }) ≡ true → is_poll_at_turn setup i call (entries, record { event = Poll call now; reply = reply }) ≡ has_turn setup entries i call
     own_turn now reply t = rw (same_call-refl call, t) refl
 
-    pub looked_moment : (now : ℤ) (reply : Reply K) → is_true_poll (record { event = Poll call now; reply = reply }) ≡ true → Waits setup entries i call → has_turn setup entries i call ≡ true → turn_moment setup (entries ++ record { event = Poll call now; reply = reply } ∷ []) i call ≡ Some now
+    pub looked_moment : (now : ℤ) (reply : Reply K) → is_fitting_poll (record { event = Poll call now; reply = reply }) ≡ true → Waits setup entries i call → has_turn setup entries i call ≡ true → turn_moment setup (entries ++ record { event = Poll call now; reply = reply } ∷ []) i call ≡ Some now
     looked_moment now reply t w turn =
         turn_moment-yes setup entries i (record { event = Poll call now; reply = reply }) call w.no_turn (own_turn now reply t ∙ turn)
 
-    pub looked : (now : ℤ) (reply : Reply K) → is_true_poll (record { event = Poll call now; reply = reply }) ≡ true → Waits setup entries i call → has_turn setup entries i call ≡ true → HadTurn setup (entries ++ record { event = Poll call now; reply = reply } ∷ []) i call
+    pub looked : (now : ℤ) (reply : Reply K) → is_fitting_poll (record { event = Poll call now; reply = reply }) ≡ true → Waits setup entries i call → has_turn setup entries i call ≡ true → HadTurn setup (entries ++ record { event = Poll call now; reply = reply } ∷ []) i call
     looked now reply t w turn =
         let e : Entry K = record { event = Poll call now; reply = reply } in
         record {

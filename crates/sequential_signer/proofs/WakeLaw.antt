@@ -12,9 +12,9 @@ use Rattle.sequential_signer.specs.declared.event.Entry.{Entry}
 use Rattle.sequential_signer.proofs.Lists.{or_true}
 use Rattle.sequential_signer.proofs.CallNames.{same_call-eq, same_call-refl, same_call-comm, or_left, or_right}
 use Rattle.sequential_signer.proofs.Distinct.{IsOnce, once-filter}
-use Rattle.sequential_signer.proofs.Order.{is_polled, is_polled-more, hold_is_finished-other}
+use Rattle.sequential_signer.proofs.PollOrder.{is_polled, is_polled-more, hold_is_finished-other}
 use Rattle.sequential_signer.proofs.Run.{IsRun}
-use Rattle.sequential_signer.proofs.Story.{Stands, unknown_call, fresh_call, queued_call, loading_call, signing_call, over_call, cancelled_call}
+use Rattle.sequential_signer.proofs.Standing.{Stands, unknown_call, fresh_call, queued_call, loading_call, signing_call, over_call, cancelled_call}
 use Rattle.sequential_signer.proofs.Stands.{stands}
 use Rattle.sequential_signer.proofs.CacheLaw.{order_of_cache, order_once, number_of, list_all-member}
 use Rattle.sequential_signer.proofs.Queue.{is_first, first_of, after_first, queue, queue-leaves, has_turn-polled, is_empty, all-finished}

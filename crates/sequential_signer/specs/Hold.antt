@@ -7,7 +7,7 @@ use Rattle.sequential_signer.specs.SequentialCall.{HoldInput}
 use Rattle.sequential_signer.specs.Transcript.{is_about, entries_of, each_after}
 use Rattle.sequential_signer.specs.Setup.{Setup, rule_of}
 use Rattle.sequential_signer.specs.Phase.{is_begun, is_not_now}
-use Rattle.sequential_signer.specs.Turn.{is_true_poll, has_turn}
+use Rattle.sequential_signer.specs.Turn.{is_fitting_poll, has_turn}
 use Rattle.sequential_signer.specs.declared.event.Answer.{Answer}
 use Rattle.sequential_signer.specs.declared.event.Entry.{Entry}
 use Rattle.sequential_signer.specs.declared.event.Event.{Event}
@@ -36,7 +36,7 @@ poll_moment _ = None
 
 -- a poll of the call that fits and comes at its turn at cache i: with it the entries before it
 abbrev pub is_poll_at_turn : {K D : Type 0} → Setup D → ℕ → CallId → List (Entry K) × Entry K → Bool
-is_poll_at_turn setup i call p = (is_about call p.1 && is_true_poll p.1) && has_turn setup p.0 i call
+is_poll_at_turn setup i call p = (is_about call p.1 && is_fitting_poll p.1) && has_turn setup p.0 i call
 
 -- the moment of the first such poll
 unfoldable pub turn_moment : {K D : Type 0} → Setup D → List (Entry K) → ℕ → CallId → Option ℤ

@@ -20,12 +20,12 @@ before_call call [] = []
 before_call call (x ∷ rest) = if same_call call x then [] else x ∷ before_call call rest
 
 -- a poll that fits
-abbrev pub is_true_poll : {K : Type 0} → Entry K → Bool
-is_true_poll e = is_poll e.event && not (is_not_now e.reply)
+abbrev pub is_fitting_poll : {K : Type 0} → Entry K → Bool
+is_fitting_poll e = is_poll e.event && not (is_not_now e.reply)
 
 -- a poll that fits, of a call of cache i
 abbrev pub is_poll_at : {K D : Type 0} → Setup D → ℕ → Entry K → Bool
-is_poll_at setup i e = is_true_poll e && is_of_cache setup i (call_of e.event)
+is_poll_at setup i e = is_fitting_poll e && is_of_cache setup i (call_of e.event)
 
 -- the calls of cache i that were polled, in the order of their first polls
 unfoldable pub poll_order : {K D : Type 0} → Setup D → List (Entry K) → ℕ → List CallId

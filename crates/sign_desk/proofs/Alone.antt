@@ -15,7 +15,7 @@ use Rattle.sequential_signer.proofs.Lists.{or_true}
 use Rattle.sequential_signer.proofs.WakeLaw.{find-none}
 use Rattle.sequential_signer.proofs.CallNames.{same_call-refl}
 use Rattle.sequential_signer.proofs.Run.{IsRun}
-use Rattle.sequential_signer.proofs.Story.{Stands, unknown_call, fresh_call, queued_call, loading_call, signing_call, over_call, cancelled_call}
+use Rattle.sequential_signer.proofs.Standing.{Stands, unknown_call, fresh_call, queued_call, loading_call, signing_call, over_call, cancelled_call}
 use Rattle.sequential_signer.proofs.Stands.{stands}
 use Rattle.sequential_signer.proofs.CacheLaw.{order_of_cache, number_of, list_all-member}
 

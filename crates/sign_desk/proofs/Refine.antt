@@ -24,15 +24,15 @@ use Rattle.sequential_signer.specs.declared.event.Event.TheVariants.{Begin}
 use Rattle.sequential_signer.specs.declared.event.Reply.{Reply}
 use Rattle.sequential_signer.specs.declared.event.Reply.TheVariants.{Begun, Pending, NotNow, OutOfMemory, Ask, Sign, Refused, Done, Cancelled}
 use Rattle.sequential_signer.proofs.CallNames.{same_call-eq, same_call-refl, same_call-comm, number_refl, and_left, and_right}
-use Rattle.sequential_signer.proofs.Own.{entries_of-own, entries_of-other, begin_in-new}
+use Rattle.sequential_signer.proofs.OwnEntries.{entries_of-own, entries_of-other, begin_in-new}
 use Rattle.sequential_signer.proofs.Places.{slice_get-set_same, slice_get-set_other, is_true, same_number, other_number}
 use Rattle.sequential_signer.proofs.Greatest.{is_new_number-is, greatest_begun-more, greater_above}
 use Rattle.sequential_signer.proofs.Run.{IsRun, kept-more, kept-lost, legal_run, legal-more}
-use Rattle.sequential_signer.proofs.Story.{IsBlank, refused_phase, refused_answers, begin-own, phase-own_mark, answers-own_none}
-use Rattle.sequential_signer.proofs.Numbers.{new_is_unbegun}
+use Rattle.sequential_signer.proofs.Standing.{IsBlank, refused_phase, refused_answers, begin-own, phase-own_mark, answers-own_none}
+use Rattle.sequential_signer.proofs.NewNumbers.{new_is_unbegun}
 use Rattle.sequential_signer.proofs.Stands.{stands, unbegun, unbegun_blank}
 use Rattle.sign_desk.specs.declared.calls.Stage.TheVariants as stage
-use Rattle.sequential_signer.proofs.Rows.{stays_not_now, stays_other}
+use Rattle.sequential_signer.proofs.CacheRows.{stays_not_now, stays_other}
 
 module _ {K D : Type 0} (policy : Policy K D) where
   module _ (old : Kept K D) (entries : List (Entry K)) (stood : Represents policy old entries) where

@@ -19,8 +19,8 @@ use Rattle.sequential_signer.specs.declared.event.Reply.{Reply}
 use Rattle.sequential_signer.specs.declared.event.Reply.TheVariants.{NotNow, Done}
 use Rattle.sequential_signer.specs.declared.event.Verdict.TheVariants.{Accepted}
 use Rattle.sequential_signer.proofs.CallNames.{same_call-refl}
-use Rattle.sequential_signer.proofs.Story.{phase-own_mark, begin-own}
-use Rattle.sequential_signer.proofs.Rows.{stays_other}
+use Rattle.sequential_signer.proofs.Standing.{phase-own_mark, begin-own}
+use Rattle.sequential_signer.proofs.CacheRows.{stays_other}
 use Rattle.sign_desk.proofs.Refine.{ran, represents-more, represents-lost, represents-not_now, greatest_same}
 use Rattle.sign_desk.proofs.RefinePoll.{Tells, live_tells, not_live}
 

@@ -31,12 +31,12 @@ use Rattle.sequential_signer.specs.declared.event.Reply.{Reply}
 use Rattle.sequential_signer.specs.declared.event.Reply.TheVariants.{NotNow, OutOfMemory, Sign, Refused}
 use Rattle.sequential_signer.proofs.CallNames.{same_call-refl}
 use Rattle.sequential_signer.proofs.Lists.{last_of-more}
-use Rattle.sequential_signer.proofs.Own.{entries_of-own, answers_in-more}
+use Rattle.sequential_signer.proofs.OwnEntries.{entries_of-own, answers_in-more}
 use Rattle.sequential_signer.proofs.Happens.{GoesOn}
-use Rattle.sequential_signer.proofs.Story.{Loads, phase-own_mark, begin-own}
+use Rattle.sequential_signer.proofs.Standing.{Loads, phase-own_mark, begin-own}
 use Rattle.sequential_signer.proofs.Stands.{stands, loading_loads}
 use Rattle.sequential_signer.proofs.CacheLaw.{cache_other}
-use Rattle.sequential_signer.proofs.Rows.{serves_got}
+use Rattle.sequential_signer.proofs.CacheRows.{serves_got}
 use Rattle.sequential_signer.proofs.LoadLaw.{LoadsOn, loads_on}
 use Rattle.sign_desk.proofs.Alone.{wakes_nobody}
 use Rattle.sequential_signer.proofs.Places.{slice_get-set_same, slice_get-set_other, same_number, other_number}

@@ -29,12 +29,12 @@ use Rattle.sequential_signer.specs.declared.event.Loader.TheVariants.{Single, Ch
 use Rattle.sequential_signer.specs.declared.event.Reply.{Reply}
 use Rattle.sequential_signer.specs.declared.event.Reply.TheVariants.{Pending, NotNow, Ask, Sign, Refused}
 use Rattle.sequential_signer.proofs.CallNames.{same_call-refl}
-use Rattle.sequential_signer.proofs.Own.{to_queued}
+use Rattle.sequential_signer.proofs.OwnEntries.{to_queued}
 use Rattle.sequential_signer.proofs.Happens.{GoesOn}
-use Rattle.sequential_signer.proofs.Story.{Stands, Waits, fresh_call, queued_call, loading_call, signing_call, phase-own_mark, answers-own_none, begin-own}
+use Rattle.sequential_signer.proofs.Standing.{Stands, Waits, fresh_call, queued_call, loading_call, signing_call, phase-own_mark, answers-own_none, begin-own}
 use Rattle.sequential_signer.proofs.Stands.{stands, waiting_waits, pending_phase}
 use Rattle.sequential_signer.proofs.CacheLaw.{cache_other}
-use Rattle.sequential_signer.proofs.Rows.{stays_other, stays_unserved, serves_looked}
+use Rattle.sequential_signer.proofs.CacheRows.{stays_other, stays_unserved, serves_looked}
 use Rattle.sign_desk.proofs.Alone.{has_turn-alone, wakes_nobody, begun_live}
 use Rattle.sequential_signer.proofs.Places.{same_number, other_number}
 use Rattle.sign_desk.proofs.Refine.{ran, represents-more, represents-lost, represents-not_now, keeps_old, greatest_same}

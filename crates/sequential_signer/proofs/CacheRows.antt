@@ -8,7 +8,7 @@ use Rattle.sequential_signer.specs.SequentialCall.{HoldInput, Over}
 use Rattle.sequential_signer.specs.Setup.{Setup, cache_of, rule_of}
 use Rattle.sequential_signer.specs.Transcript.{same_call, call_of, entries_of}
 use Rattle.sequential_signer.specs.Phase.{is_not_now}
-use Rattle.sequential_signer.specs.Turn.{before_call, poll_order, calls_ahead, is_true_poll, serves, hold_is_finished, is_served, has_turn}
+use Rattle.sequential_signer.specs.Turn.{before_call, poll_order, calls_ahead, is_fitting_poll, serves, hold_is_finished, is_served, has_turn}
 use Rattle.sequential_signer.specs.Hold.{BeginInput, begin_in, begin_of, answers_of, answers_in, answer_in, turn_moment, input_by, hold_input}
 use Rattle.sequential_signer.specs.SequentialCache.{cache_after, sequential_cache}
 use Rattle.sequential_signer.specs.ReplyDue.{progress_reply, with_wake}
@@ -21,11 +21,11 @@ use Rattle.sequential_signer.specs.declared.event.Reply.{Reply}
 use Rattle.sequential_signer.specs.declared.event.Reply.TheVariants.{NotNow, Sign, Refused}
 use Rattle.sequential_signer.proofs.Lists.{or_false}
 use Rattle.sequential_signer.proofs.CallNames.{same_call-eq, same_call-refl, and_left, and_right}
-use Rattle.sequential_signer.proofs.Own.{entries_of-own, begin_in-found, answers_in-more}
-use Rattle.sequential_signer.proofs.Order.{is_polled, is_served-own, is_served-other, turn_moment-found}
+use Rattle.sequential_signer.proofs.OwnEntries.{entries_of-own, begin_in-found, answers_in-more}
+use Rattle.sequential_signer.proofs.PollOrder.{is_polled, is_served-own, is_served-other, turn_moment-found}
 use Rattle.sequential_signer.proofs.Happens.{GoesOn}
 use Rattle.sequential_signer.proofs.Run.{IsRun}
-use Rattle.sequential_signer.proofs.Story.{Waits, Loads, answers-own_none, refused_answers, had-more}
+use Rattle.sequential_signer.proofs.Standing.{Waits, Loads, answers-own_none, refused_answers, had-more}
 use Rattle.sequential_signer.proofs.Stands.{looked, looked_moment}
 use Rattle.sequential_signer.proofs.CacheLaw.{KeepsAnswers, cache_stays, cache_serves}
 
@@ -72,7 +72,7 @@ module _ {K D : Type 0} (policy : Policy K D) (setup : Setup D) where
     stays_unserved e u s i = cache_stays policy setup entries run e (keeps_unserved e u) (served_same e s) i
 
     -- the input of a hold whose turn comes by this poll
-    pub input_looked : (call : CallId) (now : ℤ) (reply : Reply K) (i : ℕ) → cache_of setup call ≡ Some i → is_true_poll (record { event = Poll call now; reply = reply }) ≡ true
+    pub input_looked : (call : CallId) (now : ℤ) (reply : Reply K) (i : ℕ) → cache_of setup call ≡ Some i → is_fitting_poll (record { event = Poll call now; reply = reply }) ≡ true
         → Waits setup entries i call → has_turn setup entries i call ≡ true → is_some (begin_of entries call) ≡ true
         → hold_input {K = K} setup (entries ++ record { event = Poll call now; reply = reply } ∷ []) i call ≡ input_by (rule_of setup call) (begin_of entries call) (Some now) []
     input_looked call now reply i at t w turn b =

@@ -5,15 +5,15 @@ use Rattle.wake_lock.specs.declared.CallId.{CallId}
 use Rattle.sequential_signer.specs.Setup.{Setup, is_of_cache}
 use Rattle.sequential_signer.specs.Transcript.{same_call, call_of, is_about, entries_of}
 use Rattle.sequential_signer.specs.Phase.{Phase, Unknown, Fresh, Queued, Loading, Signing, Ended, is_mark, is_poll, is_begun, is_waiting_poll, phase_by, phase_in, phase_of}
-use Rattle.sequential_signer.specs.Turn.{is_true_poll, is_poll_at, ends_hold, serves, hold_is_finished, is_served, has_turn}
+use Rattle.sequential_signer.specs.Turn.{is_fitting_poll, is_poll_at, ends_hold, serves, hold_is_finished, is_served, has_turn}
 use Rattle.sequential_signer.specs.Hold.{BeginInput, begin_in, begin_of, answer_in, answers_in, answers_of, turn_moment, is_poll_at_turn}
 use Rattle.sequential_signer.specs.declared.event.Entry.{Entry}
 use Rattle.sequential_signer.specs.declared.event.Event.{Event}
 use Rattle.sequential_signer.specs.declared.event.Reply.TheVariants.{NotNow}
 use Rattle.sequential_signer.proofs.Lists.{list_any-more, or_false, or_true, and_false}
 use Rattle.sequential_signer.proofs.CallNames.{same_call-eq}
-use Rattle.sequential_signer.proofs.Own.{entries_of-own, entries_of-other, phase_in-mark, phase_in-not_now, begin_in-found, begin_in-no, answers_in-no, answers_in-not_now}
-use Rattle.sequential_signer.proofs.Order.{poll_order-same, is_polled, is_polled-more, is_polled-other, is_polled-own, hold_is_finished-own, hold_is_finished-other, hold_is_finished-more, is_served-own, is_served-other, has_turn-more, turn_moment-found, HadNoTurn, had_no_turn-more}
+use Rattle.sequential_signer.proofs.OwnEntries.{entries_of-own, entries_of-other, phase_in-mark, phase_in-not_now, begin_in-found, begin_in-no, answers_in-no, answers_in-not_now}
+use Rattle.sequential_signer.proofs.PollOrder.{poll_order-same, is_polled, is_polled-more, is_polled-other, is_polled-own, hold_is_finished-own, hold_is_finished-other, hold_is_finished-more, is_served-own, is_served-other, has_turn-more, turn_moment-found, HadNoTurn, had_no_turn-more}
 
 module _ {K D : Type 0} (setup : Setup D) where
   -- the call had its turn at cache i, at this moment
@@ -92,7 +92,7 @@ module _ {K D : Type 0} (setup : Setup D) where
     waited-other = ap (list_any is_waiting_poll) (entries_of-other entries call e other)
 
     pub no_turn-other : HadNoTurn setup entries i call → HadNoTurn setup (entries ++ e ∷ []) i call
-    no_turn-other n = had_no_turn-more setup entries i e call (ap (λ v. (v && is_true_poll e) && has_turn setup entries i call) other) n
+    no_turn-other n = had_no_turn-more setup entries i e call (ap (λ v. (v && is_fitting_poll e) && has_turn setup entries i call) other) n
 
     pub waits-other : Waits entries i call → Waits (entries ++ e ∷ []) i call
     waits-other w = record {
@@ -202,13 +202,13 @@ module _ {K D : Type 0} (setup : Setup D) where
       no_turn = had_no_turn-more setup entries i e call n w.no_turn;
     }
 
-    pub no_poll-at : is_true_poll e ≡ false → is_poll_at setup i e ≡ false
+    pub no_poll-at : is_fitting_poll e ≡ false → is_poll_at setup i e ≡ false
     no_poll-at h = ap (λ v. v && is_of_cache setup i (call_of e.event)) h
 
-    pub no_poll-turn : is_true_poll e ≡ false → is_poll_at_turn setup i call (entries, e) ≡ false
+    pub no_poll-turn : is_fitting_poll e ≡ false → is_poll_at_turn setup i call (entries, e) ≡ false
     no_poll-turn h = ap (λ v. (is_about call e && v) && has_turn setup entries i call) h ∙ ap (λ v. v && has_turn setup entries i call) (and_false _)
 
-    pub unpolled-own : is_true_poll e ≡ false → is_polled setup (entries ++ e ∷ []) i call ≡ is_polled setup entries i call
+    pub unpolled-own : is_fitting_poll e ≡ false → is_polled setup (entries ++ e ∷ []) i call ≡ is_polled setup entries i call
     unpolled-own h = ap (list_any (same_call call)) (poll_order-same setup entries i e (no_poll-at h))
 
     -- a poll that waits leaves a call that waited in the queue
@@ -231,7 +231,7 @@ module _ {K D : Type 0} (setup : Setup D) where
     pub refused_answers : answers_of (entries ++ refused_entry ∷ []) call ≡ answers_of entries call
     refused_answers = ap answers_in (entries_of-own entries call refused_entry own) ∙ answers_in-not_now (entries_of entries call) event
 
-    pub refused_poll : is_true_poll refused_entry ≡ false
+    pub refused_poll : is_fitting_poll refused_entry ≡ false
     refused_poll = and_false (is_poll event)
 
     refused_waited : list_any is_waiting_poll (entries_of (entries ++ refused_entry ∷ []) call) ≡ list_any is_waiting_poll (entries_of entries call)

@@ -10,7 +10,7 @@ use Rattle.sequential_signer.specs.Hold.{poll_moment, is_poll_at_turn, turn_mome
 use Rattle.sequential_signer.specs.declared.event.Entry.{Entry}
 use Rattle.sequential_signer.proofs.Lists.{filter-more_yes, filter-more_no, list_any-more, list_all-by, each_after-more, find-more_found, find-more_no, find-more_yes, or_false, or_true}
 use Rattle.sequential_signer.proofs.CallNames.{same_call-refl, first_of_each-more, before_call-more_there, before_call-absent, before_call-last}
-use Rattle.sequential_signer.proofs.Own.{entries_of-own, entries_of-other}
+use Rattle.sequential_signer.proofs.OwnEntries.{entries_of-own, entries_of-other}
 
 module _ {K D : Type 0} (setup : Setup D) where
   -- whether the call was polled at cache i
