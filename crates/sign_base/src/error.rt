@@ -1,8 +1,8 @@
 //! The error of every call that can fail by more than want of memory: a kind to act on, a message,
 //! the places it came through, whether to try again, and the error below it where there is one.
-ghost use Rattle.std.specs.Prelude.{◌≡◌, ◌++◌, ◌∷◌, [], IfOk, IfErr, map, Some, option_map};
+ghost use Rattle.std.specs.Prelude.{◌≡◌, ◌++◌, ◌∷◌, [], IfOk, IfErr, OnOk, OnErr, map, Some, option_map};
 ghost use Rattle.std.specs.String.{string_bytes};
-ghost use Rattle.sign_base.specs.Error.{new_error};
+ghost use Rattle.sign_base.specs.Error.{new_error, texts_or_empty};
 ghost use Rattle.sign_base.specs.declared.error_kind.ErrorKind.TheVariants.{CredentialInvalid, PermissionDenied, ConfigInvalid, RequestInvalid, RateLimited, Unexpected, OutOfMemory};
 
 use crate::{ErrorKind, NoMemory};
@@ -41,13 +41,20 @@ impl Error {
     pub fn new(alloc: Global, kind: ErrorKind, message: &str) -> Result<Error, NoMemory<()>>
         ensures { IfOk result (λ e. e ≡ new_error kind message.now) }
     {
-        Ok(Error {
+        Ok(Error::of(kind, String::from_str(alloc, message)?))
+    }
+
+    /// The same with the message itself.
+    pub(crate) fn of(kind: ErrorKind, message: String) -> Error
+        ensures { result ≡ new_error kind (string_bytes message) }
+    {
+        Error {
             kind,
-            message: Some(String::from_str(alloc, message)?),
+            message: Some(message),
             context: None,
             retryable: kind == ErrorKind::RateLimited,
             source: None,
-        })
+        }
     }
 
     /// Credentials that were given and are not good.
@@ -115,6 +122,18 @@ impl Error {
         }
     }
 
+    /// The same error with one text more, the last that it came through. Where there is no memory
+    /// for the text, the error comes back as it was.
+    pub fn with_context(mut self, alloc: Global, context: &str) -> Result<Error, NoMemory<Error>>
+        ensures ok { IfOk result (λ e. e ≡ record self { context = self.context ++ context.now ∷ [] }) }
+        ensures back { IfErr result (λ e. e.back ≡ self) }
+    {
+        match push_text(alloc, &mut self.context, context) {
+            Ok(()) => Ok(self),
+            Err(_) => Err(NoMemory { back: self }),
+        }
+    }
+
     /// The same error, retryable or not.
     pub fn set_retryable(self, retryable: bool) -> Error
         ensures { result ≡ record self { retryable = retryable } }
@@ -170,4 +189,37 @@ impl fmt::Display for Error {
             None => f.write_str(""),
         }
     }
+}
+
+impl fmt::Debug for Error {
+    fn fmt<W: fmt::Write>(&self, f: &mut fmt::Formatter<W>) -> fmt::Result {
+        let mut parts = f.debug_struct("Error");
+        parts.field("kind", &self.kind);
+        parts.field("message", &self.message.as_deref().unwrap_or(""));
+        if let Some(texts) = &self.context {
+            parts.field("context", texts);
+        }
+        if let Some(source) = &self.source {
+            parts.field("source", source);
+        }
+        parts.field("retryable", &self.retryable);
+        parts.finish()
+    }
+}
+
+/// Appends a text to texts that take no memory while there are none.
+fn push_text(alloc: Global, texts: &mut Option<Vec<String>>, text: &str) -> Result<(), NoMemory<()>>
+    ensures ok { OnOk result (texts_or_empty texts.new ≡ texts_or_empty texts.old ++ text.now ∷ []) }
+    ensures err { OnErr result (texts_or_empty texts.new ≡ texts_or_empty texts.old) }
+{
+    let text = String::from_str(alloc, text)?;
+    match texts {
+        Some(texts) => texts.push(text)?,
+        None => {
+            let mut first = Vec::new(alloc);
+            first.push(text)?;
+            *texts = Some(first);
+        }
+    }
+    Ok(())
 }

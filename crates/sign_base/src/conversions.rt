@@ -1,0 +1,131 @@
+//! Errors of the libraries below, each told in this crate's words. The text stays the message; the
+//! kind says what to do. An error that is itself want of memory stays want of memory.
+ghost use Rattle.std.specs.Prelude.{◌≡◌, IfOk, IfErr, IsErr, Some};
+ghost use Rattle.std.specs.IoError.{error_kind};
+ghost use Rattle.std.specs.declared.io.ErrorKind.{ErrorKind as IoErrorKind};
+ghost use Rattle.anyhow.specs.Error.{error_message};
+ghost use Rattle.http.specs.declared.error.Error.{Error as HttpError};
+ghost use Rattle.http_header.specs.declared.name.HeaderNameError.{HeaderNameError as NameError};
+ghost use Rattle.http_header.specs.declared.value.HeaderValueError.{HeaderValueError as ValueError};
+ghost use Rattle.http_uri.specs.Error.{IsOutOfMemory};
+ghost use Rattle.sign_base.specs.Error.{new_error};
+ghost use Rattle.sign_base.specs.Conversion.{IsTold, IsOfKind, kind_of_io, is_retried_io};
+ghost use Rattle.sign_base.specs.declared.error_kind.ErrorKind.TheVariants.{RequestInvalid, Unexpected};
+
+use crate::{Error, ErrorKind, NoMemory};
+use http_header::{HeaderNameError, HeaderValueError, ToStrError};
+use http_uri::{InvalidUriParts, UriError};
+use std::alloc::Global;
+use std::string::FromUtf8Error;
+use std::{fmt, io};
+
+impl Error {
+    /// `Unexpected`, over the error itself, which comes back where there is no memory for its text.
+    pub fn from_anyhow(alloc: Global, err: anyhow::Error) -> Result<Error, NoMemory<anyhow::Error>>
+        ensures ok { IfOk result (λ e. e ≡ record (new_error Unexpected (error_message err)) { source = Some err }) }
+        ensures back { IfErr result (λ e. e.back ≡ err) }
+    {
+        match told(alloc, ErrorKind::Unexpected, &err) {
+            Ok(error) => Ok(error.with_source(err)),
+            Err(_) => Err(NoMemory { back: err }),
+        }
+    }
+
+    /// `Unexpected`.
+    pub fn from_fmt(alloc: Global, err: &fmt::Error) -> Result<Error, NoMemory<()>>
+        ensures { IfOk result (IsOfKind Unexpected) }
+    {
+        told(alloc, ErrorKind::Unexpected, err)
+    }
+
+    /// `Unexpected`.
+    pub fn from_utf8(alloc: Global, err: &FromUtf8Error) -> Result<Error, NoMemory<()>>
+        ensures { IfOk result (IsOfKind Unexpected) }
+    {
+        told(alloc, ErrorKind::Unexpected, err)
+    }
+
+    /// `RequestInvalid`.
+    pub fn from_http(alloc: Global, err: &http::Error) -> Result<Error, NoMemory<()>>
+        ensures kind { IfOk result (IsOfKind RequestInvalid) }
+        ensures memory { err.now ≡ HttpError.OutOfMemory → IsErr result }
+    {
+        match err {
+            http::Error::OutOfMemory => Err(NoMemory { back: () }),
+            _ => told(alloc, ErrorKind::RequestInvalid, err),
+        }
+    }
+
+    /// `RequestInvalid`.
+    pub fn from_header_value(alloc: Global, err: &HeaderValueError) -> Result<Error, NoMemory<()>>
+        ensures kind { IfOk result (IsOfKind RequestInvalid) }
+        ensures memory { err.now ≡ ValueError.OutOfMemory → IsErr result }
+    {
+        match err {
+            HeaderValueError::OutOfMemory => Err(NoMemory { back: () }),
+            HeaderValueError::Invalid => told(alloc, ErrorKind::RequestInvalid, err),
+        }
+    }
+
+    /// `RequestInvalid`.
+    pub fn from_header_name(alloc: Global, err: &HeaderNameError) -> Result<Error, NoMemory<()>>
+        ensures kind { IfOk result (IsOfKind RequestInvalid) }
+        ensures memory { err.now ≡ NameError.OutOfMemory → IsErr result }
+    {
+        match err {
+            HeaderNameError::OutOfMemory => Err(NoMemory { back: () }),
+            HeaderNameError::Invalid => told(alloc, ErrorKind::RequestInvalid, err),
+        }
+    }
+
+    /// `RequestInvalid`.
+    pub fn from_to_str(alloc: Global, err: &ToStrError) -> Result<Error, NoMemory<()>>
+        ensures { IfOk result (IsOfKind RequestInvalid) }
+    {
+        told(alloc, ErrorKind::RequestInvalid, err)
+    }
+
+    /// `RequestInvalid`.
+    pub fn from_uri(alloc: Global, err: &UriError) -> Result<Error, NoMemory<()>>
+        ensures kind { IfOk result (IsOfKind RequestInvalid) }
+        ensures memory { IsOutOfMemory err.now → IsErr result }
+    {
+        match err {
+            UriError::OutOfMemory => Err(NoMemory { back: () }),
+            UriError::Invalid(_) => told(alloc, ErrorKind::RequestInvalid, err),
+        }
+    }
+
+    /// `RequestInvalid`.
+    pub fn from_uri_parts(alloc: Global, err: &InvalidUriParts) -> Result<Error, NoMemory<()>>
+        ensures { IfOk result (IsOfKind RequestInvalid) }
+    {
+        told(alloc, ErrorKind::RequestInvalid, err)
+    }
+
+    /// `ConfigInvalid` where something was not found, `PermissionDenied` where that was the cause,
+    /// else `Unexpected`; retryable where it timed out, was interrupted or was refused a connection.
+    pub fn from_io(alloc: Global, err: &io::Error) -> Result<Error, NoMemory<()>>
+        ensures parts { IfOk result (λ e. e ≡ record (new_error (kind_of_io (error_kind err.now)) e.message) { retryable = is_retried_io (error_kind err.now) }) }
+        ensures memory { error_kind err.now ≡ IoErrorKind.OutOfMemory → IsErr result }
+    {
+        let (kind, retryable) = match err.kind() {
+            io::ErrorKind::OutOfMemory => return Err(NoMemory { back: () }),
+            io::ErrorKind::NotFound => (ErrorKind::ConfigInvalid, false),
+            io::ErrorKind::PermissionDenied => (ErrorKind::PermissionDenied, false),
+            io::ErrorKind::TimedOut
+            | io::ErrorKind::Interrupted
+            | io::ErrorKind::ConnectionRefused => (ErrorKind::Unexpected, true),
+            _ => (ErrorKind::Unexpected, false),
+        };
+        Ok(told(alloc, kind, err)?.set_retryable(retryable))
+    }
+}
+
+/// A new error of this kind, whose message is what its cause prints.
+fn told<D: fmt::Display>(alloc: Global, kind: ErrorKind, cause: &D) -> Result<Error, NoMemory<()>>
+    ensures { IfOk result (IsTold kind (D.output cause.now)) }
+{
+    let message = format!(in alloc; "{cause}")?;
+    Ok(Error::of(kind, message))
+}
