@@ -11,7 +11,7 @@ use Rattle.sequential_signer.specs.Phase.{Phase, Unknown, Fresh, Queued, Loading
 use Rattle.sequential_signer.specs.Turn.{has_turn}
 use Rattle.sequential_signer.specs.Hold.{begin_of, answers_of, turn_moment, input_by}
 use Rattle.sequential_signer.specs.SequentialCache.{sequential_cache}
-use Rattle.sequential_signer.specs.ReplyDue.{progress_reply, with_wake, hold_progress, hold_reply, done_head, fitting_reply, reply_at, reply_due}
+use Rattle.sequential_signer.specs.ReplyDue.{progress_reply, with_wake, hold_progress, hold_reply, hold_step, done_head, fitting_reply, reply_at, reply_due}
 use Rattle.sequential_signer.specs.declared.event.Answer.{Answer}
 use Rattle.sequential_signer.specs.declared.event.Entry.{Entry}
 use Rattle.sequential_signer.specs.declared.event.Event.{Event}
@@ -82,7 +82,7 @@ module _ {K D : Type 0} where
     poll_happens : (call : CallId) (now : ℤ) (i : ℕ) → cache_of setup call ≡ Some i → is_live (phase_of entries call) ≡ true
         → (w : Bool) → is_waiting (phase_of entries call) ≡ w → (t : Bool) → has_turn setup entries i call ≡ t
         → Happens policy setup entries (Poll call now)
-        (if w then (if t then hold_reply setup entries i (Poll call now) (hold_progress policy (sequential_cache policy setup entries i) (slice_get setup.loaders i) (input_by (rule_of setup call) (begin_of entries call) (Some now) [])) else Pending) else Pending)
+        (if w && t then hold_step policy setup entries i (Poll call now) (Some now) [] else Pending)
     poll_happens call now i at l true w true t = look_happens call now i at w t _ refl _ refl
     poll_happens call now i at l true w false t = waits call now i at w t
     poll_happens call now i at l false w t _ = idles call now (live_cases (phase_of entries call) l w)

@@ -1,4 +1,4 @@
--- The transcripts that a desk may have.
+-- Legal transcripts: every reply is the one that is due, but for want of memory.
 use Rattle.std.specs.Prelude.{◌≡◌, Bool, true, false, ◌&&◌, List, [], ◌∷◌, ◌++◌, IsTrue, ◌⊎◌, fold, map}
 use Rattle.sequential_signer.specs.Policy.{Policy}
 use Rattle.sequential_signer.specs.Setup.{Setup}
@@ -13,11 +13,12 @@ use Rattle.sequential_signer.specs.declared.event.Reply.{Reply}
 use Rattle.sequential_signer.specs.declared.event.Reply.TheVariants.{OutOfMemory, Sign}
 use Rattle.sequential_signer.specs.declared.event.Verdict.TheVariants.{Accepted}
 
+-- whether the reply hands out a credential
 abbrev pub is_sign : {K : Type 0} → Reply K → Bool
 is_sign (Sign credential wake) = true
 is_sign _ = false
 
--- whether an event takes memory where it fits: a begin, a look that hands out, a credential found, a head accepted
+-- whether a fitting event takes memory: a begin, a look that hands out, a credential found, a head accepted
 abbrev pub takes_memory : {K D : Type 0} → Policy K D → Setup D → List (Entry K) → Event K → Bool
 takes_memory policy setup entries (Begin call head expires_in) = true
 takes_memory policy setup entries (Poll call now) = is_sign (reply_due policy setup entries (Poll call now))
@@ -27,23 +28,24 @@ takes_memory policy setup entries (Signed call (Accepted candidate)) = true
 takes_memory policy setup entries (Signed call _) = false
 takes_memory policy setup entries (Cancel call) = false
 
+-- whether an event may meet want of memory after these entries
 abbrev pub allocates : {K D : Type 0} → Policy K D → Setup D → List (Entry K) → Event K → Bool
 allocates policy setup entries event =
     event_fits setup entries event && takes_memory policy setup entries event
 
--- after the entries that count, this one has the reply that is due, or it allocates and memory was wanting
+-- after the entries that count, this one has the reply that is due, or it allocates and met want of memory
 abbrev pub IsLegalEntry : {K D : Type 0} → Policy K D → Setup D → List (Entry K) → Entry K → Type 0
 IsLegalEntry policy setup entries entry =
     (entry.reply ≡ reply_due policy setup entries entry.event)
     ⊎ ((entry.reply ≡ OutOfMemory) × IsTrue (allocates policy setup entries entry.event))
 
--- each entry is legal after those before it; these come after `before`
+-- each entry is legal after those before it; the first of them comes after `before`
 abbrev pub IsLegalAfter : {K D : Type 0} → Policy K D → Setup D → List (Entry K) → List (Entry K) → Type 0
 IsLegalAfter policy setup before [] = Unit {0}
 IsLegalAfter policy setup before (entry ∷ rest) =
     IsLegalEntry policy setup (kept before) entry × IsLegalAfter policy setup (before ++ entry ∷ []) rest
 
--- a transcript that a desk with this setup may have
+-- each entry is legal after those before it
 unfoldable pub IsLegal : {K D : Type 0} → Policy K D → Setup D → List (Entry K) → Type 0
 IsLegal policy setup entries = IsLegalAfter policy setup [] entries
 

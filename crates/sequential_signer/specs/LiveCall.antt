@@ -12,11 +12,13 @@ pub record LiveCall : Type 0 where
   pub begin : BeginInput
   pub answers : ℕ
 
+-- the call in this phase, where that is a live one
 abbrev pub live_in : Phase → ℕ → BeginInput → Option LiveCall
 live_in Unknown count begin = None
 live_in Ended count begin = None
 live_in phase count begin = Some (record { phase = phase; begin = begin; answers = count })
 
+-- the same, where it was begun at all
 abbrev pub live_by : Phase → ℕ → Option BeginInput → Option LiveCall
 live_by phase count None = None
 live_by phase count (Some begin) = live_in phase count begin

@@ -9,25 +9,25 @@ pub data Outcome (K : Type 0) : Type 0 where
   HandOut : K → Outcome K
   Refuse : Why → Outcome K
 
--- a cached credential, by the deadline that it must outlast. None: a credential is loaded
+-- a fresh cached credential, by its deadline: none refuses it, and one that it does not last to loads another
 abbrev pub lookup_by : {K D : Type 0} → Policy K D → K → ℤ → Option ℤ → Option (Outcome K)
 lookup_by policy c now None = Some (Refuse Range)
 lookup_by policy c now (Some deadline) =
     if policy.valid_at c deadline now then Some (HandOut c) else None
 
--- the look at the cache, which may be empty. None: a credential is loaded
+-- what the cache is good for at one moment; none means that a credential is loaded
 abbrev pub cache_lookup : {K D : Type 0} → Policy K D → Option K → D → Option ℕ → ℤ → Option (Outcome K)
 cache_lookup policy None rule duration now = None
 cache_lookup policy (Some c) rule duration now =
     if policy.valid c now then lookup_by policy c now (policy.deadline rule c duration now) else None
 
--- a loaded credential, by the deadline that it must outlast
+-- a loaded credential, by its deadline
 abbrev pub check_by : {K D : Type 0} → Policy K D → K → ℤ → Option ℤ → Outcome K
 check_by policy c now None = Refuse Range
 check_by policy c now (Some deadline) =
     if policy.valid_at c deadline now then HandOut c else Refuse (Short deadline)
 
--- whether a credential that was just loaded serves; it is not asked whether it is valid now
+-- what a credential that was just loaded is good for; whether it is fresh is not asked
 abbrev pub check_refreshed : {K D : Type 0} → Policy K D → K → D → Option ℕ → ℤ → Outcome K
 check_refreshed policy c rule duration now =
     check_by policy c now (policy.deadline rule c duration now)

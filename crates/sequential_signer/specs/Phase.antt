@@ -10,6 +10,7 @@ use Rattle.sequential_signer.specs.declared.event.Event.TheVariants.{Begin, Poll
 use Rattle.sequential_signer.specs.declared.event.Reply.{Reply}
 use Rattle.sequential_signer.specs.declared.event.Reply.TheVariants.{Begun, Pending, NotNow, OutOfMemory, Ask, Sign, Refused, Done, Cancelled}
 
+-- not begun; begun; begun and told to wait; asking a provider; handed to the service; over
 pub data Phase : Type 0 where
   Unknown : Phase
   Fresh : Phase
@@ -18,33 +19,37 @@ pub data Phase : Type 0 where
   Signing : Phase
   Ended : Phase
 
--- a reply that tells how far a call is: any but `Pending` and `NotNow`
+-- whether a reply is a mark, which tells how far its call is: any but `Pending` and `NotNow`
 abbrev pub is_mark : {K : Type 0} → Reply K → Bool
 is_mark Pending = false
 is_mark NotNow = false
 is_mark _ = true
 
+-- whether the reply is to wait
 abbrev pub is_pending : {K : Type 0} → Reply K → Bool
 is_pending Pending = true
 is_pending _ = false
 
+-- whether the reply accepts a begin
 abbrev pub is_begun : {K : Type 0} → Reply K → Bool
 is_begun Begun = true
 is_begun _ = false
 
+-- whether the reply is that the event did not fit
 abbrev pub is_not_now : {K : Type 0} → Reply K → Bool
 is_not_now NotNow = true
 is_not_now _ = false
 
+-- whether the event is a poll
 abbrev pub is_poll : {K : Type 0} → Event K → Bool
 is_poll (Poll call now) = true
 is_poll _ = false
 
--- a poll that was answered `Pending`
+-- whether the entry is a poll that was told to wait
 abbrev pub is_waiting_poll : {K : Type 0} → Entry K → Bool
 is_waiting_poll e = is_poll e.event && is_pending e.reply
 
--- how far a call with this mark is
+-- how far a call with this mark is; `waited` tells whether a poll of it was told to wait
 abbrev pub phase_by : {K : Type 0} → Bool → Reply K → Phase
 phase_by waited Begun = if waited then Queued else Fresh
 phase_by waited (Ask provider) = Loading
@@ -56,11 +61,12 @@ phase_by waited Pending = Unknown
 phase_by waited NotNow = Unknown
 phase_by waited OutOfMemory = Unknown
 
+-- how far a call is by its last mark, where it has one
 abbrev pub phase_at : {K : Type 0} → Bool → Option (Entry K) → Phase
 phase_at waited None = Unknown
 phase_at waited (Some mark) = phase_by waited mark.reply
 
--- how far a call with these entries is: by the last one that tells it
+-- how far a call with these entries is
 unfoldable pub phase_in : {K : Type 0} → List (Entry K) → Phase
 phase_in entries = phase_at (list_any is_waiting_poll entries) (last_of (filter (λ e. is_mark e.reply) entries))
 
@@ -80,28 +86,31 @@ is_waiting Fresh = true
 is_waiting Queued = true
 is_waiting _ = false
 
+-- told to wait for its turn
 abbrev pub is_queued : Phase → Bool
 is_queued Queued = true
 is_queued _ = false
 
+-- asking a provider
 abbrev pub is_loading : Phase → Bool
 is_loading Loading = true
 is_loading _ = false
 
+-- handed to the service
 abbrev pub is_signing : Phase → Bool
 is_signing Signing = true
 is_signing _ = false
 
--- a begin under the handle that was accepted
+-- whether the entry is an accepted begin under the handle
 abbrev pub is_begin_under : {K : Type 0} → ℕ → Entry K → Bool
 is_begin_under handle e = is_begun e.reply && (call_of e.event).handle == handle
 
--- whether the number is above those of all begun calls of the handle
+-- whether the call's number is above those of all begun calls of its handle
 unfoldable pub is_new_number : {K : Type 0} → List (Entry K) → CallId → Bool
 is_new_number entries call =
     list_all (λ e. not (is_begin_under call.handle e) || nat_lt (call_of e.event).number call.number) entries
 
--- the handle exists, and the number is new
+-- whether the call can be begun: its handle exists, and its number is new
 abbrev pub begin_fits : {K D : Type 0} → Setup D → List (Entry K) → CallId → Bool
 begin_fits setup entries call = is_some (cache_of setup call) && is_new_number entries call
 

@@ -1,4 +1,4 @@
--- The cache that a signer leaves which serves the finished holds of a transcript one after another.
+-- The cache that is left by a signer that serves the holds of a transcript one after another.
 use Rattle.std.specs.Prelude.{ℕ, List, Option, Some, None, filter, fold, slice_get}
 use Rattle.wake_lock.specs.declared.CallId.{CallId}
 use Rattle.sequential_signer.specs.Policy.{Policy}
@@ -9,11 +9,12 @@ use Rattle.sequential_signer.specs.Hold.{hold_input}
 use Rattle.sequential_signer.specs.declared.event.Entry.{Entry}
 use Rattle.sequential_signer.specs.declared.event.Loader.{Loader}
 
--- the cache that a call leaves; one that still asks leaves it as it was
+-- the cache that a call leaves; while it asks, the cache stays as it is
 abbrev pub cache_left : {K : Type 0} → Option K → Progress K → Option K
 cache_left cache (Asking provider) = cache
 cache_left cache (Over outcome left) = left
 
+-- the cache after one more hold
 abbrev pub cache_after : {K D : Type 0} → Policy K D → Option Loader → Option (HoldInput K D) → Option K → Option K
 cache_after policy (Some loader) (Some input) cache = cache_left cache (sequential_call policy cache loader input)
 cache_after policy _ _ cache = cache
@@ -22,7 +23,7 @@ cache_after policy _ _ cache = cache
 abbrev pub served_calls : {K D : Type 0} → Setup D → List (Entry K) → ℕ → List CallId
 served_calls setup entries i = filter (is_served entries) (poll_order setup entries i)
 
--- cache i after these entries: it starts empty, and each served hold runs undisturbed
+-- cache i after these entries: it starts empty, and each served hold runs on it, undisturbed
 unfoldable pub sequential_cache : {K D : Type 0} → Policy K D → Setup D → List (Entry K) → ℕ → Option K
 sequential_cache policy setup entries i =
     fold

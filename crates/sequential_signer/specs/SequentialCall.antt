@@ -9,16 +9,16 @@ use Rattle.sequential_signer.specs.declared.event.Loader.{Loader}
 use Rattle.sequential_signer.specs.declared.event.Loader.TheVariants.{Single, Chain}
 use Rattle.sequential_signer.specs.declared.event.Why.TheVariants as why
 
--- how far the call is: it asks a provider, or it is over, with an outcome and the cache that it leaves
+-- how far the call is: it asks the provider of this number, or it is over, with an outcome and the cache that it leaves
 pub data Progress (K : Type 0) : Type 0 where
   Asking : ℕ → Progress K
   Over : Outcome K → Option K → Progress K
 
--- after so many answers of a chain of n, none of which was a credential
+-- a chain of n providers, after so many answers without a credential
 abbrev pub next_of_chain : {K : Type 0} → ℕ → Option K → ℕ → Progress K
 next_of_chain n cache count = if nat_lt count n then Asking count else Over (Refuse why.Missing) cache
 
--- the load, after so many answers, by the last of them
+-- the load, by the number of answers and the last of them: what was found is cached, and then checked
 abbrev pub load_progress : {K D : Type 0} → Policy K D → Loader → D → Option ℕ → Option K → ℕ → Option (Answer K × ℤ) → Progress K
 load_progress policy loader rule duration cache count (Some (Found c, now)) =
     Over (check_refreshed policy c rule duration now) (Some c)
@@ -34,13 +34,15 @@ abbrev pub after_lookup : {K : Type 0} → Option (Outcome K) → Option K → P
 after_lookup (Some outcome) cache load = Over outcome cache
 after_lookup None cache load = load
 
--- the call's rule, its duration, the moment of its look, and the providers' answers so far, each with its moment
+-- what the call works with: its rule, its duration, the moment of its look, and the providers' answers so far, each with
+-- its moment
 pub record HoldInput (K D : Type 0) : Type 0 where
   pub rule : D
   pub duration : Option ℕ
   pub now : ℤ
   pub answers : List (Answer K × ℤ)
 
+-- the call on this cache: the look, and the load where the look finds nothing that serves
 abbrev pub sequential_call : {K D : Type 0} → Policy K D → Option K → Loader → HoldInput K D → Progress K
 sequential_call policy cache loader i =
     after_lookup

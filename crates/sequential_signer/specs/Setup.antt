@@ -1,4 +1,4 @@
--- What a desk is set up with.
+-- What a signer is set up with.
 use Rattle.std.specs.Prelude.{ℕ, List, Option, Some, None, slice_get, option_map, option_and_then, Bool, ◌==◌, false}
 use Rattle.wake_lock.specs.declared.CallId.{CallId}
 use Rattle.sequential_signer.specs.declared.event.Loader.{Loader}
@@ -8,7 +8,7 @@ pub record Handle : Type 0 where
   pub cache : ℕ
   pub rule : ℕ
 
--- one loader for each cache; the rules; the handles
+-- the loader of each cache, the rules, and the handles
 pub record Setup (D : Type 0) : Type 0 where
   pub loaders : List Loader
   pub rules : List D
@@ -22,6 +22,7 @@ cache_of setup call = option_map (λ h. h.cache) (slice_get setup.handles call.h
 abbrev pub rule_of : {D : Type 0} → Setup D → CallId → Option D
 rule_of setup call = option_and_then (λ h. slice_get setup.rules h.rule) (slice_get setup.handles call.handle)
 
+-- whether a number is there and is this one
 abbrev pub is_number : ℕ → Option ℕ → Bool
 is_number i None = false
 is_number i (Some j) = i == j

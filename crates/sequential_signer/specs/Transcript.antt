@@ -1,4 +1,4 @@
--- Transcripts: what happened at a desk so far, the oldest entry first.
+-- Transcripts: what happened so far, the oldest entry first.
 use Rattle.std.specs.Prelude.{Bool, true, false, not, ◌&&◌, ◌==◌, List, [], ◌∷◌, ◌++◌, Option, Some, None, filter}
 use Rattle.wake_lock.specs.declared.CallId.{CallId}
 use Rattle.sequential_signer.specs.declared.event.Entry.{Entry}
@@ -30,11 +30,12 @@ abbrev pub each_after : {A : Type 0} → List A → List A → List (List A × A
 each_after before [] = []
 each_after before (x ∷ rest) = (before, x) ∷ each_after (before ++ x ∷ []) rest
 
+-- whether the reply says that memory was wanting
 abbrev pub is_out_of_memory : {K : Type 0} → Reply K → Bool
 is_out_of_memory OutOfMemory = true
 is_out_of_memory _ = false
 
--- what counts: the entries that did not want for memory
+-- the entries that count: an event that was answered `OutOfMemory` changed nothing
 unfoldable pub kept : {K : Type 0} → List (Entry K) → List (Entry K)
 kept entries = filter (λ e. not (is_out_of_memory e.reply)) entries
 

@@ -19,11 +19,11 @@ abbrev pub before_call : CallId → List CallId → List CallId
 before_call call [] = []
 before_call call (x ∷ rest) = if same_call call x then [] else x ∷ before_call call rest
 
--- a poll that fits
+-- whether the entry is a poll that fitted
 abbrev pub is_fitting_poll : {K : Type 0} → Entry K → Bool
 is_fitting_poll e = is_poll e.event && not (is_not_now e.reply)
 
--- a poll that fits, of a call of cache i
+-- whether it is one of a call of cache i
 abbrev pub is_poll_at : {K D : Type 0} → Setup D → ℕ → Entry K → Bool
 is_poll_at setup i e = is_fitting_poll e && is_of_cache setup i (call_of e.event)
 
@@ -32,29 +32,31 @@ unfoldable pub poll_order : {K D : Type 0} → Setup D → List (Entry K) → �
 poll_order setup entries i =
     first_of_each (map (λ e. call_of e.event) (filter (is_poll_at setup i) entries))
 
--- the other calls of cache i that were polled before the call first was
+-- the other calls of cache i that were polled before this one first was
 abbrev pub calls_ahead : {K D : Type 0} → Setup D → List (Entry K) → ℕ → CallId → List CallId
 calls_ahead setup entries i call = before_call call (poll_order setup entries i)
 
+-- whether the reply ends its call's hold: a credential, a refusal, or a cancel
 abbrev pub ends_hold : {K : Type 0} → Reply K → Bool
 ends_hold (Sign credential wake) = true
 ends_hold (Refused why wake) = true
 ends_hold (Cancelled wake) = true
 ends_hold _ = false
 
+-- whether it ends the hold by a credential or a refusal
 abbrev pub serves : {K : Type 0} → Reply K → Bool
 serves (Sign credential wake) = true
 serves (Refused why wake) = true
 serves _ = false
 
--- whether the call's hold has ended, by a credential, a refusal or a cancel
+-- whether the call's hold is over
 unfoldable pub hold_is_finished : {K : Type 0} → List (Entry K) → CallId → Bool
 hold_is_finished entries call = list_any (λ e. ends_hold e.reply) (entries_of entries call)
 
--- whether the call's hold has ended by a credential or a refusal
+-- whether it ended in a credential or a refusal
 unfoldable pub is_served : {K : Type 0} → List (Entry K) → CallId → Bool
 is_served entries call = list_any (λ e. serves e.reply) (entries_of entries call)
 
--- whether it is the call's turn at cache i: each call ahead of it is finished
+-- whether it is the call's turn at cache i: the hold of each call ahead of it is over
 unfoldable pub has_turn : {K D : Type 0} → Setup D → List (Entry K) → ℕ → CallId → Bool
 has_turn setup entries i call = list_all (hold_is_finished entries) (calls_ahead setup entries i call)

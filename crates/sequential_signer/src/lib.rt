@@ -1,5 +1,5 @@
-//! What a signer that serves one call at a time replies: events, replies, and the definitions that
-//! every contract above cites, in specs/.
+//! What a signer that serves one call at a time replies: events, replies and entries, and over them,
+//! in specs/, the definitions that every contract above cites.
 #![tactic(auto)]
 
 pub mod event;
