@@ -1,0 +1,4 @@
+pub mod Sorting
+pub mod Joined
+pub mod PairOrder
+pub mod QuerySize

@@ -1,0 +1,8 @@
+use Rattle.std.proofs.Common.{◌≡◌, map, filter, not, length, ◌==◌}
+use Rattle.sign_request.specs.Query.{read_pair, text_pairs}
+use Rattle.sign_request.proofs.query.read_query.Given as goal
+
+-- the pairs so far are read from the pieces so far
+abbrev pub invariant-loop-piece : goal.invariant-loop-piece
+invariant-loop-piece l =
+    text_pairs l.pairs.items ≡ map read_pair (filter (λ piece. not (length piece == 0)) (map (λ piece. piece.now) l.yielded))

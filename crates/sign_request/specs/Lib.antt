@@ -1,0 +1,4 @@
+pub mod Query
+pub mod CanonicalText
+pub mod PairForm
+pub mod Request

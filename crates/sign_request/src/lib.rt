@@ -1,0 +1,11 @@
+//! The view of a request head that a service signs, and the bridge between the heads of `http` and
+//! plain ones.
+#![tactic(auto)]
+
+mod pair_form;
+mod query;
+mod query_view;
+mod request;
+mod text;
+
+pub use request::{SigningMethod, SigningRequest};

@@ -1,0 +1,35 @@
+//! Reading a query into pairs, for a view and for the test that it still fits its head.
+ghost use Rattle.std.specs.Prelude.{◌≡◌, IfOk, string_bytes};
+ghost use Rattle.sign_request.specs.Query.{decoded, read_pair, query_pairs, text_pair, text_pairs};
+
+use percent_encoding::percent_decode_str;
+use std::alloc::{AllocError, Global};
+
+/// The pairs of a query, in order: cut at each `&`, without empty pieces.
+pub(crate) fn read_query(alloc: Global, query: &str) -> Result<Vec<(String, String)>, AllocError>
+    ensures { IfOk result (λ pairs. text_pairs pairs.items ≡ query_pairs query.now) }
+{
+    let mut pairs = Vec::new(alloc);
+    for piece in query.split('&') {
+        if !piece.is_empty() {
+            pairs.push(read_pair(alloc, piece)?)?;
+        }
+    }
+    Ok(pairs)
+}
+
+// A piece cut at its first `=`, each side decoded once.
+fn read_pair(alloc: Global, piece: &str) -> Result<(String, String), AllocError>
+    ensures { IfOk result (λ pair. text_pair pair ≡ read_pair piece.now) }
+{
+    let (key, value) = piece.split_once('=').unwrap_or((piece, ""));
+    Ok((decode(alloc, key)?, decode(alloc, value)?))
+}
+
+/// The text decoded once, with U+FFFD for each sequence that is not UTF-8.
+#[tactic(auto, unfolding(crate::specs::Query::decoded))]
+pub(crate) fn decode(alloc: Global, text: &str) -> Result<String, AllocError>
+    ensures { IfOk result (λ plain. string_bytes plain ≡ decoded text.now) }
+{
+    percent_decode_str(text).decode_utf8_lossy(alloc)?.into_owned(alloc)
+}
