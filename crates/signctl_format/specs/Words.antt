@@ -1,0 +1,46 @@
+-- A line is parted into words by single spaces. Numbers and names are words.
+use Rattle.std.specs.Prelude.{◌≡◌, ℕ, Bool, true, false, not, ◌&&◌, ◌==◌, nat_le, List, [], ◌∷◌, ◌++◌, Option, Some, None, if◌then◌else◌, flat_map}
+use Rattle.std.specs.List.{slice_split, list_all}
+use Rattle.std.specs.Str.{bytes_eq}
+use Rattle.std.specs.Str.Parse.{digits_value}
+use Rattle.std.specs.Fmt.{decimal}
+
+abbrev pub is_space : ℕ → Bool
+is_space b = b == 32
+
+-- the words of a line: what stands before, between and behind its spaces
+abbrev pub words : List ℕ → List (List ℕ)
+words line = slice_split is_space line
+
+-- words after the first, each behind a space
+abbrev pub spaced : List (List ℕ) → List ℕ
+spaced rest = flat_map (λ word. 32 ∷ word) rest
+
+-- the line that these words make
+abbrev pub line_of : List (List ℕ) → List ℕ
+line_of [] = []
+line_of (word ∷ rest) = word ++ spaced rest
+
+-- the greatest numbers of 32 and of 64 bits
+abbrev pub greatest_u32 : ℕ
+greatest_u32 = 4_294_967_295
+
+abbrev pub greatest_u64 : ℕ
+greatest_u64 = 18_446_744_073_709_551_615
+
+-- the number up to a limit that a word spells: it has no sign, no leading zero and digits alone
+abbrev pub number_of : ℕ → List ℕ → Option ℕ
+number_of limit word =
+    let n = digits_value 10 word in
+    if bytes_eq word (decimal n) && nat_le n limit then Some n else None
+
+abbrev pub is_visible : ℕ → Bool
+is_visible b = nat_le 33 b && nat_le b 126
+
+abbrev pub is_empty : List ℕ → Bool
+is_empty [] = true
+is_empty (b ∷ rest) = false
+
+-- a method or a URI: one or more visible bytes, taken as they are
+abbrev pub is_target : List ℕ → Bool
+is_target word = not (is_empty word) && list_all is_visible word

@@ -1,0 +1,72 @@
+//! The credential and the deadline rules of scripts.
+ghost use Rattle.std.specs.Prelude.{◌≡◌, IfOk, option_map};
+ghost use Rattle.std.specs.Duration.{as_nanos};
+
+use credentials::{DeadlineRule, SigningCredential};
+use sign_base::{NoMemory, Timestamp};
+use std::alloc::Global;
+use std::time::Duration;
+
+/// A credential that is written out in a script.
+#[derive(Clone, Copy, Debug, PartialEq, Eq)]
+pub struct ScriptCredential {
+    pub generation: u64,
+    /// It is valid before this moment.
+    pub fresh: Timestamp,
+    /// It is valid at every moment before this one, whatever the time is.
+    pub expires: Timestamp,
+    /// What the rule `cred` asks for.
+    pub required: Timestamp,
+}
+
+impl SigningCredential for ScriptCredential {
+    ghost use Rattle.signctl_format.specs.Policy.{script_valid, script_valid_at};
+
+    ghost valid = { script_valid };
+
+    ghost valid_at = { script_valid_at };
+
+    fn is_valid(&self, now: Timestamp) -> bool {
+        now < self.fresh
+    }
+
+    fn is_valid_at(&self, ts: Timestamp, _now: Timestamp) -> bool {
+        ts < self.expires
+    }
+
+    fn try_clone(&self, _alloc: Global) -> Result<ScriptCredential, NoMemory<()>> {
+        Ok(*self)
+    }
+}
+
+/// How long a credential has to last.
+#[derive(Clone, Copy, Debug, PartialEq, Eq)]
+pub enum ScriptRule {
+    /// To the end of the operation.
+    Now,
+    /// To the moment that the credential itself names.
+    Cred,
+}
+
+impl DeadlineRule for ScriptRule {
+    ghost use Rattle.signctl_format.specs.Policy.{script_deadline};
+
+    type Credential = ScriptCredential;
+
+    ghost deadline = { script_deadline };
+
+    fn required_valid_until(
+        &self,
+        credential: &ScriptCredential,
+        expires_in: Option<Duration>,
+        now: Timestamp,
+    ) -> Option<Timestamp> {
+        match self {
+            ScriptRule::Now => match expires_in {
+                Some(duration) => now.checked_add(duration),
+                None => Some(now),
+            },
+            ScriptRule::Cred => Some(credential.required),
+        }
+    }
+}

@@ -1,0 +1,16 @@
+//! What a line of a script says.
+use crate::{ScriptCredential, ScriptRule};
+use sequential_signer::{Event, Loader};
+
+/// One line of a script.
+#[derive(Debug, Drop)]
+pub enum Item {
+    /// An empty line, or one that begins with `#`.
+    Silent,
+    /// A cache with this loader.
+    Cache(Loader),
+    /// A handle on a cache, with a deadline rule.
+    Handle { cache: u32, rule: ScriptRule },
+    /// Something that happens to a call.
+    Event(Event<ScriptCredential>),
+}

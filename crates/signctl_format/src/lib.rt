@@ -1,0 +1,15 @@
+//! The lines of `signctl script`: what each line says, and how replies are written.
+//!
+//! The grammar stands in specs/: `Spells` says which lines spell an item, `item_of` decides it.
+#![tactic(auto)]
+
+pub mod credential;
+pub mod item;
+pub mod print;
+mod text;
+
+pub use credential::{ScriptCredential, ScriptRule};
+pub use item::Item;
+pub use print::{
+    Cause, push_cache, push_fault, push_final, push_handle, push_reply, push_too_much,
+};
