@@ -1,0 +1,33 @@
+//! Three calls that want one cache.
+
+ghost use Rattle.worked_scripts.specs.Waiters.{WaitersReuseTheFoundCredential, FailedLoadWakesTheNext, CancelledLoadWakesTheNext, CancelledTurnWakesTheNext, CancelledWaiterIsPassedOver, FirstPollsSetTheOrder};
+
+/// Each waiter is handed what the first call found.
+pub fn waiters_reuse_the_found_credential()
+    ensures { WaitersReuseTheFoundCredential }
+{}
+
+/// A failed load wakes the next call, which loads for itself.
+pub fn failed_load_wakes_the_next()
+    ensures { FailedLoadWakesTheNext }
+{}
+
+/// A cancel of the call that loads wakes the next.
+pub fn cancelled_load_wakes_the_next()
+    ensures { CancelledLoadWakesTheNext }
+{}
+
+/// A woken call that is cancelled hands its turn on.
+pub fn cancelled_turn_wakes_the_next()
+    ensures { CancelledTurnWakesTheNext }
+{}
+
+/// A waiter that is cancelled wakes nobody.
+pub fn cancelled_waiter_is_passed_over()
+    ensures { CancelledWaiterIsPassedOver }
+{}
+
+/// The order of first polls counts, and not that of begins.
+pub fn first_polls_set_the_order()
+    ensures { FirstPollsSetTheOrder }
+{}
