@@ -1,0 +1,3 @@
+pub mod HashLengths
+pub mod LongKeys
+pub mod Masking
