@@ -4,4 +4,7 @@ pub mod Refine
 pub mod RefinePoll
 pub mod RefineAccept
 pub mod RefineFound
+pub mod RefineStep
+pub mod IsSetUp
 pub mod Fresh
+pub mod Holds

@@ -14,7 +14,7 @@ use Rattle.sequential_signer.specs.SequentialCache.{sequential_cache}
 use Rattle.sequential_signer.specs.ReplyDue.{reply_due, reply_at}
 use Rattle.sequential_signer.specs.Legal.{IsLegal, allocates}
 use Rattle.sequential_signer.specs.LiveCall.{live_call, greatest_begun, greater}
-use Rattle.sign_desk.specs.Kept.{Kept, setup_of, find_call, live_view, Represents}
+use Rattle.sign_desk.specs.Kept.{Kept, setup_of, find_call, live_view, was_begun, Represents}
 use Rattle.sequential_signer.specs.LiveCall.{is_above}
 use Rattle.sign_desk.specs.Moves.{Keeps, BeginMoves, begin_fits_kept, is_new_at}
 use Rattle.sign_desk.specs.declared.calls.CallRecord.{CallRecord}
@@ -23,6 +23,7 @@ use Rattle.sequential_signer.specs.declared.event.Event.{Event}
 use Rattle.sequential_signer.specs.declared.event.Event.TheVariants.{Begin}
 use Rattle.sequential_signer.specs.declared.event.Reply.{Reply}
 use Rattle.sequential_signer.specs.declared.event.Reply.TheVariants.{Begun, Pending, NotNow, OutOfMemory, Ask, Sign, Refused, Done, Cancelled}
+use Rattle.sequential_signer.proofs.Lists.{list_any-more, or_false, or_true}
 use Rattle.sequential_signer.proofs.CallNames.{same_call-eq, same_call-refl, same_call-comm, number_refl, and_left, and_right}
 use Rattle.sequential_signer.proofs.OwnEntries.{entries_of-own, entries_of-other, begin_in-new}
 use Rattle.sequential_signer.proofs.Places.{slice_get-set_same, slice_get-set_other, is_true, same_number, other_number}
@@ -51,19 +52,21 @@ module _ {K D : Type 0} (policy : Policy K D) where
 
     -- an entry with the reply that is due, and what is kept after it
     pub represents-more : (new : Kept K D) (event : Event K) (reply : Reply K) → reply ≡ reply_due policy (setup_of old) (kept entries) event → is_out_of_memory reply ≡ false
-        → (caches : List (Option K)) (greatest : List (Option ℕ)) (r : Option CallRecord) → Keeps old caches greatest (call_of event) r new
+        → (caches : List (Option K)) (greatest : List (Option ℕ)) (started : Bool) (r : Option CallRecord) → Keeps (record old { caches = caches; greatest = greatest; started = started }) (call_of event) r new
         → ((i : ℕ) → slice_get caches i ≡ option_map (λ _. sequential_cache policy (setup_of old) (kept entries ++ record { event = event; reply = reply } ∷ []) i) (slice_get old.loaders i))
         → ((h : ℕ) → slice_get greatest h ≡ option_map (λ _. greatest_begun h (kept entries ++ record { event = event; reply = reply } ∷ [])) (slice_get old.handles h))
+        → started ≡ was_begun (kept entries ++ record { event = event; reply = reply } ∷ [])
         → option_map live_view r ≡ live_call (kept entries ++ record { event = event; reply = reply } ∷ []) (call_of event)
         → Represents policy new (entries ++ record { event = event; reply = reply } ∷ [])
-    represents-more new event reply due counts caches greatest r keeps cache_law greatest_law own_law =
+    represents-more new event reply due counts caches greatest started r keeps cache_law greatest_law started_law own_law =
         let e : Entry K = record { event = event; reply = reply } in
         let same : setup_of new ≡ setup_of old = setup_same new keeps.loaders keeps.rules keeps.handles in
         let k : kept (entries ++ record { event = event; reply = reply } ∷ []) ≡ kept entries ++ record { event = event; reply = reply } ∷ [] = kept-more entries e counts in
         record {
           legal = subst (λ s. IsLegal policy s (entries ++ record { event = event; reply = reply } ∷ [])) (sym same) (legal-more policy (setup_of old) entries e stood.legal (inl due));
-          caches = λ i. rw (keeps.caches_are, keeps.loaders, keeps.rules, keeps.handles, k) (cache_law i);
-          greatest = λ h. rw (keeps.greatest_are, keeps.handles, k) (greatest_law h);
+          caches = λ i. rw (keeps.caches, keeps.loaders, keeps.rules, keeps.handles, k) (cache_law i);
+          greatest = λ h. rw (keeps.greatest, keeps.handles, k) (greatest_law h);
+          started = rw (keeps.started, k) started_law;
           calls = λ call. rw k (call_by call (same_call call (call_of event)) refl);
         }
       where
@@ -85,22 +88,28 @@ module _ {K D : Type 0} (policy : Policy K D) where
           legal = legal-more policy (setup_of old) entries e stood.legal (inr (refl, takes));
           caches = λ i. rw k (stood.caches i);
           greatest = λ h. rw k (stood.greatest h);
+          started = rw k stood.started;
           calls = λ call. rw k (stood.calls call);
         }
 
     pub greatest_same : (e : Entry K) → is_begun e.reply ≡ false → (h : ℕ) → greatest_begun h (kept entries ++ e ∷ []) ≡ greatest_begun h (kept entries)
     greatest_same e b h = greatest_begun-more h (kept entries) e ∙ ap (λ v. cond (v && (call_of e.event).handle == h) (greater (call_of e.event).number (greatest_begun h (kept entries))) (greatest_begun h (kept entries))) b
 
-    pub keeps_old : (call : CallId) → Keeps old old.caches old.greatest call (find_call call old.calls) old
-    keeps_old call = record { loaders = refl; rules = refl; handles = refl; caches_are = refl; greatest_are = refl; this_call = refl; other_calls = λ _ _. refl }
+    -- whether a begin was accepted stays
+    pub started_same : (e : Entry K) → is_begun e.reply ≡ false → old.started ≡ was_begun (kept entries ++ e ∷ [])
+    started_same e b = stood.started ∙ sym (list_any-more (λ (x : Entry K). is_begun x.reply) (kept entries) e ∙ ap (λ v. was_begun (kept entries) || v) b ∙ or_false (was_begun (kept entries)))
+
+    pub keeps_old : (call : CallId) → Keeps old call (find_call call old.calls) old
+    keeps_old call = record { loaders = refl; rules = refl; handles = refl; caches = refl; greatest = refl; started = refl; this_call = refl; other_calls = λ _ _. refl }
 
     -- an event that does not fit
     pub represents-not_now : (event : Event K) → NotNow ≡ reply_due policy (setup_of old) (kept entries) event → Represents policy old (entries ++ record { event = event; reply = NotNow } ∷ [])
     represents-not_now event due =
         let e : Entry K = record { event = event; reply = NotNow } in
-        represents-more old event NotNow due refl old.caches old.greatest (find_call (call_of event) old.calls) (keeps_old (call_of event))
+        represents-more old event NotNow due refl old.caches old.greatest old.started (find_call (call_of event) old.calls) (keeps_old (call_of event))
         (λ i. stood.caches i ∙ ap (λ c. option_map (λ _. c) (slice_get old.loaders i)) (sym (stays_not_now policy (setup_of old) (kept entries) ran event i)))
         (λ h. stood.greatest h ∙ ap (λ c. option_map (λ _. c) (slice_get old.handles h)) (sym (greatest_same e refl h)))
+        (started_same e refl)
         (stood.calls (call_of event) ∙ sym (live_refused event))
       where
         live_refused : (event : Event K) → live_call (kept entries ++ record { event = event; reply = NotNow } ∷ []) (call_of event) ≡ live_call (kept entries) (call_of event)
@@ -192,9 +201,10 @@ module _ {K D : Type 0} (policy : Policy K D) where
         let fits : begin_fits (setup_of old) (kept entries) call ≡ true = sym (fits_same call) ∙ m.0 in
         let e : Entry K = record { event = Begin call head expires_in; reply = Begun } in
         represents-more new (Begin call head expires_in) Begun (begun_due call head expires_in fits) refl
-        old.caches (slice_set old.greatest call.handle (Some call.number)) (Some (record { stage = stage.Fresh; head = head; expires_in = expires_in; answers = 0 })) m.1
+        old.caches (slice_set old.greatest call.handle (Some call.number)) true (Some (record { stage = stage.Fresh; head = head; expires_in = expires_in; answers = 0 })) m.1
         (λ i. stood.caches i ∙ ap (λ c. option_map (λ _. c) (slice_get old.loaders i)) (sym (stays_other policy (setup_of old) (kept entries) ran e refl refl i)))
         (λ h. greatest_begins call head expires_in fits h (call.handle == h) refl)
+        (sym (list_any-more (λ (x : Entry K). is_begun x.reply) (kept entries) e ∙ or_true (was_begun (kept entries))))
         (own_begun call head expires_in (and_right _ _ fits) (cache_of (setup_of old) call) refl (and_left _ _ fits))
     represents-begin call head expires_in Pending new m = absurd m
     represents-begin call head expires_in (Ask k) new m = absurd m

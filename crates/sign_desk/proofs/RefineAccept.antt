@@ -21,7 +21,7 @@ use Rattle.sequential_signer.specs.declared.event.Verdict.TheVariants.{Accepted}
 use Rattle.sequential_signer.proofs.CallNames.{same_call-refl}
 use Rattle.sequential_signer.proofs.Standing.{phase-own_mark, begin-own}
 use Rattle.sequential_signer.proofs.CacheRows.{stays_other}
-use Rattle.sign_desk.proofs.Refine.{ran, represents-more, represents-lost, represents-not_now, greatest_same}
+use Rattle.sign_desk.proofs.Refine.{ran, represents-more, represents-lost, represents-not_now, greatest_same, started_same}
 use Rattle.sign_desk.proofs.RefinePoll.{Tells, live_tells, not_live}
 
 signing_live : (p : Phase) → is_live p ≡ false → is_signing p ≡ false
@@ -68,9 +68,10 @@ module _ {K D : Type 0} (policy : Policy K D) (old : Kept K D) (entries : List (
         let p : phase_of (kept entries ++ record { event = Signed call (Accepted candidate); reply = Done h } ∷ []) call ≡ Ended = phase-own_mark (setup_of old) (kept entries) i entry call (same_call-refl call) refl in
         let b : begin_of (kept entries ++ record { event = Signed call (Accepted candidate); reply = Done h } ∷ []) call ≡ begin_of (kept entries) call = begin-own (setup_of old) (kept entries) i entry call (same_call-refl call) refl in
         rw (m.0)
-        (represents-more policy old entries stood new (Signed call (Accepted candidate)) (Done h) (accepted (ap (λ x. is_signing (phase_of_stage x)) e)) refl old.caches old.greatest None m.1
+        (represents-more policy old entries stood new (Signed call (Accepted candidate)) (Done h) (accepted (ap (λ x. is_signing (phase_of_stage x)) e)) refl old.caches old.greatest old.started None m.1
         (λ j. stood.caches j ∙ ap (λ c. option_map (λ _. c) (slice_get old.loaders j)) (sym (stays_other policy (setup_of old) (kept entries) (ran policy old entries stood) entry refl refl j)))
         (λ k. stood.greatest k ∙ ap (λ c. option_map (λ _. c) (slice_get old.handles k)) (sym (greatest_same policy old entries stood entry refl k)))
+        (started_same policy old entries stood entry refl)
         (rw (p, b, told.begin) refl))
 
   accept_by : (o : Option ℕ) → cache_of (setup_of old) call ≡ o → (f : Option CallRecord) → find_call call old.calls ≡ f → (reply : Reply K) (new : Kept K D) → AcceptBy old call candidate o f reply new → Represents policy new (entries ++ record { event = Signed call (Accepted candidate); reply = reply } ∷ [])

@@ -40,7 +40,7 @@ use Rattle.sequential_signer.proofs.CacheRows.{serves_got}
 use Rattle.sequential_signer.proofs.LoadLaw.{LoadsOn, loads_on}
 use Rattle.sign_desk.proofs.Alone.{wakes_nobody}
 use Rattle.sequential_signer.proofs.Places.{slice_get-set_same, slice_get-set_other, same_number, other_number}
-use Rattle.sign_desk.proofs.Refine.{ran, represents-more, represents-lost, represents-not_now, greatest_same}
+use Rattle.sign_desk.proofs.Refine.{ran, represents-more, represents-lost, represents-not_now, greatest_same, started_same}
 use Rattle.sign_desk.proofs.RefinePoll.{Tells, live_tells, not_live, alone}
 
 loading_live : (p : Phase) → is_live p ≡ false → is_loading p ≡ false
@@ -191,13 +191,13 @@ module _ {K D : Type 0} (policy : Policy K D) where
         store_represents (Some (Refuse cause)) h reply new (inr m) = rw (m.0, m.1) lost
         store_represents (Some (HandOut d)) h reply new (inl m) =
             rw (m.0)
-            (represents-more policy old entries stood new (Provided call now (Found c)) (Sign d None) (sym (wakes_none (Sign d None)) ∙ kept_due (Some (HandOut d)) h) refl (slice_set old.caches i (Some c)) old.greatest (Some (answered r)) m.1
-            (store_caches (HandOut d) h refl) (store_greatest (Sign d None) refl)
+            (represents-more policy old entries stood new (Provided call now (Found c)) (Sign d None) (sym (wakes_none (Sign d None)) ∙ kept_due (Some (HandOut d)) h) refl (slice_set old.caches i (Some c)) old.greatest old.started (Some (answered r)) m.1
+            (store_caches (HandOut d) h refl) (store_greatest (Sign d None) refl) (started_same policy old entries stood (record { event = Provided call now (Found c); reply = Sign d None }) refl)
             (rw (phase_after (Sign d None) refl, begin_after (Sign d None) refl, count_after (Sign d None) refl) refl))
         store_represents (Some (Refuse cause)) h reply new (inl m) =
             rw (m.0)
-            (represents-more policy old entries stood new (Provided call now (Found c)) (Refused cause None) (sym (wakes_none (Refused cause None)) ∙ kept_due (Some (Refuse cause)) h) refl (slice_set old.caches i (Some c)) old.greatest None m.1
-            (store_caches (Refuse cause) h refl) (store_greatest (Refused cause None) refl)
+            (represents-more policy old entries stood new (Provided call now (Found c)) (Refused cause None) (sym (wakes_none (Refused cause None)) ∙ kept_due (Some (Refuse cause)) h) refl (slice_set old.caches i (Some c)) old.greatest old.started None m.1
+            (store_caches (Refuse cause) h refl) (store_greatest (Refused cause None) refl) (started_same policy old entries stood (record { event = Provided call now (Found c); reply = Refused cause None }) refl)
             (rw (phase_after (Refused cause None) refl, begin_after (Refused cause None) refl) refl))
 
       found_stage : (s : Stage) → r.stage ≡ s → (reply : Reply K) (new : Kept K D) → FoundAt policy old call now c i r (phase_of_stage s) reply new → Represents policy new (entries ++ record { event = Provided call now (Found c); reply = reply } ∷ [])

@@ -37,7 +37,7 @@ use Rattle.sequential_signer.proofs.CacheLaw.{cache_other}
 use Rattle.sequential_signer.proofs.CacheRows.{stays_other, stays_unserved, serves_looked}
 use Rattle.sign_desk.proofs.Alone.{has_turn-alone, wakes_nobody, begun_live}
 use Rattle.sequential_signer.proofs.Places.{same_number, other_number}
-use Rattle.sign_desk.proofs.Refine.{ran, represents-more, represents-lost, represents-not_now, keeps_old, greatest_same}
+use Rattle.sign_desk.proofs.Refine.{ran, represents-more, represents-lost, represents-not_now, keeps_old, greatest_same, started_same}
 
 -- what a record that is kept says of its call
 pub record Tells (l : LiveCall) (p : Phase) (n : ℕ) (b : Option BeginInput) : Type 0 where
@@ -130,9 +130,10 @@ module _ {K D : Type 0} (policy : Policy K D) where
         let p : phase_of (kept entries ++ record { event = Poll call now; reply = Pending } ∷ []) call ≡ phase_of (kept entries) call = pending_phase policy (setup_of old) (kept entries) i call at now (phase_of (kept entries) call) refl ∙ ap to_queued t.phase ∙ stays ∙ sym t.phase in
         let a : answers_of (kept entries ++ record { event = Poll call now; reply = Pending } ∷ []) call ≡ answers_of (kept entries) call = answers-own_none (setup_of old) (kept entries) i e call (same_call-refl call) refl in
         let b : begin_of (kept entries ++ record { event = Poll call now; reply = Pending } ∷ []) call ≡ begin_of (kept entries) call = begin_stays e refl refl in
-        represents-more policy old entries stood old (Poll call now) Pending (poll_busy i at t.live (ap is_waiting t.phase ∙ busy)) refl old.caches old.greatest (find_call call old.calls) (keeps_old policy old entries stood call)
+        represents-more policy old entries stood old (Poll call now) Pending (poll_busy i at t.live (ap is_waiting t.phase ∙ busy)) refl old.caches old.greatest old.started (find_call call old.calls) (keeps_old policy old entries stood call)
         (λ j. stood.caches j ∙ ap (λ c. option_map (λ _. c) (slice_get old.loaders j)) (sym (stays_other policy (setup_of old) (kept entries) (ran policy old entries stood) e refl refl j)))
         (λ h. stood.greatest h ∙ ap (λ c. option_map (λ _. c) (slice_get old.handles h)) (sym (greatest_same policy old entries stood e refl h)))
+        (started_same policy old entries stood e refl)
         (stood.calls call ∙ rw (p, a, b) refl)
 
     module _ (i : ℕ) (r : CallRecord) (at : cache_of (setup_of old) call ≡ Some i) (f : find_call call old.calls ≡ Some r) (waiting : is_waiting (phase_of_stage r.stage) ≡ true) where
@@ -226,15 +227,17 @@ module _ {K D : Type 0} (policy : Policy K D) where
       look_represents None h reply new m = rw (m.0, m.1) (represents-not_now policy old entries stood (Poll call now) (look_due None h))
       look_represents (Some (Asking k)) h reply new m =
           rw (m.0)
-          (represents-more policy old entries stood new (Poll call now) (Ask k) (look_due (Some (Asking k)) h) refl old.caches old.greatest (Some (at_stage stage.Loading r)) m.1
+          (represents-more policy old entries stood new (Poll call now) (Ask k) (look_due (Some (Asking k)) h) refl old.caches old.greatest old.started (Some (at_stage stage.Loading r)) m.1
           (look_caches (Ask k) (stays_unserved policy (setup_of old) (kept entries) (ran policy old entries stood) (record { event = Poll call now; reply = Ask k }) wait.unserved refl))
           (look_greatest (Ask k) refl)
+          (started_same policy old entries stood (record { event = Poll call now; reply = Ask k }) refl)
           (rw (phase_after (Ask k) refl, answers_after (Ask k), begin_stays (record { event = Poll call now; reply = Ask k }) refl refl, told.begin, told.answers) refl))
       look_represents (Some (Over (HandOut c) left)) h reply new (inl m) =
           rw (m.0)
-          (represents-more policy old entries stood new (Poll call now) (Sign c None) (sym (wakes_none (Sign c None)) ∙ look_due (Some (Over (HandOut c) left)) h) refl old.caches old.greatest (Some (at_stage stage.Signing r)) m.1
+          (represents-more policy old entries stood new (Poll call now) (Sign c None) (sym (wakes_none (Sign c None)) ∙ look_due (Some (Over (HandOut c) left)) h) refl old.caches old.greatest old.started (Some (at_stage stage.Signing r)) m.1
           (look_caches (Sign c None) (ends_caches (HandOut c) left h refl))
           (look_greatest (Sign c None) refl)
+          (started_same policy old entries stood (record { event = Poll call now; reply = Sign c None }) refl)
           (rw (phase_after (Sign c None) refl, answers_after (Sign c None), begin_stays (record { event = Poll call now; reply = Sign c None }) refl refl, told.begin, told.answers) refl))
       look_represents (Some (Over (HandOut c) left)) h reply new (inr m) =
           rw (m.0, m.1)
@@ -243,9 +246,10 @@ module _ {K D : Type 0} (policy : Policy K D) where
           rw (told.live, sym due) refl))
       look_represents (Some (Over (Refuse cause) left)) h reply new m =
           rw (m.0)
-          (represents-more policy old entries stood new (Poll call now) (Refused cause None) (sym (wakes_none (Refused cause None)) ∙ look_due (Some (Over (Refuse cause) left)) h) refl old.caches old.greatest None m.1
+          (represents-more policy old entries stood new (Poll call now) (Refused cause None) (sym (wakes_none (Refused cause None)) ∙ look_due (Some (Over (Refuse cause) left)) h) refl old.caches old.greatest old.started None m.1
           (look_caches (Refused cause None) (ends_caches (Refuse cause) left h refl))
           (look_greatest (Refused cause None) refl)
+          (started_same policy old entries stood (record { event = Poll call now; reply = Refused cause None }) refl)
           (rw (phase_after (Refused cause None) refl, begin_stays (record { event = Poll call now; reply = Refused cause None }) refl refl, told.begin) refl))
 
     poll_stage : (i : ℕ) (r : CallRecord) → cache_of (setup_of old) call ≡ Some i → find_call call old.calls ≡ Some r → (s : Stage) → r.stage ≡ s → (reply : Reply K) (new : Kept K D) → PollAt policy old call now r (phase_of_stage s) reply new → Represents policy new (entries ++ record { event = Poll call now; reply = reply } ∷ [])

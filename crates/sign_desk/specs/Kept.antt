@@ -1,10 +1,11 @@
 -- What a desk keeps, and the transcripts that it stands for.
-use Rattle.std.specs.Prelude.{◌≡◌, ℕ, List, [], ◌∷◌, Option, Some, None, slice_get, option_map, is_some, true, if◌then◌else◌, length, max}
+use Rattle.std.specs.Prelude.{◌≡◌, ℕ, List, [], ◌∷◌, Option, Some, None, slice_get, option_map, is_some, Bool, true, if◌then◌else◌, length, max}
+use Rattle.std.specs.List.{list_any}
 use Rattle.wake_lock.specs.declared.CallId.{CallId}
 use Rattle.sequential_signer.specs.Policy.{Policy}
 use Rattle.sequential_signer.specs.Setup.{Setup, Handle}
 use Rattle.sequential_signer.specs.Transcript.{same_call, call_of, kept}
-use Rattle.sequential_signer.specs.Phase.{Phase, Unknown, Fresh, Queued, Loading, Signing, Ended, phase_of, is_begin_under}
+use Rattle.sequential_signer.specs.Phase.{Phase, Unknown, Fresh, Queued, Loading, Signing, Ended, is_begun, phase_of}
 use Rattle.sequential_signer.specs.LiveCall.{LiveCall, live_call, greatest_begun}
 use Rattle.sequential_signer.specs.SequentialCache.{sequential_cache}
 use Rattle.sequential_signer.specs.Legal.{IsLegal}
@@ -29,13 +30,14 @@ live_view r = record {
   answers = r.answers;
 }
 
--- what a desk keeps: its setup, each cache, the greatest number begun under each handle, and the live calls
+-- what a desk keeps: its setup, each cache, the greatest number begun under each handle, whether a begin was accepted, and the live calls
 pub record Kept (K D : Type 0) : Type 0 where
   pub loaders : List Loader
   pub rules : List D
   pub handles : List Handle
   pub caches : List (Option K)
   pub greatest : List (Option ℕ)
+  pub started : Bool
   pub calls : List (CallId × CallRecord)
 
 abbrev pub setup_of : {K D : Type 0} → Kept K D → Setup D
@@ -50,9 +52,14 @@ find_call call ((id, live) ∷ rest) = if same_call call id then Some live else 
 abbrev pub AtMostOne : List (CallId × CallRecord) → Type 0
 AtMostOne calls = (a b : CallId) → is_some (find_call a calls) ≡ true → is_some (find_call b calls) ≡ true → same_call a b ≡ true
 
+-- whether a begin was accepted
+abbrev pub was_begun : {K : Type 0} → List (Entry K) → Bool
+was_begun entries = list_any (λ e. is_begun e.reply) entries
+
 -- the desk stands for the transcript
 pub record Represents {K D : Type 0} (policy : Policy K D) (desk : Kept K D) (entries : List (Entry K)) : Type 0 where
   pub legal : IsLegal policy (setup_of desk) entries
   pub caches : (i : ℕ) → slice_get desk.caches i ≡ option_map (λ _. sequential_cache policy (setup_of desk) (kept entries) i) (slice_get desk.loaders i)
   pub greatest : (h : ℕ) → slice_get desk.greatest h ≡ option_map (λ _. greatest_begun h (kept entries)) (slice_get desk.handles h)
+  pub started : desk.started ≡ was_begun (kept entries)
   pub calls : (call : CallId) → option_map live_view (find_call call desk.calls) ≡ live_call (kept entries) call

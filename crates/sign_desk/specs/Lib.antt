@@ -1,5 +1,7 @@
 pub mod Kept
-pub mod DeskView
+pub mod StateView
+pub mod Adding
+pub mod IsDesk
 pub mod Moves
 pub mod LookSays
 pub mod JudgeSays

@@ -2,8 +2,8 @@
 use Rattle.std.specs.Prelude.{◌≡◌, Option, Some, None}
 use Rattle.sequential_signer.specs.Lookup.{HandOut, Refuse}
 use Rattle.sequential_signer.specs.SequentialCall.{Progress, Asking, Over}
-use Rattle.sign_desk.specs.declared.desk.Look.{Look}
-use Rattle.sign_desk.specs.declared.desk.Look.TheVariants.{Absent, Starved, Asks, Hands, Refuses}
+use Rattle.sign_desk.specs.declared.state.Look.{Look}
+use Rattle.sign_desk.specs.declared.state.Look.TheVariants.{Absent, Starved, Asks, Hands, Refuses}
 
 abbrev pub LookSays : {K : Type 0} → Option (Progress K) → Look K → Type 0
 LookSays None Absent = Unit {0}

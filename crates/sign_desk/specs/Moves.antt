@@ -37,21 +37,22 @@ begin_fits_kept desk call = is_some (slice_get desk.handles call.handle) && is_n
 abbrev pub StartsAlone : {K D : Type 0} → Kept K D → CallId → Type 0
 StartsAlone desk call = begin_fits_kept desk call ≡ true → desk.calls ≡ []
 
--- the desk has this record of the call, and is else as it was
-pub record Keeps {K D : Type 0} (old : Kept K D) (caches : List (Option K)) (greatest : List (Option ℕ)) (call : CallId) (kept : Option CallRecord) (new : Kept K D) : Type 0 where
-  pub loaders : new.loaders ≡ old.loaders
-  pub rules : new.rules ≡ old.rules
-  pub handles : new.handles ≡ old.handles
-  pub caches_are : new.caches ≡ caches
-  pub greatest_are : new.greatest ≡ greatest
+-- the desk has this record of the call, and is else as this one
+pub record Keeps {K D : Type 0} (base : Kept K D) (call : CallId) (kept : Option CallRecord) (new : Kept K D) : Type 0 where
+  pub loaders : new.loaders ≡ base.loaders
+  pub rules : new.rules ≡ base.rules
+  pub handles : new.handles ≡ base.handles
+  pub caches : new.caches ≡ base.caches
+  pub greatest : new.greatest ≡ base.greatest
+  pub started : new.started ≡ base.started
   pub this_call : find_call call new.calls ≡ kept
-  pub other_calls : (other : CallId) → same_call call other ≡ false → find_call other new.calls ≡ find_call other old.calls
+  pub other_calls : (other : CallId) → same_call call other ≡ false → find_call other new.calls ≡ find_call other base.calls
 
 -- what a begin does, by its reply
 abbrev pub BeginMoves : {K D : Type 0} → Kept K D → CallId → Head → Option Duration → Reply K → Kept K D → Type 0
 BeginMoves old call head expires_in Begun new =
     (begin_fits_kept old call ≡ true)
-    × Keeps old old.caches (slice_set old.greatest call.handle (Some call.number)) call (Some (record { stage = stage.Fresh; head = head; expires_in = expires_in; answers = 0 })) new
+    × Keeps (record old { greatest = slice_set old.greatest call.handle (Some call.number); started = true }) call (Some (record { stage = stage.Fresh; head = head; expires_in = expires_in; answers = 0 })) new
 BeginMoves old call head expires_in NotNow new = (begin_fits_kept old call ≡ false) × (new ≡ old)
 BeginMoves old call head expires_in OutOfMemory new = (begin_fits_kept old call ≡ true) × (new ≡ old)
 BeginMoves old call head expires_in _ new = ⊥
@@ -75,10 +76,10 @@ at_stage stage r = record r { stage = stage }
 -- what a look does, by how far it gets
 abbrev pub LookMoves : {K D : Type 0} → Kept K D → CallId → CallRecord → Option (Progress K) → Reply K → Kept K D → Type 0
 LookMoves old call r None reply new = (reply ≡ NotNow) × (new ≡ old)
-LookMoves old call r (Some (Asking k)) reply new = (reply ≡ Ask k) × Keeps old old.caches old.greatest call (Some (at_stage stage.Loading r)) new
+LookMoves old call r (Some (Asking k)) reply new = (reply ≡ Ask k) × Keeps old call (Some (at_stage stage.Loading r)) new
 LookMoves old call r (Some (Over (HandOut c) left)) reply new =
-    ((reply ≡ Sign c None) × Keeps old old.caches old.greatest call (Some (at_stage stage.Signing r)) new) ⊎ ((reply ≡ OutOfMemory) × (new ≡ old))
-LookMoves old call r (Some (Over (Refuse cause) left)) reply new = (reply ≡ Refused cause None) × Keeps old old.caches old.greatest call None new
+    ((reply ≡ Sign c None) × Keeps old call (Some (at_stage stage.Signing r)) new) ⊎ ((reply ≡ OutOfMemory) × (new ≡ old))
+LookMoves old call r (Some (Over (Refuse cause) left)) reply new = (reply ≡ Refused cause None) × Keeps old call None new
 
 -- what a poll does, by the stage of the call
 abbrev pub PollAt : {K D : Type 0} → Policy K D → Kept K D → CallId → ℤ → CallRecord → Phase → Reply K → Kept K D → Type 0
@@ -97,7 +98,7 @@ PollMoves policy old call now reply new = PollBy policy old call now (cache_of (
 -- what an accepted head does: the call is done with the begun head and the candidate's URI and headers
 abbrev pub AcceptAt : {K D : Type 0} → Kept K D → CallId → Head → CallRecord → Phase → Reply K → Kept K D → Type 0
 AcceptAt old call candidate r Signing reply new =
-    ((reply ≡ Done (record r.head { uri = candidate.uri; headers = candidate.headers })) × Keeps old old.caches old.greatest call None new)
+    ((reply ≡ Done (record r.head { uri = candidate.uri; headers = candidate.headers })) × Keeps old call None new)
     ⊎ ((reply ≡ OutOfMemory) × (new ≡ old))
 AcceptAt old call candidate r _ reply new = (reply ≡ NotNow) × (new ≡ old)
 
@@ -139,9 +140,9 @@ answered r = record { stage = stage.Signing; head = r.head; expires_in = r.expir
 abbrev pub StoreMoves : {K D : Type 0} → Kept K D → CallId → ℕ → CallRecord → K → Option (Outcome K) → Reply K → Kept K D → Type 0
 StoreMoves old call i r c None reply new = (reply ≡ NotNow) × (new ≡ old)
 StoreMoves old call i r c (Some (HandOut d)) reply new =
-    ((reply ≡ Sign d None) × Keeps old (slice_set old.caches i (Some c)) old.greatest call (Some (answered r)) new) ⊎ ((reply ≡ OutOfMemory) × (new ≡ old))
+    ((reply ≡ Sign d None) × Keeps (record old { caches = slice_set old.caches i (Some c) }) call (Some (answered r)) new) ⊎ ((reply ≡ OutOfMemory) × (new ≡ old))
 StoreMoves old call i r c (Some (Refuse cause)) reply new =
-    ((reply ≡ Refused cause None) × Keeps old (slice_set old.caches i (Some c)) old.greatest call None new) ⊎ ((reply ≡ OutOfMemory) × (new ≡ old))
+    ((reply ≡ Refused cause None) × Keeps (record old { caches = slice_set old.caches i (Some c) }) call None new) ⊎ ((reply ≡ OutOfMemory) × (new ≡ old))
 
 abbrev pub FoundAt : {K D : Type 0} → Policy K D → Kept K D → CallId → ℤ → K → ℕ → CallRecord → Phase → Reply K → Kept K D → Type 0
 FoundAt policy old call now c i r Loading reply new = StoreMoves old call i r c (kept_found policy old call r c now) reply new
@@ -159,3 +160,20 @@ FoundMoves policy old call now c reply new = FoundBy policy old call now c (cach
 abbrev pub cache_at : Option Handle → ℕ
 cache_at None = 0
 cache_at (Some h) = h.cache
+
+-- what an event does, by its kind
+abbrev pub Moves : {K D : Type 0} → Policy K D → Kept K D → Event K → Reply K → Kept K D → Type 0
+Moves policy old (Begin call head expires_in) reply new = BeginMoves old call head expires_in reply new
+Moves policy old (Poll call now) reply new = PollMoves policy old call now reply new
+Moves policy old (Signed call (Accepted candidate)) reply new = AcceptMoves old call candidate reply new
+Moves policy old (Signed call (verdict.Failed e)) reply new = ⊥
+Moves policy old (Provided call now (Found c)) reply new = FoundMoves policy old call now c reply new
+Moves policy old (Provided call now Missing) reply new = ⊥
+Moves policy old (Provided call now (Failed e)) reply new = ⊥
+Moves policy old (Cancel call) reply new = ⊥
+
+-- an event that does not fit, or that met want of memory, changes nothing
+abbrev pub UnchangedBy : {K D : Type 0} → Reply K → Kept K D → Kept K D → Type 0
+UnchangedBy NotNow old new = new ≡ old
+UnchangedBy OutOfMemory old new = new ≡ old
+UnchangedBy _ old new = Unit {0}

@@ -1,392 +1,191 @@
 //! The desk: one reply to each event.
-ghost use Rattle.std.specs.Prelude.{◌≡◌, IfOk};
+ghost use Rattle.std.specs.Prelude.{◌≡◌, ◌<◌, ◌++◌, ◌∷◌, [], List, true, not, OnOk, OnErr, IfErr, length, option_map, option_and_then, option_copied, slice_get};
 
-use crate::calls::{CallRecord, Stage};
-use sequential_signer::{Answer, Event, Loader, Reply, Verdict, Why};
+use crate::adding::{AddError, AddRefused};
+use crate::state::State;
 use credentials::{DeadlineRule, SigningCredential};
-use sign_base::{Head, NoMemory, Timestamp};
+use sequential_signer::{Event, Loader, Reply};
 use std::alloc::Global;
-use std::collections::BTreeMap;
 use std::marker::Model;
-use std::time::Duration;
-use wake_lock::CallId;
-
-/// A handle: its cache and its rule, by their places.
-#[derive(Clone, Copy, Debug)]
-pub struct HandleRecord {
-    pub cache: u32,
-    pub rule: u32,
-}
-
-/// What a look at a cache gives.
-#[derive(Drop)]
-pub enum Look<K> {
-    Absent,
-    Starved,
-    Asks,
-    Hands(K),
-    Refuses(Why),
-}
-
-/// What a credential that was found is good for.
-#[derive(Drop)]
-pub enum Judged {
-    Absent,
-    Serves,
-    Fails(Why),
-}
 
 /// The core of the signer.
 #[derive(Drop)]
-pub struct Desk<K, D> {
-    alloc: Global,
-    loaders: Vec<Loader>,
-    rules: Vec<D>,
-    handles: Vec<HandleRecord>,
-    caches: Vec<Option<K>>,
-    greatest: Vec<Option<u64>>,
-    calls: BTreeMap<CallId, CallRecord>,
+pub struct Desk<K: SigningCredential, D: DeadlineRule<Credential = K>> {
+    state: State<K, D>,
 }
 
-impl<K, D> Model for Desk<K, D> {
+impl<K: SigningCredential, D: DeadlineRule<Credential = K>> Model for Desk<K, D> {
     ghost use Rattle.sign_desk.specs.Kept.{Kept};
 
     ghost Value = { Kept K D };
 
-    ghost use Rattle.sign_desk.specs.DeskView.{desk_view, IsSound};
+    ghost use Rattle.sequential_signer.specs.Policy.{policy_of};
+    ghost use Rattle.sign_desk.specs.IsDesk.{IsDesk};
 
-    ghost view = { desk_view };
+    ghost view = { λ desk. desk.state };
 
-    ghost invariant = { IsSound };
+    ghost invariant = { λ desk. IsDesk (policy_of K.valid K.valid_at D.deadline) desk.state };
 }
 
 impl<K: SigningCredential, D: DeadlineRule<Credential = K>> Desk<K, D> {
-    ghost use Rattle.std.specs.Prelude.{◌≡◌, List, ◌++◌, ◌∷◌, [], Option, option_map, option_copied, IsSome, length, slice_get, slice_set, ◌<◌, ◌+◌, ◌^◌, IfSome};
-    ghost use Rattle.sign_desk.specs.Kept.{find_call, Represents};
+    ghost use Rattle.sign_desk.specs.Kept.{Represents, setup_of, was_begun};
+    ghost use Rattle.sign_desk.specs.Adding.{late, handle_refusal, AddAnswer, AddAnswerBack, with_cache, with_rule, with_handle};
+    ghost use Rattle.sign_desk.specs.Moves.{IsBuilt, UnchangedBy};
     ghost use Rattle.sequential_signer.specs.declared.event.Entry.{Entry};
     ghost use Rattle.sequential_signer.specs.Policy.{policy_of};
-    ghost use Rattle.sign_desk.specs.Moves.{BeginMoves, StartsAlone, begin_fits_kept, Keeps, at_stage, look_of, PollMoves, AcceptMoves, IsBuilt, found_of, answered, cache_at, FoundMoves};
-    ghost use Rattle.sign_desk.specs.JudgeSays.{JudgeSays};
-    ghost use Rattle.sign_desk.specs.LookSays.{LookSays};
-    ghost use Rattle.std.specs.Duration.{as_nanos};
+    ghost use Rattle.sequential_signer.specs.Transcript.{kept};
+    ghost use Rattle.sequential_signer.specs.Legal.{IsLegalEntry};
 
     /// A desk with no caches, rules, handles or calls. It stands for the empty transcript.
     pub fn new(alloc: Global) -> Desk<K, D>
         ensures { Represents (policy_of K.valid K.valid_at D.deadline) result [] }
     {
         Desk {
-            alloc,
-            loaders: Vec::new(alloc),
-            rules: Vec::new(alloc),
-            handles: Vec::new(alloc),
-            caches: Vec::new(alloc),
-            greatest: Vec::new(alloc),
-            calls: BTreeMap::new(alloc),
+            state: State::new(alloc),
         }
     }
 
-    /// Whether a begin of the call fits.
-    fn begin_fits(&self, call: CallId) -> bool
-        ensures { result ≡ begin_fits_kept self.now call }
+    /// Adds an empty cache with this loader, and answers its number. A refusal changes nothing.
+    pub fn add_cache(&mut self, loader: Loader) -> Result<u32, AddError>
+        requires { length self.old.loaders < 4294967295 }
+        ensures answer { AddAnswer (late self.old) (length self.old.loaders) result }
+        ensures added { OnOk result (self.new ≡ with_cache loader self.old) }
+        ensures fresh { OnOk result (Represents (policy_of K.valid K.valid_at D.deadline) self.new []) }
+        ensures unchanged { OnErr result (self.new ≡ self.old) }
     {
-        let place = call.handle as usize;
-        if place >= self.handles.len() || place >= self.greatest.len() {
-            return false;
+        if self.state.started() {
+            return Err(AddError::Late);
         }
-        match self.greatest[place] {
-            Some(greatest) => greatest < call.number,
-            None => true,
+        let number = self.state.caches() as u32;
+        match self.state.add_cache(loader) {
+            Ok(()) => Ok(number),
+            Err(_) => Err(AddError::OutOfMemory),
         }
     }
 
-    /// A begin: the call's record, its head and its number are taken at once, or nothing is.
-    fn begin(&mut self, call: CallId, head: &Head, expires_in: Option<Duration>) -> Reply<K>
-        requires { StartsAlone self.old call }
-        ensures { BeginMoves self.old call head.now expires_in result self.new }
+    /// Adds a rule, and answers its number. A refusal changes nothing and hands the rule back.
+    pub fn add_rule(&mut self, rule: D) -> Result<u32, AddRefused<D>>
+        requires { length self.old.rules < 4294967295 }
+        ensures answer { AddAnswerBack (late self.old) (length self.old.rules) result }
+        ensures added { OnOk result (self.new ≡ with_rule rule self.old) }
+        ensures fresh { OnOk result (Represents (policy_of K.valid K.valid_at D.deadline) self.new []) }
+        ensures unchanged { IfErr result (λ refused. (refused.back ≡ rule) × (self.new ≡ self.old)) }
     {
-        if !self.begin_fits(call) {
-            return Reply::NotNow;
+        if self.state.started() {
+            return Err(AddRefused {
+                why: AddError::Late,
+                back: rule,
+            });
         }
-        let head = match head.try_clone(self.alloc) {
-            Ok(head) => head,
-            Err(_) => return Reply::OutOfMemory,
-        };
-        let record = CallRecord {
-            stage: Stage::Fresh,
-            head,
-            expires_in,
-            answers: 0,
-        };
-        match self.calls.insert(call, record) {
-            Ok(_) => {}
-            Err(_) => return Reply::OutOfMemory,
-        }
-        self.greatest[call.handle as usize] = Some(call.number);
-        Reply::Begun
-    }
-
-    /// The record of a call.
-    fn record_of(&self, call: CallId) -> Option<&CallRecord>
-        ensures { option_copied result ≡ find_call call self.now.calls }
-    {
-        self.calls.get(&call)
-    }
-
-    /// Sets the stage of a call that is kept.
-    fn set_stage(&mut self, call: CallId, stage: Stage)
-        requires { IsSome (find_call call self.old.calls) }
-        ensures { Keeps self.old self.old.caches self.old.greatest call (option_map (at_stage stage) (find_call call self.old.calls)) self.new }
-    {
-        let record = self.calls.get_mut(&call).unwrap();
-        record.stage = stage;
-    }
-
-    /// Keeps nothing of a call any more.
-    fn end_call(&mut self, call: CallId)
-        ensures { Keeps self.old self.old.caches self.old.greatest call None self.new }
-    {
-        let _ended = self.calls.remove(&call);
-    }
-
-    /// What the cache of a handle holds for a call of this duration now.
-    fn look(&self, place: usize, expires_in: Option<Duration>, now: Timestamp) -> Look<K>
-        requires { place < length self.now.handles }
-        ensures { LookSays (look_of (policy_of K.valid K.valid_at D.deadline) self.now
-            (slice_get self.now.handles place) (option_map as_nanos expires_in) now) result }
-    {
-        let handle = self.handles[place];
-        let cache = handle.cache as usize;
-        let rule = handle.rule as usize;
-        if cache >= self.loaders.len() || cache >= self.caches.len() || rule >= self.rules.len() {
-            return Look::Absent;
-        }
-        let rule = &self.rules[rule];
-        if let Some(credential) = &self.caches[cache] {
-            if credential.is_valid(now) {
-                match rule.required_valid_until(credential, expires_in, now) {
-                    None => return Look::Refuses(Why::Range),
-                    Some(deadline) => {
-                        if credential.is_valid_at(deadline, now) {
-                            return match credential.try_clone(self.alloc) {
-                                Ok(credential) => Look::Hands(credential),
-                                Err(_) => Look::Starved,
-                            };
-                        }
-                    }
-                }
-            }
-        }
-        match self.loaders[cache] {
-            Loader::Single => Look::Asks,
-            Loader::Chain(n) => {
-                if n > 0 {
-                    Look::Asks
-                } else {
-                    Look::Refuses(Why::Missing)
-                }
-            }
+        let number = self.state.rules() as u32;
+        match self.state.add_rule(rule) {
+            Ok(()) => Ok(number),
+            Err(back) => Err(AddRefused {
+                why: AddError::OutOfMemory,
+                back,
+            }),
         }
     }
 
-    /// A poll: the call looks at its cache, where it still waits.
-    fn poll(&mut self, call: CallId, now: Timestamp) -> Reply<K>
-        ensures { PollMoves (policy_of K.valid K.valid_at D.deadline) self.old call now result self.new }
+    /// Adds a handle on this cache with this rule, and answers its number. A refusal changes nothing.
+    pub fn add_handle(&mut self, cache: u32, rule: u32) -> Result<u32, AddError>
+        requires { length self.old.handles < 4294967295 }
+        ensures answer { AddAnswer (handle_refusal self.old cache rule) (length self.old.handles) result }
+        ensures added { OnOk result (self.new ≡ with_handle cache rule self.old) }
+        ensures fresh { OnOk result (Represents (policy_of K.valid K.valid_at D.deadline) self.new []) }
+        ensures unchanged { OnErr result (self.new ≡ self.old) }
     {
-        let place = call.handle as usize;
-        if place >= self.handles.len() {
-            return Reply::NotNow;
+        if self.state.started() {
+            return Err(AddError::Late);
         }
-        let (stage, expires_in) = match self.record_of(call) {
-            None => return Reply::NotNow,
-            Some(record) => (record.stage, record.expires_in),
-        };
-        match stage {
-            Stage::Loading => return Reply::Pending,
-            Stage::Signing => return Reply::Pending,
-            Stage::Fresh => {}
-            Stage::Queued => {}
+        if cache as usize >= self.state.caches() {
+            return Err(AddError::NoCache(cache));
         }
-        match self.look(place, expires_in, now) {
-            Look::Absent => Reply::NotNow,
-            Look::Starved => Reply::OutOfMemory,
-            Look::Asks => {
-                self.set_stage(call, Stage::Loading);
-                Reply::Ask { provider: 0 }
-            }
-            Look::Hands(credential) => {
-                self.set_stage(call, Stage::Signing);
-                Reply::Sign {
-                    credential,
-                    wake: None,
-                }
-            }
-            Look::Refuses(why) => {
-                self.end_call(call);
-                Reply::Refused { why, wake: None }
-            }
+        if rule as usize >= self.state.rules() {
+            return Err(AddError::NoRule(rule));
+        }
+        let number = self.state.handles() as u32;
+        match self.state.add_handle(cache, rule) {
+            Ok(()) => Ok(number),
+            Err(_) => Err(AddError::OutOfMemory),
         }
     }
 
-    /// An accepted head: the call is done.
-    fn accept(&mut self, call: CallId, candidate: &Head) -> Reply<K>
-        ensures { AcceptMoves self.old call candidate.now result self.new }
+    /// The credential that the cache holds, if there is such a cache and it holds one.
+    pub fn cached(&self, cache: u32) -> Option<&K>
+        ensures { option_copied result ≡ option_and_then (λ held. held) (slice_get self.now.caches cache) }
     {
-        let place = call.handle as usize;
-        if place >= self.handles.len() {
-            return Reply::NotNow;
-        }
-        let alloc = self.alloc;
-        let head = match self.record_of(call) {
-            None => return Reply::NotNow,
-            Some(record) => match record.stage {
-                Stage::Signing => done_head(alloc, &record.head, candidate),
-                Stage::Fresh => return Reply::NotNow,
-                Stage::Queued => return Reply::NotNow,
-                Stage::Loading => return Reply::NotNow,
-            },
-        };
-        match head {
-            Err(_) => Reply::OutOfMemory,
-            Ok(head) => {
-                self.end_call(call);
-                Reply::Done { head }
-            }
+        self.state.cached(cache)
+    }
+
+    /// The rule of the handle, if there is such a handle.
+    pub fn rule_of(&self, handle: u32) -> Option<&D>
+        ensures { option_copied result ≡ option_and_then (λ h. slice_get self.now.rules h.rule) (slice_get self.now.handles handle) }
+    {
+        match self.state.handle_at(handle) {
+            Some(found) => self.state.rule_at(found.rule),
+            None => None,
         }
     }
 
-    /// What a credential that was found is good for, for a call of this duration now.
-    fn judge(&self, place: usize, found: &K, expires_in: Option<Duration>, now: Timestamp) -> Judged
-        requires { place < length self.now.handles }
-        ensures { JudgeSays (found_of (policy_of K.valid K.valid_at D.deadline) self.now
-            (slice_get self.now.handles place) found.now (option_map as_nanos expires_in) now) found.now result }
+    /// The cache of the handle, if there is such a handle.
+    pub fn cache_of(&self, handle: u32) -> Option<u32>
+        ensures { result ≡ option_map (λ h. h.cache) (slice_get self.now.handles handle) }
     {
-        let handle = self.handles[place];
-        let cache = handle.cache as usize;
-        let rule = handle.rule as usize;
-        if cache >= self.loaders.len() || cache >= self.caches.len() || rule >= self.rules.len() {
-            return Judged::Absent;
-        }
-        let rule = &self.rules[rule];
-        match rule.required_valid_until(found, expires_in, now) {
-            None => Judged::Fails(Why::Range),
-            Some(deadline) => {
-                if found.is_valid_at(deadline, now) {
-                    Judged::Serves
-                } else {
-                    Judged::Fails(Why::Short(deadline))
-                }
-            }
+        match self.state.handle_at(handle) {
+            Some(found) => Some(found.cache),
+            None => None,
         }
     }
 
-    /// Keeps a credential in the cache of a handle.
-    fn store(&mut self, place: usize, credential: K)
-        requires handle { place < length self.old.handles }
-        requires cache { IsSome (slice_get self.old.caches (cache_at (slice_get self.old.handles place))) }
-        ensures { self.new ≡ record self.old { caches = slice_set self.old.caches (cache_at (slice_get self.old.handles place)) (Some credential) } }
+    /// The number of caches.
+    pub fn caches(&self) -> u32
+        ensures { result ≡ length self.now.loaders }
     {
-        let cache = self.handles[place].cache as usize;
-        self.caches[cache] = Some(credential);
+        self.state.caches() as u32
     }
 
-    /// One more answer, by which the call signs.
-    fn answer(&mut self, call: CallId)
-        requires kept { IfSome (find_call call self.old.calls) (λ r. r.answers + 1 < 2 ^ 32) }
-        requires there { IsSome (find_call call self.old.calls) }
-        ensures { Keeps self.old self.old.caches self.old.greatest call (option_map answered (find_call call self.old.calls)) self.new }
+    /// The number of rules.
+    pub fn rules(&self) -> u32
+        ensures { result ≡ length self.now.rules }
     {
-        let record = self.calls.get_mut(&call).unwrap();
-        record.stage = Stage::Signing;
-        record.answers += 1;
+        self.state.rules() as u32
     }
 
-    /// A credential that was found: it is cached, and then handed out or refused.
-    fn found(&mut self, call: CallId, now: Timestamp, found: &K) -> Reply<K>
-        ensures { FoundMoves (policy_of K.valid K.valid_at D.deadline) self.old call now found.now result self.new }
+    /// The number of handles.
+    pub fn handles(&self) -> u32
+        ensures { result ≡ length self.now.handles }
     {
-        let place = call.handle as usize;
-        if place >= self.handles.len() {
-            return Reply::NotNow;
-        }
-        let (stage, expires_in, answers) = match self.record_of(call) {
-            None => return Reply::NotNow,
-            Some(record) => (record.stage, record.expires_in, record.answers),
-        };
-        match stage {
-            Stage::Loading => {}
-            Stage::Signing => return Reply::NotNow,
-            Stage::Fresh => return Reply::NotNow,
-            Stage::Queued => return Reply::NotNow,
-        }
-        match self.judge(place, found, expires_in, now) {
-            Judged::Absent => Reply::NotNow,
-            Judged::Serves => {
-                if answers >= u32::MAX {
-                    return Reply::OutOfMemory;
-                }
-                let kept = match found.try_clone(self.alloc) {
-                    Ok(kept) => kept,
-                    Err(_) => return Reply::OutOfMemory,
-                };
-                let given = match found.try_clone(self.alloc) {
-                    Ok(given) => given,
-                    Err(_) => return Reply::OutOfMemory,
-                };
-                self.store(place, kept);
-                self.answer(call);
-                Reply::Sign {
-                    credential: given,
-                    wake: None,
-                }
-            }
-            Judged::Fails(why) => {
-                let kept = match found.try_clone(self.alloc) {
-                    Ok(kept) => kept,
-                    Err(_) => return Reply::OutOfMemory,
-                };
-                self.store(place, kept);
-                self.end_call(call);
-                Reply::Refused { why, wake: None }
-            }
-        }
+        self.state.handles() as u32
+    }
+
+    /// The number of calls that were begun and are not over.
+    pub fn live(&self) -> usize
+        ensures { result ≡ length self.now.calls }
+    {
+        self.state.live()
+    }
+
+    /// Whether no begin was accepted. A fresh desk stands for the empty transcript.
+    pub fn is_fresh(&self) -> bool
+        ensures flag { result ≡ not self.now.started }
+        ensures empty { result ≡ true → Represents (policy_of K.valid K.valid_at D.deadline) self.now [] }
+        ensures begins { (entries : List (Entry K)) → Represents (policy_of K.valid K.valid_at D.deadline) self.now entries → result ≡ not (was_begun (kept entries)) }
+    {
+        !self.state.started()
     }
 
     /// One step: whatever transcript the desk stands for, it then stands for that with this entry.
+    /// The setup stays. `NotNow` and `OutOfMemory` change nothing.
     pub fn step(&mut self, event: &Event<K>) -> Reply<K>
         requires { IsBuilt self.old event.now }
-        ensures { (entries : List (Entry K)) → Represents (policy_of K.valid K.valid_at D.deadline) self.old entries
+        ensures represents { (entries : List (Entry K)) → Represents (policy_of K.valid K.valid_at D.deadline) self.old entries
             → Represents (policy_of K.valid K.valid_at D.deadline) self.new (entries ++ record { event = event.now; reply = result } ∷ []) }
+        ensures due { (entries : List (Entry K)) → Represents (policy_of K.valid K.valid_at D.deadline) self.old entries
+            → IsLegalEntry (policy_of K.valid K.valid_at D.deadline) (setup_of self.old) (kept entries) (record { event = event.now; reply = result }) }
+        ensures setup { setup_of self.new ≡ setup_of self.old }
+        ensures unchanged { UnchangedBy result self.old self.new }
     {
-        let _ = &self.alloc;
-        match event {
-            Event::Begin {
-                call,
-                head,
-                expires_in,
-            } => self.begin(*call, head, *expires_in),
-            Event::Poll { call, now } => self.poll(*call, *now),
-            Event::Signed { call, answer } => match answer {
-                Verdict::Accepted(candidate) => self.accept(*call, candidate),
-                Verdict::Failed(_) => unreachable!(),
-            },
-            Event::Provided { call, now, answer } => match answer {
-                Answer::Found(found) => self.found(*call, *now, found),
-                Answer::Missing => unreachable!(),
-                Answer::Failed(_) => unreachable!(),
-            },
-            Event::Cancel { .. } => unreachable!(),
-        }
+        self.state.step(event)
     }
-}
-
-/// The begun head with the candidate's URI and headers.
-fn done_head(alloc: Global, begun: &Head, candidate: &Head) -> Result<Head, NoMemory<()>>
-    ensures { IfOk result (λ h. h ≡ record begun.now { uri = candidate.now.uri; headers = candidate.now.headers }) }
-{
-    Ok(Head {
-        method: begun.method.try_clone(alloc)?,
-        uri: candidate.uri.try_clone(alloc)?,
-        version: begun.version,
-        headers: candidate.headers.try_clone(alloc)?,
-    })
 }

@@ -1,20 +1,21 @@
--- What contracts see of a desk.
+-- What contracts see of the state of a desk.
 use Rattle.std.specs.Prelude.{map}
 use Rattle.sign_desk.specs.Kept.{Kept, AtMostOne}
 use Rattle.sequential_signer.specs.Setup.{Handle}
-use Rattle.sign_desk.specs.declared.desk.HandleRecord.{HandleRecord}
-use Rattle.sign_desk.specs.declared.desk.Desk.TheInside.{Inside}
+use Rattle.sign_desk.specs.declared.state.HandleRecord.{HandleRecord}
+use Rattle.sign_desk.specs.declared.state.State.TheInside.{Inside}
 
 abbrev pub handle_view : HandleRecord → Handle
 handle_view h = record { cache = h.cache; rule = h.rule }
 
-abbrev pub desk_view : {K D : Type 0} → Inside K D → Kept K D
-desk_view desk = record {
+abbrev pub state_view : {K D : Type 0} → Inside K D → Kept K D
+state_view desk = record {
   loaders = desk.loaders.items;
   rules = desk.rules.items;
   handles = map handle_view desk.handles.items;
   caches = desk.caches.items;
   greatest = desk.greatest.items;
+  started = desk.started;
   calls = desk.calls.entries;
 }
 
