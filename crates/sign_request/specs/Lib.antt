@@ -1,4 +1,6 @@
 pub mod Query
 pub mod CanonicalText
 pub mod PairForm
+pub mod Target
 pub mod Request
+pub mod Refusal

@@ -5,7 +5,9 @@
 mod pair_form;
 mod query;
 mod query_view;
+mod refusal;
 mod request;
+mod target;
 mod text;
 
 pub use request::{SigningMethod, SigningRequest};

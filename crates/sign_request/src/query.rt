@@ -1,5 +1,5 @@
 //! Reading a query into pairs, for a view and for the test that it still fits its head.
-ghost use Rattle.std.specs.Prelude.{◌≡◌, IfOk, string_bytes};
+ghost use Rattle.std.specs.Prelude.{◌≡◌, ◌↔◌, IfOk, IsTrue, string_bytes};
 ghost use Rattle.sign_request.specs.Query.{decoded, read_pair, query_pairs, text_pair, text_pairs};
 
 use percent_encoding::percent_decode_str;
@@ -16,6 +16,13 @@ pub(crate) fn read_query(alloc: Global, query: &str) -> Result<Vec<(String, Stri
         }
     }
     Ok(pairs)
+}
+
+/// Whether two lists have the same pairs in the same order.
+pub(crate) fn same_pairs(pairs: &Vec<(String, String)>, others: &Vec<(String, String)>) -> bool
+    ensures { IsTrue result ↔ (text_pairs pairs.now.items ≡ text_pairs others.now.items) }
+{
+    *pairs == *others
 }
 
 // A piece cut at its first `=`, each side decoded once.

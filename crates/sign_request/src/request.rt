@@ -1,9 +1,22 @@
 //! The view of a request head for a service that signs it, with the headers that the service stages.
+ghost use Rattle.std.specs.Prelude.{◌≡◌, ◌↔◌, ◌⊎◌, IfOk, IfErr, OnOk, OnErr, IsTrue, IsSome, None, Some};
+ghost use Rattle.http_uri.specs.Uri.{uri_authority};
+ghost use Rattle.sign_request.specs.Refusal.{WantsMemory, RefusedFor, no_authority, view_modified};
 
-use http::header::HeaderMap;
-use http::uri::{Authority, Scheme};
+use crate::refusal::refusal;
+use crate::query::same_pairs;
+use crate::target::{is_scheme_of, pairs_of, path_of, scheme_of};
 use http::Method;
+use http::header::HeaderMap;
+use http::request::Parts;
+use http::uri::{Authority, Scheme};
+use sign_base::{Error, NoMemory};
+use std::alloc::Global;
 use std::time::Duration;
+
+const NO_AUTHORITY: &str = "request without authority is invalid for signing";
+
+const VIEW_MODIFIED: &str = "signing request method or URI working view was modified";
 
 /// Where a service puts its authentication. Which place applies is the service's choice.
 #[derive(Clone, Copy, PartialEq, Eq)]
@@ -31,4 +44,82 @@ pub struct SigningRequest {
     pub query: Vec<(String, String)>,
     /// The headers that `apply` commits.
     pub headers: HeaderMap,
+}
+
+impl SigningRequest {
+    ghost use Rattle.sign_request.specs.Request.{IsViewOf, StillFits};
+
+    /// The view of a head.
+    ///
+    /// `RequestInvalid` where the head's URI has no authority.
+    pub fn build(alloc: Global, parts: &Parts) -> Result<SigningRequest, Error>
+        ensures ok { IfOk result (IsViewOf parts.now) }
+        ensures err { IfErr result (λ e. WantsMemory e
+            ⊎ RefusedFor no_authority (uri_authority parts.now.uri ≡ None) e) }
+    {
+        let Some(authority) = parts.uri.authority() else {
+            return Err(refusal(alloc, NO_AUTHORITY));
+        };
+        Ok(SigningRequest::view(alloc, parts, authority)?)
+    }
+
+    fn view(
+        alloc: Global,
+        parts: &Parts,
+        authority: &Authority,
+    ) -> Result<SigningRequest, NoMemory<()>>
+        requires { uri_authority parts.now.uri ≡ Some authority.now }
+        ensures { IfOk result (IsViewOf parts.now) }
+    {
+        Ok(SigningRequest {
+            method: parts.method.clone()?,
+            scheme: scheme_of(&parts.uri)?,
+            authority: authority.clone()?,
+            path: String::from_str(alloc, path_of(&parts.uri))?,
+            query: pairs_of(alloc, &parts.uri)?,
+            headers: parts.headers.clone()?,
+        })
+    }
+
+    /// Commits the staged headers to the head that this is a view of.
+    ///
+    /// `RequestInvalid` where the head has no authority, or where its method, scheme, authority,
+    /// path or query is no longer what the view shows. The case of letters does not count in the
+    /// scheme and the authority, nor the spelling of the query where it reads alike. A refusal
+    /// leaves the head as it was.
+    pub fn apply(self, parts: &mut Parts) -> Result<(), Error>
+        ensures fits { OnOk result (StillFits parts.old self) }
+        ensures ok { OnOk result (parts.new ≡ record parts.old { headers = self.headers }) }
+        ensures unchanged { OnErr result (parts.new ≡ parts.old) }
+        ensures err { IfErr result (λ e. WantsMemory e
+            ⊎ (RefusedFor no_authority (uri_authority parts.old.uri ≡ None) e
+            ⊎ RefusedFor view_modified (IsSome (uri_authority parts.old.uri)
+            × ¬ (StillFits parts.old self)) e)) }
+    {
+        let alloc = *self.query.allocator();
+        let Some(authority) = parts.uri.authority() else {
+            return Err(refusal(alloc, NO_AUTHORITY));
+        };
+        if !self.still_fits(parts, authority)? {
+            return Err(refusal(alloc, VIEW_MODIFIED));
+        }
+        parts.headers = self.headers;
+        Ok(())
+    }
+
+    // Whether the head is still what the view shows, but for its headers.
+    fn still_fits(&self, parts: &Parts, authority: &Authority) -> Result<bool, NoMemory<()>>
+        requires { uri_authority parts.now.uri ≡ Some authority.now }
+        ensures { IfOk result (λ fits. IsTrue fits ↔ StillFits parts.now self.now) }
+    {
+        if self.method != parts.method
+            || !is_scheme_of(&self.scheme, &parts.uri)
+            || !self.authority.eq_str(authority.as_str())
+            || self.path.as_str() != path_of(&parts.uri)
+        {
+            return Ok(false);
+        }
+        let pairs = pairs_of(*self.query.allocator(), &parts.uri)?;
+        Ok(same_pairs(&self.query, &pairs))
+    }
 }

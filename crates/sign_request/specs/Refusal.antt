@@ -1,0 +1,25 @@
+-- Why a call answers an error.
+use Rattle.std.specs.Prelude.{◌≡◌, ℕ, List, [], codes}
+use Rattle.sign_base.specs.Error.{ErrorParts, new_error}
+use Rattle.sign_base.specs.declared.error_kind.ErrorKind.TheVariants.{RequestInvalid, OutOfMemory}
+
+-- memory was wanting
+abbrev pub WantsMemory : ErrorParts → Type 0
+WantsMemory e = e ≡ new_error OutOfMemory []
+
+-- the request is refused with this message, and the cause holds
+abbrev pub RefusedFor : List ℕ → Type 0 → ErrorParts → Type 0
+RefusedFor message Cause e = (e ≡ new_error RequestInvalid message) × Cause
+
+-- the messages
+abbrev pub no_authority : List ℕ
+no_authority = codes "request without authority is invalid for signing"
+
+abbrev pub view_modified : List ℕ
+view_modified = codes "signing request method or URI working view was modified"
+
+abbrev pub invalid_value : List ℕ
+invalid_value = codes "invalid header value"
+
+abbrev pub unknown_version : List ℕ
+unknown_version = codes "unknown version"
