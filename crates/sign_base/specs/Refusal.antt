@@ -10,5 +10,6 @@ use Rattle.sign_base.specs.Error.{ErrorParts, new_error}
 abbrev pub IsErrorOf : ErrorKind → List ℕ → ErrorParts → Type 0
 IsErrorOf kind message e = (e ≡ new_error kind message) ⊎ (e ≡ new_error OutOfMemory [])
 
-abbrev pub IsNotConvertedSecond : ℤ → ErrorParts → Type 0
-IsNotConvertedSecond second = IsErrorOf Unexpected (codes "convert '" ++ (signed_decimal second ++ codes "' seconds into timestamp failed"))
+-- the refusal of a number of seconds or milliseconds that is out of range
+abbrev pub IsNotConverted : ℤ → List ℕ → ErrorParts → Type 0
+IsNotConverted number unit = IsErrorOf Unexpected (codes "convert '" ++ (signed_decimal number ++ (codes "' " ++ (unit ++ codes " into timestamp failed"))))

@@ -1,6 +1,6 @@
 //! Where bytes go. A sink takes any part of a piece, may tell in contracts what it holds, and
 //! counts its faults, so that a failed write has a cause that a caller can see.
-ghost use Rattle.std.specs.Prelude.{◌≡◌, ℕ, Option, Some, None, List, length, ◌<◌, ◌≤◌, ◌-◌, ◌↔◌, OnErr, IfOk, IsErr, is_ok, min, [], if◌then◌else◌};
+ghost use Rattle.std.specs.Prelude.{◌≡◌, ℕ, Option, Some, None, List, length, ◌<◌, ◌≤◌, ◌-◌, ◌==◌, ◌↔◌, OnErr, IfOk, IsErr, is_ok, min, [], if◌then◌else◌};
 ghost use Rattle.std.specs.Io.KnownBytes.{WriteAppends};
 ghost use Rattle.sign_base.specs.Faults.{HasRisen, one_more};
 
@@ -69,6 +69,13 @@ impl MemorySink {
         ensures { result.now ≡ self.now.holds }
     {
         self.bytes.as_slice()
+    }
+
+    /// Whether no room is left.
+    pub(crate) fn is_full(&self) -> bool
+        ensures { result ≡ (self.now.room == 0) }
+    {
+        self.room == 0
     }
 }
 

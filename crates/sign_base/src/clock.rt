@@ -1,0 +1,87 @@
+//! Where moments come from. A clock may go back, and nothing is claimed of it but what its type
+//! tells; code that reads one is proved for every moment.
+ghost use Rattle.std.specs.Prelude.{◌≡◌, ℤ, ◌<◌, length, ⊤};
+ghost use Rattle.sign_base.specs.Clock.{ReadsFirst};
+
+use crate::Timestamp;
+use std::marker::Model;
+use std::time;
+
+/// A clock of the world.
+pub trait Clock {
+    /// What a reading may give: the clock before it, the clock after it, the moment.
+    ghost gives: { Self → Self → ℤ → Type 0 };
+
+    /// The moment now.
+    fn now(&mut self) -> Timestamp
+        ensures { gives self.old self.new result };
+}
+
+/// A clock that gives listed moments, each in turn and then the last again.
+#[derive(Debug, Drop)]
+pub struct ListClock {
+    moments: Vec<Timestamp>,
+    at: usize,
+}
+
+impl Model for ListClock {
+    ghost use Rattle.std.specs.Prelude.{ℤ, List, drop, length, ◌<◌};
+
+    ghost Value = { List ℤ };
+
+    ghost view = { λ c. drop c.at c.moments.items };
+
+    ghost invariant = { λ c. c.at < length c.moments.items };
+}
+
+impl ListClock {
+    /// A clock of at least one moment.
+    pub fn new(moments: Vec<Timestamp>) -> ListClock
+        requires { 0 < length moments.items }
+        ensures { result ≡ moments.items }
+    {
+        ListClock { moments, at: 0 }
+    }
+}
+
+impl Clock for ListClock {
+    ghost gives = { ReadsFirst };
+
+    fn now(&mut self) -> Timestamp {
+        let now = self.moments[self.at];
+        if self.at + 1 < self.moments.len() {
+            self.at += 1;
+        }
+        now
+    }
+}
+
+/// The system's clock. Where it cannot be read or is out of range, the last moment stands, at first
+/// the start of 1970.
+#[derive(Drop)]
+pub struct SystemClock<R> {
+    system: R,
+    last: Timestamp,
+}
+
+impl<R: time::Clock> SystemClock<R> {
+    pub fn new(system: R) -> SystemClock<R> {
+        SystemClock {
+            system,
+            last: Timestamp::start_of_1970(),
+        }
+    }
+}
+
+impl<R: time::Clock> Clock for SystemClock<R> {
+    ghost gives = { λ _ _ _. ⊤ };
+
+    fn now(&mut self) -> Timestamp {
+        if let Ok(since_1970) = self.system.since_1970() {
+            if let Some(now) = Timestamp::start_of_1970().checked_add(since_1970) {
+                self.last = now;
+            }
+        }
+        self.last
+    }
+}
