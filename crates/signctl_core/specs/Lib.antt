@@ -1,3 +1,6 @@
 pub mod Status
 pub mod Input
 pub mod Output
+pub mod Script
+pub mod ScriptOutput
+pub mod Standing

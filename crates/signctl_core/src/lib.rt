@@ -3,4 +3,5 @@
 
 pub mod input;
 pub mod output;
+mod session;
 pub mod status;

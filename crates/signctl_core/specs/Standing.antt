@@ -1,0 +1,28 @@
+-- What a session keeps of the lines that it has served.
+use Rattle.std.specs.Prelude.{◌≡◌, ℕ, ◌+◌, ◌++◌, ◌<◌, Bool, true, false, not, List, [], ◌∷◌, length}
+use Rattle.sign_desk.specs.Kept.{Kept, Represents, setup_of}
+use Rattle.sequential_signer.specs.declared.event.Event.{Event}
+use Rattle.signctl_format.specs.declared.credential.ScriptCredential.{ScriptCredential}
+use Rattle.signctl_format.specs.declared.credential.ScriptRule.{ScriptRule}
+use Rattle.signctl_format.specs.declared.item.Item.{Item}
+use Rattle.signctl_format.specs.declared.print.Cause.{Cause}
+use Rattle.signctl_format.specs.Policy.{script_policy}
+use Rattle.signctl_format.specs.Lines.{fault_line}
+use Rattle.signctl_core.specs.Script.{setup_in, events_in, is_none, is_built, Reading, Good, Bad}
+use Rattle.signctl_core.specs.ScriptOutput.{transcript_of, answer_to, ended}
+
+-- a desk, a note of events and a count of lines stand for the items of the lines so far
+pub record StandsFor (desk : Kept ScriptCredential ScriptRule) (had_event : Bool) (lines : ℕ) (items : List Item) : Type 0 where
+  pub setup : setup_of desk ≡ setup_in items
+  pub represents : Represents script_policy desk (transcript_of items)
+  pub events : had_event ≡ not (is_none (events_in items))
+  pub count : lines ≡ length items
+
+-- the numbers of caches and handles fit
+abbrev pub most_lines : ℕ
+most_lines = 4294967294
+
+-- it stands for some items, behind which this one is served
+abbrev pub MayAnswer : Kept ScriptCredential ScriptRule → Bool → ℕ → Item → Type 0
+MayAnswer desk had_event lines item =
+    (items : List Item) × StandsFor desk had_event lines items × (is_built items item ≡ true) × (lines < most_lines)
