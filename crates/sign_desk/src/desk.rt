@@ -38,7 +38,8 @@ impl<K: SigningCredential, D: DeadlineRule<Credential = K>> Desk<K, D> {
 
     /// A desk with no caches, rules, handles or calls. It stands for the empty transcript.
     pub fn new(alloc: Global) -> Desk<K, D>
-        ensures { Represents (policy_of K.valid K.valid_at D.deadline) result [] }
+        ensures setup { setup_of result ≡ record { loaders = []; rules = []; handles = [] } }
+        ensures fresh { Represents (policy_of K.valid K.valid_at D.deadline) result [] }
     {
         Desk {
             state: State::new(alloc),
