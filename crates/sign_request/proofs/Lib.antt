@@ -1,6 +1,8 @@
 pub mod Sorting
 pub mod Joined
-pub mod PairOrder
+pub mod TextOrder
 pub mod QuerySize
 pub mod SamePairs
 pub mod HeaderClone
+pub mod Trimming
+pub mod Picked

@@ -3,4 +3,5 @@ pub mod CanonicalText
 pub mod PairForm
 pub mod Target
 pub mod Request
+pub mod Headers
 pub mod Refusal

@@ -2,6 +2,8 @@
 //! plain ones.
 #![tactic(auto)]
 
+mod headers;
+mod pair;
 mod pair_form;
 mod query;
 mod query_view;

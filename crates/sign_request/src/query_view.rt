@@ -1,10 +1,17 @@
 //! The working copy of a query. It is no part of the head: `apply` refuses a view whose query was
 //! changed.
-ghost use Rattle.std.specs.Prelude.{◌≡◌, ◌++◌, ◌∷◌, [], ◌<◌, OnOk, OnErr, MatchOption};
-ghost use Rattle.sign_request.specs.Query.{text_pairs, query_length};
+ghost use Rattle.std.specs.Prelude.{◌≡◌, ◌++◌, ◌∷◌, [], ◌<◌, Bool, List, IfOk, OnOk, OnErr, MatchOption, string_bytes};
+ghost use Rattle.std.specs.Cow.{cow_str_bytes};
+ghost use Rattle.std.specs.Fn.{FnReturnsAt};
+ghost use Rattle.std.specs.List.{AllZip, items_where_true};
+ghost use Rattle.sign_request.specs.Query.{decoded, text_pairs, query_length};
 
 use crate::SigningRequest;
+use crate::pair::push_texts;
+use percent_encoding::percent_decode_str;
 use sign_base::NoMemory;
+use std::alloc::Global;
+use std::borrow::CowStr;
 
 impl SigningRequest {
     /// How many bytes the decoded keys and values have together, or `None` where that is more than
@@ -27,17 +34,7 @@ impl SigningRequest {
         ensures others { self.new ≡ record self.old { query = self.new.query } }
         ensures err { OnErr result (self.new.query.items ≡ self.old.query.items) }
     {
-        let alloc = *self.query.allocator();
-        let Ok(key) = String::from_str(alloc, key) else {
-            return Err(NoMemory { back: () });
-        };
-        let Ok(value) = String::from_str(alloc, value) else {
-            return Err(NoMemory { back: () });
-        };
-        match self.query.push((key, value)) {
-            Ok(()) => Ok(()),
-            Err(_) => Err(NoMemory { back: () }),
-        }
+        push_texts(&mut self.query, key, value)
     }
 
     /// Appends a text as a key with an empty value. The head's URI stays as it is.
@@ -48,5 +45,35 @@ impl SigningRequest {
         ensures err { OnErr result (self.new.query.items ≡ self.old.query.items) }
     {
         self.query_push(query, "")
+    }
+
+    /// The pairs whose key passes the test, in order.
+    pub fn query_to_vec_with_filter<F: Fn(&str) -> bool + Drop>(
+        &self,
+        filter: F,
+    ) -> Result<Vec<(String, String)>, NoMemory<()>>
+        requires { F.IsAlwaysCallable filter }
+        ensures { IfOk result (λ kept. (answers : List Bool)
+            × AllZip (λ pair answer. FnReturnsAt F.Fn filter pair.0 answer)
+                (text_pairs self.now.query.items) answers
+            × (text_pairs kept.items ≡ items_where_true answers (text_pairs self.now.query.items))) }
+    {
+        let mut kept = Vec::new(*self.query.allocator());
+        for (key, value) in &self.query {
+            if filter(key.as_str()) {
+                push_texts(&mut kept, key.as_str(), value.as_str())?;
+            }
+        }
+        Ok(kept)
+    }
+
+    /// The whole path decoded once, with U+FFFD for each sequence that is not UTF-8. An escaped
+    /// slash becomes a slash, so where slashes are data a service decodes each segment on its own.
+    #[tactic(auto, unfolding(crate::specs::Query::decoded))]
+    pub fn path_percent_decoded(&self) -> Result<CowStr<'_, Global>, NoMemory<()>>
+        ensures { IfOk result (λ path. cow_str_bytes path ≡ decoded (string_bytes self.now.path)) }
+    {
+        let path = percent_decode_str(self.path.as_str()).decode_utf8_lossy(*self.path.allocator())?;
+        Ok(path)
     }
 }

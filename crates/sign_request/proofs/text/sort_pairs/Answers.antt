@@ -1,4 +1,4 @@
-use Rattle.sign_request.proofs.PairOrder.{sorted_pairs-from_sort}
+use Rattle.sign_request.proofs.TextOrder.{sorted_pairs-from_sort}
 use Rattle.sign_request.proofs.text.sort_pairs.Goals as goal
 
 pub returns : goal.returns
