@@ -1,0 +1,54 @@
+-- A lock with a holder and waiters, in the order in which they came.
+use Rattle.std.specs.Prelude.{◌≡◌, ℕ, Bool, false, ◌&&◌, ◌==◌, List, [], ◌∷◌, Option, Some, None, is_some}
+use Rattle.std.specs.List.{list_any}
+use Rattle.wake_lock.specs.declared.CallId.{CallId}
+
+-- whether two names are of one call
+abbrev pub same_call : CallId → CallId → Bool
+same_call a b = a.handle == b.handle && a.number == b.number
+
+-- the call that holds, the calls that wait, and the calls for which there is room
+pub record Lock : Type 0 where
+  pub holder : Option CallId
+  pub waiters : List CallId
+  pub spare : ℕ
+
+-- whether the call is in the list
+abbrev pub is_among : CallId → List CallId → Bool
+is_among call calls = list_any (same_call call) calls
+
+-- the first call of the list
+abbrev pub first_of : List CallId → Option CallId
+first_of [] = None
+first_of (call ∷ rest) = Some call
+
+-- a holder and those behind it
+abbrev pub in_line : Option CallId → List CallId → List CallId
+in_line None waiters = waiters
+in_line (Some holder) waiters = holder ∷ waiters
+
+-- the holder, and then the waiters
+abbrev pub line : Lock → List CallId
+line lock = in_line lock.holder lock.waiters
+
+-- whether the call holds or waits
+abbrev pub is_in_line : CallId → Lock → Bool
+is_in_line call lock = is_among call (line lock)
+
+abbrev pub is_holder : CallId → Option CallId → Bool
+is_holder call None = false
+is_holder call (Some holder) = same_call holder call
+
+-- whether the call holds
+abbrev pub is_held_by : CallId → Lock → Bool
+is_held_by call lock = is_holder call lock.holder
+
+-- no call stands twice in the list
+abbrev pub IsOnce : List CallId → Type 0
+IsOnce [] = Unit {0}
+IsOnce (call ∷ rest) = (is_among call rest ≡ false) × IsOnce rest
+
+-- while nobody holds nobody waits, and no call stands twice
+pub record IsLock (lock : Lock) : Type 0 where
+  pub idle : is_some lock.holder ≡ false → lock.waiters ≡ []
+  pub once : IsOnce (line lock)
