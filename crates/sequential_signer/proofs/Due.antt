@@ -11,17 +11,13 @@ use Rattle.sequential_signer.specs.Legal.{IsLegal, IsLegalAfter, IsLegalEntry, w
 use Rattle.sequential_signer.specs.declared.event.Entry.{Entry}
 use Rattle.sequential_signer.specs.declared.event.Event.{Event}
 use Rattle.sequential_signer.proofs.Happens.{due_happens}
-use Rattle.sequential_signer.proofs.Run.{kept-none, kept-more, in_memory, legal-more}
+use Rattle.sequential_signer.proofs.Run.{due_in_memory, kept-none, kept-more, legal-more}
 
 fold-keeps : {B X : Type 0} (f : B → X → B) (P : B → Type 0) → ((b : B) (x : X) → P b → P (f b x)) → (xs : List X) (b : B) → P b → P (fold f b xs)
 fold-keeps f P step [] b h = h
 fold-keeps f P step (x ∷ xs) b h = fold-keeps f P step xs (f b x) (step b x h)
 
 module _ {K D : Type 0} (policy : Policy K D) (setup : Setup D) where
-  -- no reply that is due wants for memory
-  pub due_in_memory : (entries : List (Entry K)) (event : Event K) → is_out_of_memory (reply_due policy setup entries event) ≡ false
-  due_in_memory entries event = in_memory policy setup entries event _ (due_happens policy setup entries event)
-
   -- one more event has the reply that is due after those before it
   pub entries_due-more : (events : List (Event K)) (event : Event K) → entries_due policy setup (events ++ event ∷ []) ≡ entries_due policy setup events ++ record { event = event; reply = reply_due policy setup (entries_due policy setup events) event } ∷ []
   unfolding entries_due
@@ -56,7 +52,7 @@ module _ {K D : Type 0} (policy : Policy K D) (setup : Setup D) where
   kept-due events =
       entries_due-keeps (λ entries. kept entries ≡ entries)
       (λ entries event h.
-      kept-more entries (record { event = event; reply = reply_due policy setup entries event }) (due_in_memory entries event)
+      kept-more entries (record { event = event; reply = reply_due policy setup entries event }) (due_in_memory policy setup entries event)
       ∙ ap (λ (v : List (Entry K)). v ++ record { event = event; reply = reply_due policy setup entries event } ∷ []) h)
       kept-none events
 
@@ -70,7 +66,7 @@ module _ {K D : Type 0} (policy : Policy K D) (setup : Setup D) where
       (entries_due-keeps (λ entries. (kept entries ≡ entries) × IsLegal policy setup entries)
       (λ entries event h.
       let e : Entry K = record { event = event; reply = reply_due policy setup entries event } in (
-        kept-more entries e (due_in_memory entries event) ∙ ap (λ (v : List (Entry K)). v ++ e ∷ []) h.0,
+        kept-more entries e (due_in_memory policy setup entries event) ∙ ap (λ (v : List (Entry K)). v ++ e ∷ []) h.0,
         legal-more policy setup entries e h.1 (inl (ap (λ v. reply_due policy setup v event) (sym h.0))),
       ))
       (kept-none, nothing_is_legal) events).1

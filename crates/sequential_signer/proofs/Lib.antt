@@ -16,3 +16,6 @@ pub mod Greatest
 pub mod Queue
 pub mod WakeLaw
 pub mod Due
+pub mod OneTranscript
+pub mod HandOver
+pub mod LoadBegins

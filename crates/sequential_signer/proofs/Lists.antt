@@ -92,3 +92,13 @@ module _ {X : Type 0} where
   find-more_yes p (z ∷ zs) x n h =
       (elim (p z) as (λ v. cond v (Some z) (find p zs) ≡ None → cond v (Some z) (find p (zs ++ x ∷ [])) ≡ Some x)
       [ true ↦ λ e. (cc) | false ↦ λ e. find-more_yes p zs x e h ]) n
+
+  -- items that fail a test can be left out before it
+  within_by : (p q : X → Bool) (x : X) (xs : List X) → (p x ≡ true → q x ≡ true) → filter p (filter q xs) ≡ filter p xs → (s : Bool) → q x ≡ s → (b : Bool) → p x ≡ b → filter p (filter q (x ∷ xs)) ≡ filter p (x ∷ xs)
+  within_by p q x xs f rest true s b h = rw (s, h, rest) refl
+  within_by p q x xs f rest false s true h = let bad : q x ≡ true = f h in cc
+  within_by p q x xs f rest false s false h = rw (s, h) rest
+
+  pub filter-within : (p q : X → Bool) → ((x : X) → p x ≡ true → q x ≡ true) → (xs : List X) → filter p (filter q xs) ≡ filter p xs
+  filter-within p q f [] = refl
+  filter-within p q f (x ∷ xs) = within_by p q x xs (f x) (filter-within p q f xs) (q x) refl (p x) refl

@@ -1,5 +1,5 @@
 -- A transcript as a run: one row of the table after another.
-use Rattle.std.proofs.Common.{◌≡◌, true, false, not, List, [], ◌∷◌, ◌++◌, Option, refl, sym, ap, subst, inl, inr}
+use Rattle.std.proofs.Common.{◌≡◌, true, false, not, List, [], ◌∷◌, ◌++◌, Option, refl, sym, ◌∙◌, ap, subst, inl, inr}
 use Rattle.std.proofs.lemmas.List.{append-nil, append_assoc}
 use Rattle.wake_lock.specs.declared.CallId.{CallId}
 use Rattle.sequential_signer.specs.Lookup.{HandOut, Refuse}
@@ -50,25 +50,29 @@ module _ {K D : Type 0} (policy : Policy K D) (setup : Setup D) where
   in_memory entries event reply (fails _ _ _ _ _) = refl
   in_memory entries event reply (cancels _ _ _) = refl
 
-  -- a legal entry with the reply that is due
-  pub due_row : (entries : List (Entry K)) (e : Entry K) → e.reply ≡ reply_due policy setup entries e.event → Happens policy setup entries e.event e.reply
-  due_row entries e h = subst (λ r. Happens policy setup entries e.event r) (sym h) (due_happens policy setup entries e.event)
+  -- the reply that is due does not want for memory
+  pub due_in_memory : (entries : List (Entry K)) (event : Event K) → is_out_of_memory (reply_due policy setup entries event) ≡ false
+  due_in_memory entries event = in_memory entries event _ (due_happens policy setup entries event)
 
-  run_step : (before : List (Entry K)) (e : Entry K) → IsRun policy setup (kept before) → IsLegalEntry policy setup (kept before) e → IsRun policy setup (kept (before ++ e ∷ []))
-  run_step before e r (inl due) =
-      let row : Happens policy setup (kept before) e.event e.reply = due_row (kept before) e due in
-      rw (kept-more before e (in_memory (kept before) e.event e.reply row)) (more (kept before) e.event e.reply r row)
-  run_step before e r (inr lost) = rw (kept-lost before e (ap is_out_of_memory lost.0)) r
+  module _ (P : List (Entry K) → Type 0) (step : (entries : List (Entry K)) (event : Event K) → P entries → P (entries ++ record { event = event; reply = reply_due policy setup entries event } ∷ [])) where
+    entry_keeps : (before : List (Entry K)) (e : Entry K) → P (kept before) → IsLegalEntry policy setup (kept before) e → P (kept (before ++ e ∷ []))
+    entry_keeps before e p (inl due) =
+        rw (kept-more before e (ap is_out_of_memory due ∙ due_in_memory (kept before) e.event))
+        (subst (λ (r : Reply K). P (kept before ++ record { event = e.event; reply = r } ∷ [])) (sym due) (step (kept before) e.event p))
+    entry_keeps before e p (inr lost) = rw (kept-lost before e (ap is_out_of_memory lost.0)) p
 
-  run_after : (before rest : List (Entry K)) → IsRun policy setup (kept before) → IsLegalAfter policy setup before rest → IsRun policy setup (kept (before ++ rest))
-  run_after before [] r l = rw (append-nil before) r
-  run_after before (e ∷ rest) r l =
-      rw (sym (append_assoc before (e ∷ []) rest)) (run_after (before ++ e ∷ []) rest (run_step before e r l.0) l.1)
+    after_keeps : (before rest : List (Entry K)) → P (kept before) → IsLegalAfter policy setup before rest → P (kept (before ++ rest))
+    after_keeps before [] p l = rw (append-nil before) p
+    after_keeps before (e ∷ rest) p l = rw (sym (append_assoc before (e ∷ []) rest)) (after_keeps (before ++ e ∷ []) rest (entry_keeps before e p l.0) l.1)
+
+    -- what holds at the start, and stays with each entry that is due, holds of what counts of each legal transcript
+    pub legal_keeps : P [] → (entries : List (Entry K)) → IsLegal policy setup entries → P (kept entries)
+    unfolding IsLegal
+    legal_keeps first entries l = after_keeps [] entries (rw kept-none first) l
 
   -- what counts of a legal transcript is a run
   pub legal_run : (entries : List (Entry K)) → IsLegal policy setup entries → IsRun policy setup (kept entries)
-  unfolding IsLegal
-  legal_run entries l = run_after [] entries (rw kept-none start) l
+  legal_run entries l = legal_keeps (IsRun policy setup) (λ before event r. more before event _ r (due_happens policy setup before event)) start entries l
 
   legal_after-more : (before entries : List (Entry K)) (e : Entry K) → IsLegalAfter policy setup before entries → IsLegalEntry policy setup (kept (before ++ entries)) e → IsLegalAfter policy setup before (entries ++ e ∷ [])
   legal_after-more before [] e l h = (subst (λ b. IsLegalEntry policy setup (kept b) e) (append-nil before) h, tt)

@@ -11,3 +11,5 @@ pub mod Wake
 pub mod ReplyDue
 pub mod Legal
 pub mod LiveCall
+pub mod LawsOfReplies
+pub mod LawsOfHandOver
