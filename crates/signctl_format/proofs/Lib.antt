@@ -1,0 +1,2 @@
+pub mod WordList
+pub mod NumberWords

@@ -1,5 +1,5 @@
 -- What a line says: the grammar as a function.
-use Rattle.std.specs.Prelude.{◌≡◌, ℕ, ℤ, Bool, List, [], ◌∷◌, Option, Some, None, if◌then◌else◌, codes}
+use Rattle.std.specs.Prelude.{◌≡◌, ℕ, ℤ, Bool, List, [], ◌∷◌, Option, Some, None, Result, Ok, Err, if◌then◌else◌, codes}
 use Rattle.std.specs.Str.{bytes_eq}
 use Rattle.std.specs.declared.time.Duration.{Duration}
 use Rattle.sign_base.specs.declared.head.Field.{Field}
@@ -17,6 +17,8 @@ use Rattle.signctl_format.specs.declared.credential.ScriptRule.{ScriptRule}
 use Rattle.signctl_format.specs.declared.credential.ScriptRule.TheVariants.{Now, Cred}
 use Rattle.signctl_format.specs.declared.item.Item.{Item}
 use Rattle.signctl_format.specs.declared.item.Item.TheVariants.{Silent, Cache, Handle, Event}
+use Rattle.signctl_format.specs.declared.unread.Unread.{Unread}
+use Rattle.signctl_format.specs.declared.unread.Unread.TheVariants.{NotUnderstood, OutOfMemory}
 use Rattle.signctl_format.specs.Words.{words, number_of, is_target, greatest_u32, greatest_u64}
 use Rattle.signctl_format.specs.Moments.{moment_of, duration_of}
 use Rattle.signctl_format.specs.Heads.{version_of, field_of}
@@ -175,3 +177,18 @@ words_say (name ∷ rest) = form_of name rest
 -- the item that a line spells, if it spells one
 unfoldable pub item_of : List ℕ → Option Item
 item_of line = if is_silent line then Some Silent else words_say (words line)
+
+-- the words of what stands behind a word of its line: nothing, or a space and more words
+abbrev pub words_after : List ℕ → List (List ℕ)
+words_after [] = []
+words_after (space ∷ rest) = words rest
+
+-- why a reader gave nothing, against what the words say
+abbrev pub Fails : {Y : Type 0} → Unread → Option Y → Type 0
+Fails NotUnderstood says = says ≡ None
+Fails OutOfMemory says = Unit {0}
+
+-- what a reader gave, seen by view, is what the words say, unless memory ran out
+abbrev pub Gives : {X Y : Type 0} → (X → Y) → Result X Unread → Option Y → Type 0
+Gives view (Ok x) says = says ≡ Some (view x)
+Gives view (Err e) says = Fails e says

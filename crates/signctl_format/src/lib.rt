@@ -7,6 +7,8 @@ pub mod credential;
 pub mod item;
 pub mod print;
 mod text;
+mod unread;
+mod word;
 
 pub use credential::{ScriptCredential, ScriptRule};
 pub use item::Item;

@@ -1,0 +1,34 @@
+-- The words of a line, one after another.
+use Rattle.std.proofs.Common.{◌≡◌, ℕ, ◌+◌, suc, ◌<◌, ◌≤◌, Bool, true, false, cond, not, ltb, List, [], ◌∷◌, length, take, drop, Option, Some, None, refl, arith}
+use Rattle.std.specs.List.{position, position_or_len}
+use Rattle.std.proofs.lemmas.Bool.{ltb-false}
+use Rattle.std.proofs.lemmas.List.Sums.{prefix_len-le-length}
+use Rattle.signctl_format.specs.Words.{is_space, words}
+use Rattle.signctl_format.specs.Reading.{words_after}
+
+abbrev SplitsAt : List ℕ → ℕ → Type 0
+SplitsAt text n = words text ≡ take n text ∷ words_after (drop n text)
+
+one_more : (b : ℕ) (text : List ℕ) (s : Bool) → is_space b ≡ s → SplitsAt text (position_or_len is_space text) → SplitsAt (b ∷ text) (position_or_len is_space (b ∷ text))
+one_more b text true space ih = rw space refl
+one_more b text false space ih =
+    let k : 1 + position_or_len is_space text ≡ suc (position_or_len is_space text) = omega arith in
+    rw (space, k, ih) refl
+
+-- the first word of a text ends at its first space
+pub words_split : (text : List ℕ) → words text ≡ take (position_or_len is_space text) text ∷ words_after (drop (position_or_len is_space text) text)
+words_split [] = refl
+words_split (b ∷ text) = one_more b text (is_space b) refl (words_split text)
+
+pub place_within : (p : ℕ → Bool) (xs : List ℕ) → position_or_len p xs ≤ length xs
+place_within p xs = prefix_len-le-length (λ x. not (p x)) xs
+
+fails_everywhere : (p : ℕ → Bool) (xs : List ℕ) (b : Bool) → ltb (position_or_len p xs) (length xs) ≡ b → cond b (Some (position_or_len p xs)) None ≡ None → length xs ≡ position_or_len p xs
+fails_everywhere p xs true test e = absurd cc
+fails_everywhere p xs false test e =
+    let beyond = ltb-false (position_or_len p xs) (length xs) test in
+    omega (arith, beyond, place_within p xs)
+
+-- where no place is found, the whole list stands before it
+pub no_place : (p : ℕ → Bool) (xs : List ℕ) → position p xs ≡ None → length xs ≡ position_or_len p xs
+no_place p xs e = fails_everywhere p xs (ltb (position_or_len p xs) (length xs)) refl e

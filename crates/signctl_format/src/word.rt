@@ -1,0 +1,95 @@
+//! The words of a line, from left to right.
+//!
+//! What stands behind a word is empty, or begins with the space before the next word.
+ghost use Rattle.std.specs.Prelude.{◌≡◌, ◌≤◌, ◌<◌, [], ◌∷◌, length, ℕ, ◌^◌, IfOk, IfErr, Ok, MatchOption, IfSome, decimal};
+ghost use Rattle.std.specs.List.{position, position_or_len};
+ghost use Rattle.signctl_format.specs.declared.unread.Unread.TheVariants.{NotUnderstood};
+ghost use Rattle.signctl_format.specs.Words.{is_space, words, number_of, greatest_u32};
+ghost use Rattle.signctl_format.specs.Reading.{words_after, first_word, number_at, Gives};
+
+use crate::unread::Unread;
+use itoa::Buffer;
+use std::str;
+
+/// The text before its first space, and the rest from that space on.
+#[tactic(auto, using(crate::proofs::WordList::words_split))]
+pub fn split_word(text: &[u8]) -> (&[u8], &[u8])
+    ensures words { words text.now ≡ result.0.now ∷ words_after result.1.now }
+    ensures shorter { length result.1.now ≤ length text.now }
+{
+    text.split_at(word_len(text))
+}
+
+fn word_len(text: &[u8]) -> usize
+    ensures { result ≡ position_or_len is_space text.now }
+{
+    match first_space(text) {
+        Some(place) => place,
+        None => text.len(),
+    }
+}
+
+fn first_space(text: &[u8]) -> Option<usize>
+    ensures { result ≡ position is_space text.now }
+{
+    text.iter().position(|b| *b == b' ')
+}
+
+/// The next word, and what stands behind it.
+pub fn next_word(rest: &[u8]) -> Option<(&[u8], &[u8])>
+    ensures words { MatchOption result (words_after rest.now ≡ [])
+        (λ w. words_after rest.now ≡ w.0.now ∷ words_after w.1.now) }
+    ensures shorter { IfSome result (λ w. length w.1.now < length rest.now) }
+{
+    match rest {
+        [] => None,
+        [_, text @ ..] => Some(split_word(text)),
+    }
+}
+
+/// The number up to a limit that a word spells.
+pub fn number(limit: u64, word: &[u8]) -> Result<u64, Unread>
+    ensures value { Gives (λ n. n) result (number_of limit word.now) }
+    ensures fits { IfOk result (λ n. n ≤ limit) }
+{
+    let n = parse(word)?;
+    if n <= limit && Buffer::new().format(n).as_bytes() == word {
+        Ok(n)
+    } else {
+        Err(Unread::NotUnderstood)
+    }
+}
+
+/// The number of some digits, which may have a sign or zeros in front.
+fn parse(word: &[u8]) -> Result<u64, Unread>
+    ensures decimal { (n : ℕ) → n < 2 ^ 64 → word.now ≡ decimal n → result ≡ Ok n }
+    ensures err { IfErr result (λ e. e ≡ NotUnderstood) }
+{
+    match str::from_utf8(word) {
+        Ok(digits) => match digits.parse::<u64>() {
+            Ok(n) => Ok(n),
+            Err(_) => Err(Unread::NotUnderstood),
+        },
+        Err(_) => Err(Unread::NotUnderstood),
+    }
+}
+
+/// The number in the next word.
+#[tactic(auto, unfolding(crate::specs::Reading::number_at))]
+pub fn number_at(limit: u64, rest: &[u8]) -> Result<(u64, &[u8]), Unread>
+    ensures value { Gives (λ x. (x.0, words_after x.1.now)) result (number_at limit (words_after rest.now)) }
+    ensures fits { IfOk result (λ x. x.0 ≤ limit) }
+{
+    let Some((word, rest)) = next_word(rest) else {
+        return Err(Unread::NotUnderstood);
+    };
+    Ok((number(limit, word)?, rest))
+}
+
+/// The number in the next word, where it fits 32 bits.
+pub fn u32_at(rest: &[u8]) -> Result<(u32, &[u8]), Unread>
+    ensures { Gives (λ x. (x.0, words_after x.1.now)) result (number_at greatest_u32 (words_after rest.now)) }
+{
+    let (n, rest) = number_at(u64::from(u32::MAX), rest)?;
+    Ok((n as u32, rest))
+}
