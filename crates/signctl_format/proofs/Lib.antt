@@ -1,2 +1,3 @@
 pub mod WordList
 pub mod NumberWords
+pub mod HeadWords

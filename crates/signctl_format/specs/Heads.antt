@@ -1,13 +1,13 @@
 -- Request heads: method, URI and version, then each header as `name:value`.
-use Rattle.std.specs.Prelude.{◌≡◌, ℕ, ◌+◌, ◌-◌, ◌*◌, ◌/◌, ◌%◌, Bool, true, false, not, ◌&&◌, ◌==◌, nat_le, nat_lt, List, [], ◌∷◌, ◌++◌, map, flat_map, Option, Some, None, if◌then◌else◌, option_map, option_and_then, IsTrue, codes}
-use Rattle.std.specs.List.{list_all, list_any, before_first, after_first}
+use Rattle.std.specs.Prelude.{◌≡◌, ℕ, ◌+◌, ◌-◌, ◌*◌, ◌/◌, ◌%◌, Bool, true, false, not, ◌&&◌, ◌==◌, nat_le, nat_lt, List, [], ◌∷◌, ◌++◌, map, flat_map, take, drop, Option, Some, None, if◌then◌else◌, option_map, option_and_then, IsTrue, codes}
+use Rattle.std.specs.List.{list_all, list_any, position}
 use Rattle.std.specs.Str.{bytes_eq}
 use Rattle.std.specs.Fmt.{digit_glyph}
 use Rattle.sign_base.specs.declared.head.Field.{Field}
 use Rattle.sign_base.specs.declared.head.Head.{Head}
 use Rattle.sign_base.specs.declared.head.Version.{Version}
 use Rattle.sign_base.specs.declared.head.Version.TheVariants.{V09, V10, V11, V2, V3}
-use Rattle.signctl_format.specs.Words.{is_visible, is_empty, is_target}
+use Rattle.signctl_format.specs.Words.{is_visible, is_target}
 
 abbrev pub version_word : Version → List ℕ
 version_word V09 = codes "0.9"
@@ -77,12 +77,21 @@ field_word f = f.name ++ 58 ∷ value_word f.value
 abbrev pub is_field : Field → Bool
 is_field f = is_name f.name && list_all (λ b. nat_lt b 256) f.value
 
--- the header that a word spells
-abbrev pub field_of : List ℕ → Option Field
-field_of word =
-    if list_any is_colon word && is_name (before_first is_colon word)
-    then option_map (λ value. record { name = before_first is_colon word; value = value }) (value_of (after_first is_colon word))
+-- a header of this name, where it has a value
+abbrev pub named : List ℕ → Option (List ℕ) → Option Field
+named name value = option_map (λ v. record { name = name; value = v }) value
+
+-- the header that a word spells with its first colon at this place
+abbrev pub field_at : List ℕ → Option ℕ → Option Field
+field_at word None = None
+field_at word (Some colon) =
+    if is_target (take colon word)
+    then named (take colon word) (value_of (drop (colon + 1) word))
     else None
+
+-- the header that a word spells: its name stands before the first colon, its value behind it
+abbrev pub field_of : List ℕ → Option Field
+field_of word = field_at word (position is_colon word)
 
 -- the words of a head
 abbrev pub head_words : Head → List (List ℕ)

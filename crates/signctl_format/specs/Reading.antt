@@ -57,13 +57,19 @@ call_at words = do
   number ← number_at greatest_u64 handle.1
   Some (record { handle = handle.0; number = number.0 }, number.1)
 
-unfoldable pub credential_at : List (List ℕ) → Option (ScriptCredential × List (List ℕ))
-credential_at words = do
+-- what was read, where no word is left
+abbrev pub ended : {A : Type 0} → A → List (List ℕ) → Option A
+ended x [] = Some x
+ended x (word ∷ rest) = None
+
+-- a credential goes to the end of its line
+unfoldable pub credential_of : List (List ℕ) → Option ScriptCredential
+credential_of words = do
   generation ← number_at greatest_u64 words
   fresh ← moment_at generation.1
   expires ← moment_at fresh.1
   required ← moment_at expires.1
-  Some (record { generation = generation.0; fresh = fresh.0; expires = expires.0; required = required.0 }, required.1)
+  ended (record { generation = generation.0; fresh = fresh.0; expires = expires.0; required = required.0 }) required.1
 
 -- the headers that these words spell, all of them
 unfoldable pub fields_of : List (List ℕ) → Option (List Field)
@@ -81,11 +87,6 @@ head_of words = do
   version ← first_word version_of uri.1
   headers ← fields_of version.1
   Some (record { method = method.0; uri = uri.0; version = version.0; headers = headers })
-
--- the item, where no word is left
-abbrev pub ended : Item → List (List ℕ) → Option Item
-ended item [] = Some item
-ended item (word ∷ rest) = None
 
 unfoldable pub chain_of : List (List ℕ) → Option Item
 chain_of words = do
@@ -122,8 +123,8 @@ unfoldable pub found_of : List (List ℕ) → Option Item
 found_of words = do
   call ← call_at words
   now ← moment_at call.1
-  credential ← credential_at now.1
-  ended (Event (Provided call.0 now.0 (Found credential.0))) credential.1
+  credential ← credential_of now.1
+  Some (Event (Provided call.0 now.0 (Found credential)))
 
 unfoldable pub missing_of : List (List ℕ) → Option Item
 missing_of words = do

@@ -1,5 +1,5 @@
 -- A line is parted into words by single spaces. Numbers and names are words.
-use Rattle.std.specs.Prelude.{◌≡◌, ℕ, Bool, true, false, not, ◌&&◌, ◌==◌, nat_le, List, [], ◌∷◌, ◌++◌, Option, Some, None, if◌then◌else◌, flat_map}
+use Rattle.std.specs.Prelude.{◌≡◌, ℕ, Bool, ◌&&◌, ◌==◌, nat_le, nat_lt, length, List, [], ◌∷◌, ◌++◌, Option, Some, None, if◌then◌else◌, flat_map}
 use Rattle.std.specs.List.{slice_split, list_all}
 use Rattle.std.specs.Str.{bytes_eq}
 use Rattle.std.specs.Str.Parse.{digits_value}
@@ -37,10 +37,6 @@ number_of limit word =
 abbrev pub is_visible : ℕ → Bool
 is_visible b = nat_le 33 b && nat_le b 126
 
-abbrev pub is_empty : List ℕ → Bool
-is_empty [] = true
-is_empty (b ∷ rest) = false
-
 -- a method or a URI: one or more visible bytes, taken as they are
 abbrev pub is_target : List ℕ → Bool
-is_target word = not (is_empty word) && list_all is_visible word
+is_target word = nat_lt 0 (length word) && list_all is_visible word

@@ -4,8 +4,11 @@
 #![tactic(auto)]
 
 pub mod credential;
+mod head;
 pub mod item;
+mod moment;
 pub mod print;
+mod read;
 mod text;
 mod unread;
 mod word;
@@ -15,3 +18,4 @@ pub use item::Item;
 pub use print::{
     Cause, push_cache, push_fault, push_final, push_handle, push_reply, push_too_much,
 };
+pub use read::read_line;

@@ -1,7 +1,7 @@
 //! The words of a line, from left to right.
 //!
 //! What stands behind a word is empty, or begins with the space before the next word.
-ghost use Rattle.std.specs.Prelude.{◌≡◌, ◌≤◌, ◌<◌, [], ◌∷◌, length, ℕ, ◌^◌, IfOk, IfErr, Ok, MatchOption, IfSome, decimal};
+ghost use Rattle.std.specs.Prelude.{◌≡◌, ◌≤◌, ◌<◌, [], ◌∷◌, length, ℕ, ◌^◌, IfOk, IfErr, Ok, MatchOption, MatchResult, IfSome, decimal};
 ghost use Rattle.std.specs.List.{position, position_or_len};
 ghost use Rattle.signctl_format.specs.declared.unread.Unread.TheVariants.{NotUnderstood};
 ghost use Rattle.signctl_format.specs.Words.{is_space, words, number_of, greatest_u32};
@@ -47,6 +47,17 @@ pub fn next_word(rest: &[u8]) -> Option<(&[u8], &[u8])>
     }
 }
 
+/// The next word, where there has to be one.
+pub fn word_at(rest: &[u8]) -> Result<(&[u8], &[u8]), Unread>
+    ensures { MatchResult result (λ w. words_after rest.now ≡ w.0.now ∷ words_after w.1.now)
+        (λ e. (e ≡ NotUnderstood) × (words_after rest.now ≡ [])) }
+{
+    match next_word(rest) {
+        Some(found) => Ok(found),
+        None => Err(Unread::NotUnderstood),
+    }
+}
+
 /// The number up to a limit that a word spells.
 pub fn number(limit: u64, word: &[u8]) -> Result<u64, Unread>
     ensures value { Gives (λ n. n) result (number_of limit word.now) }
@@ -80,9 +91,7 @@ pub fn number_at(limit: u64, rest: &[u8]) -> Result<(u64, &[u8]), Unread>
     ensures value { Gives (λ x. (x.0, words_after x.1.now)) result (number_at limit (words_after rest.now)) }
     ensures fits { IfOk result (λ x. x.0 ≤ limit) }
 {
-    let Some((word, rest)) = next_word(rest) else {
-        return Err(Unread::NotUnderstood);
-    };
+    let (word, rest) = word_at(rest)?;
     Ok((number(limit, word)?, rest))
 }
 

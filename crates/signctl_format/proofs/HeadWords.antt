@@ -1,0 +1,68 @@
+-- The words of a head, read one after another.
+use Rattle.std.proofs.Common.{◌≡◌, ℕ, ◌+◌, ◌<◌, ◌≤◌, Bool, true, false, List, [], ◌∷◌, ◌++◌, Option, Some, None, refl, sym, ap, ◌∙◌, append_assoc, append-nil, length, take, drop, arith}
+use Rattle.std.specs.Prelude.{option_map, option_and_then}
+use Rattle.std.specs.List.{list_all, position}
+use Rattle.std.proofs.lemmas.Bool.{lt-ltb}
+use Rattle.signctl_format.specs.Words.{is_visible, is_target}
+use Rattle.sign_base.specs.declared.head.Field.{Field}
+use Rattle.signctl_format.specs.declared.unread.Unread.{Unread}
+use Rattle.signctl_format.specs.declared.unread.Unread.TheVariants.{NotUnderstood, OutOfMemory}
+use Rattle.signctl_format.specs.Reading.{Fails, fields_of, ◌>>=◌}
+use Rattle.signctl_format.specs.Heads.{field_of, named, is_colon, is_plain, behind, escaped, value_of}
+
+-- what was read so far, in front of what the rest says
+abbrev pub with_front : {A : Type 0} → List A → Option (List A) → Option (List A)
+with_front front says = option_map (λ rest. front ++ rest) says
+
+pub front_behind : (front : List ℕ) (b : ℕ) (says : Option (List ℕ)) → with_front front (behind b says) ≡ with_front (front ++ b ∷ []) says
+front_behind front b None = refl
+front_behind front b (Some rest) = ap Some (sym (append_assoc front (b ∷ []) rest))
+
+pub front_end : (front : List ℕ) → with_front front (Some []) ≡ Some front
+front_end front = ap Some (append-nil front)
+
+regrouped : (front : List Field) (field : Field) (says : Option (List Field)) → with_front front (says >>= λ fields. Some (field ∷ fields)) ≡ with_front (front ++ field ∷ []) says
+regrouped front field None = refl
+regrouped front field (Some rest) = ap Some (sym (append_assoc front (field ∷ []) rest))
+
+-- a plain byte stands for itself, whatever follows
+pub value_of-plain : (b : ℕ) (after : List ℕ) → is_plain b ≡ true → value_of (b ∷ after) ≡ behind b (value_of after)
+value_of-plain b [] plain = rw plain refl
+value_of-plain b (c ∷ []) plain = rw plain refl
+value_of-plain b (c ∷ d ∷ after) plain = rw plain refl
+
+-- one more header was read
+pub fields_more : (front : List Field) (word : List ℕ) (field : Field) (rest ws : List (List ℕ)) (total : Option (List Field)) → ws ≡ word ∷ rest → field_of word ≡ Some field → with_front front (fields_of ws) ≡ total → with_front (front ++ field ∷ []) (fields_of rest) ≡ total
+unfolding fields_of
+fields_more front word field rest ws total parted read so_far =
+    let one : with_front front (fields_of ws) ≡ with_front (front ++ field ∷ []) (fields_of rest) = rw (parted, read) (regrouped front field (fields_of rest)) in
+    sym one ∙ so_far
+
+-- a word that is no header ends the reading
+pub fields_stop : (e : Unread) (front : List Field) (word : List ℕ) (rest ws : List (List ℕ)) (total : Option (List Field)) → ws ≡ word ∷ rest → Fails e (field_of word) → with_front front (fields_of ws) ≡ total → Fails e total
+unfolding fields_of
+fields_stop OutOfMemory front word rest ws total parted read so_far = tt
+fields_stop NotUnderstood front word rest ws total parted read so_far =
+    let none : with_front front (fields_of ws) ≡ None = rw (parted, read) refl in
+    sym so_far ∙ none
+
+-- no word is left
+pub fields_done : (front : List Field) (ws : List (List ℕ)) (total : Option (List Field)) → ws ≡ [] → with_front front (fields_of ws) ≡ total → total ≡ Some front
+unfolding fields_of
+fields_done front ws total parted so_far =
+    let all : with_front front (fields_of ws) ≡ Some front = rw parted (ap Some (append-nil front)) in
+    sym so_far ∙ all
+
+-- one or more bytes are a target where they are visible
+pub target_if : (word : List ℕ) (visible : Bool) → 0 < length word → visible ≡ list_all is_visible word → visible ≡ is_target word
+target_if word visible some e = rw (lt-ltb 0 (length word) some) e
+
+-- one more byte of a value was read
+pub value_more : (front : List ℕ) (b : ℕ) (after rest : List ℕ) (total : Option (List ℕ)) → value_of rest ≡ behind b (value_of after) → with_front front (value_of rest) ≡ total → with_front (front ++ b ∷ []) (value_of after) ≡ total
+value_more front b after rest total read so_far = sym (ap (with_front front) read ∙ front_behind front b (value_of after)) ∙ so_far
+
+-- a word with a name before its first colon is a header where its rest is a value
+pub field_found : (word : List ℕ) (colon : ℕ) (name value : List ℕ) → position is_colon word ≡ Some colon → name ≡ take colon word → value ≡ drop (colon + 1) word → is_target name ≡ true → field_of word ≡ named name (value_of value)
+field_found word colon name value place front back target =
+    let named_well : is_target (take colon word) ≡ true = ap is_target (sym front) ∙ target in
+    rw (place, front, back, named_well) refl
