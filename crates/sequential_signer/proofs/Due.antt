@@ -10,7 +10,6 @@ use Rattle.sequential_signer.specs.ReplyDue.{reply_due}
 use Rattle.sequential_signer.specs.Legal.{IsLegal, IsLegalAfter, IsLegalEntry, with_reply_due, entries_due, replies_due}
 use Rattle.sequential_signer.specs.declared.event.Entry.{Entry}
 use Rattle.sequential_signer.specs.declared.event.Event.{Event}
-use Rattle.sequential_signer.proofs.Happens.{due_happens}
 use Rattle.sequential_signer.proofs.Run.{due_in_memory, kept-none, kept-more, legal-more}
 
 fold-keeps : {B X : Type 0} (f : B → X → B) (P : B → Type 0) → ((b : B) (x : X) → P b → P (f b x)) → (xs : List X) (b : B) → P b → P (fold f b xs)

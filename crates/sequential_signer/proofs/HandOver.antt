@@ -1,23 +1,18 @@
 -- The refresh lock of a cache is handed over exactly: who loads, who has the turn, and when a load begins.
-use Rattle.std.proofs.Common.{◌≡◌, ℕ, ℤ, Bool, true, false, not, cond, ◌&&◌, ◌||◌, ◌==◌, nat_lt, List, [], ◌∷◌, ◌++◌, Option, Some, None, is_none, is_some, refl, sym, ◌∙◌, ap, subst, filter, find, length, slice_get, IsTrue, arith, inl, inr}
+use Rattle.std.proofs.Common.{◌≡◌, ℕ, Bool, true, false, not, cond, ◌&&◌, ◌||◌, List, [], ◌∷◌, Some, refl, sym, ◌∙◌, ap, find}
 use Rattle.std.specs.List.{list_any, list_all}
 use Rattle.wake_lock.specs.declared.CallId.{CallId}
 use Rattle.sequential_signer.specs.Policy.{Policy}
-use Rattle.sequential_signer.specs.Lookup.{Outcome, HandOut, Refuse, cache_lookup, lookup_by}
-use Rattle.sequential_signer.specs.SequentialCall.{HoldInput, Progress, Asking, Over, sequential_call, after_lookup, load_progress, next_of_chain}
-use Rattle.sequential_signer.specs.Setup.{Setup, cache_of, rule_of}
-use Rattle.sequential_signer.specs.Transcript.{same_call, kept, call_of, last_of}
-use Rattle.sequential_signer.specs.Phase.{Phase, Unknown, Fresh, Queued, Loading, Signing, Ended, phase_of, is_waiting, is_queued, is_loading}
-use Rattle.sequential_signer.specs.Turn.{poll_order, hold_is_finished, has_turn, calls_ahead, before_call}
-use Rattle.sequential_signer.specs.Hold.{BeginInput, begin_of}
-use Rattle.sequential_signer.specs.SequentialCache.{sequential_cache}
-use Rattle.sequential_signer.specs.Legal.{IsLegal}
+use Rattle.sequential_signer.specs.Setup.{Setup, cache_of}
+use Rattle.sequential_signer.specs.Transcript.{same_call, kept}
+use Rattle.sequential_signer.specs.Phase.{Phase, Unknown, Fresh, Queued, Loading, Signing, Ended, phase_of, is_queued, is_loading}
+use Rattle.sequential_signer.specs.Turn.{poll_order, hold_is_finished, has_turn, before_call}
 use Rattle.sequential_signer.specs.LawsOfHandOver.{OneCallLoads, SomebodyHasTheTurn, first_open}
 use Rattle.sequential_signer.specs.declared.event.Entry.{Entry}
-use Rattle.sequential_signer.proofs.CallNames.{same_call-eq, same_call-refl, and_left, and_right}
+use Rattle.sequential_signer.proofs.CallNames.{same_call-eq, same_call-refl}
 use Rattle.sequential_signer.proofs.PollOrder.{is_polled}
 use Rattle.sequential_signer.proofs.Run.{IsRun, legal_run}
-use Rattle.sequential_signer.proofs.Standing.{Stands, Waits, Loads, queued_call, unknown_call, fresh_call, loading_call, signing_call, over_call, cancelled_call}
+use Rattle.sequential_signer.proofs.Standing.{Stands, Loads, queued_call}
 use Rattle.sequential_signer.proofs.Stands.{stands, loading_loads}
 use Rattle.sequential_signer.proofs.CacheRows.{one_turn}
 
@@ -32,8 +27,8 @@ first_that_step p x xs fails first f = record {
   found = rw fails f.found;
   passes = f.passes;
   behind =
-    elim (same_call first x) as (λ v. list_all (λ y. not (p y)) (cond v [] (x ∷ before_call first xs)) ≡ true)
-    [ true ↦ refl | false ↦ rw fails f.behind ];
+      elim (same_call first x) as (λ v. list_all (λ y. not (p y)) (cond v [] (x ∷ before_call first xs)) ≡ true)
+      [ true ↦ refl | false ↦ rw fails f.behind ];
 }
 
 -- where one passes, there is a first

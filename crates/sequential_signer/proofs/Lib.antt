@@ -19,3 +19,5 @@ pub mod Due
 pub mod OneTranscript
 pub mod HandOver
 pub mod LoadBegins
+pub mod Wakings
+pub mod WokenOnce

@@ -1,10 +1,10 @@
 -- A poll of a waiting call at its turn begins a load exactly where the look at the cache finds nothing that serves.
-use Rattle.std.proofs.Common.{◌≡◌, ℕ, ℤ, Bool, true, false, not, cond, ◌&&◌, ◌==◌, nat_lt, List, [], ◌∷◌, ◌++◌, Option, Some, None, is_none, refl, sym, ◌∙◌, ap, slice_get, arith, inl, inr}
+use Rattle.std.proofs.Common.{◌≡◌, ℕ, ℤ, true, false, not, cond, ◌==◌, nat_lt, List, [], Option, Some, None, is_none, refl, sym, ◌∙◌, ap, slice_get, arith, inl, inr}
 use Rattle.std.proofs.lemmas.Bool.Decides.{nat_tests}
 use Rattle.wake_lock.specs.declared.CallId.{CallId}
 use Rattle.sequential_signer.specs.Policy.{Policy}
 use Rattle.sequential_signer.specs.Lookup.{Outcome, HandOut, Refuse, cache_lookup, lookup_by}
-use Rattle.sequential_signer.specs.SequentialCall.{HoldInput, Progress, Asking, Over, sequential_call, after_lookup, load_progress, next_of_chain}
+use Rattle.sequential_signer.specs.SequentialCall.{Asking, Over, sequential_call, after_lookup, load_progress}
 use Rattle.sequential_signer.specs.Setup.{Setup, cache_of, rule_of}
 use Rattle.sequential_signer.specs.Transcript.{kept}
 use Rattle.sequential_signer.specs.Phase.{Phase, Unknown, Fresh, Queued, Loading, Signing, Ended, phase_of, is_waiting, is_live}
@@ -12,15 +12,13 @@ use Rattle.sequential_signer.specs.Turn.{has_turn}
 use Rattle.sequential_signer.specs.Hold.{BeginInput, begin_of}
 use Rattle.sequential_signer.specs.SequentialCache.{sequential_cache}
 use Rattle.sequential_signer.specs.ReplyDue.{reply_due, progress_reply, with_wake, waking}
-use Rattle.sequential_signer.specs.Legal.{IsLegal, IsLegalEntry, allocates, is_sign}
-use Rattle.sequential_signer.specs.LawsOfHandOver.{is_empty_chain, begins_load, LoadsExactlyWhereTheLookFails}
+use Rattle.sequential_signer.specs.Legal.{IsLegalEntry, is_sign}
+use Rattle.sequential_signer.specs.LawsOfHandOver.{begins_load, LoadsExactlyWhereTheLookFails}
 use Rattle.sequential_signer.specs.declared.event.Entry.{Entry}
 use Rattle.sequential_signer.specs.declared.event.Event.TheVariants.{Poll}
 use Rattle.sequential_signer.specs.declared.event.Loader.{Loader}
 use Rattle.sequential_signer.specs.declared.event.Loader.TheVariants.{Single, Chain}
 use Rattle.sequential_signer.specs.declared.event.Reply.{Reply}
-use Rattle.sequential_signer.specs.declared.event.Reply.TheVariants.{Sign, Refused, OutOfMemory}
-use Rattle.sequential_signer.specs.declared.event.Why.{Why}
 use Rattle.sequential_signer.specs.declared.event.Why.TheVariants.{Missing, Range}
 use Rattle.sequential_signer.proofs.CallNames.{and_right}
 use Rattle.sequential_signer.proofs.Due.{legal_last}

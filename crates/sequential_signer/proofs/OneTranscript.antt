@@ -1,15 +1,13 @@
 -- Replies leave nothing to choose: two legal transcripts of the same events and the same losses are one.
-use Rattle.std.proofs.Common.{◌≡◌, Bool, true, false, List, [], ◌∷◌, ◌++◌, refl, sym, ◌∙◌, ap, subst, map, inl, inr}
+use Rattle.std.proofs.Common.{◌≡◌, true, false, List, [], ◌∷◌, ◌++◌, refl, sym, ◌∙◌, ap, subst, inl, inr}
 use Rattle.sequential_signer.specs.Policy.{Policy}
 use Rattle.sequential_signer.specs.Setup.{Setup}
 use Rattle.sequential_signer.specs.Transcript.{kept, is_out_of_memory}
-use Rattle.sequential_signer.specs.ReplyDue.{reply_due}
 use Rattle.sequential_signer.specs.Legal.{IsLegal, IsLegalAfter, IsLegalEntry}
 use Rattle.sequential_signer.specs.LawsOfReplies.{events_of, losses_of, OneLegalTranscript}
 use Rattle.sequential_signer.specs.declared.event.Entry.{Entry}
 use Rattle.sequential_signer.specs.declared.event.Event.{Event}
 use Rattle.sequential_signer.specs.declared.event.Reply.{Reply}
-use Rattle.sequential_signer.specs.declared.event.Reply.TheVariants.{OutOfMemory}
 use Rattle.sequential_signer.proofs.Run.{due_in_memory}
 
 first_same : {X : Type 0} (x y : X) (xs ys : List X) → x ∷ xs ≡ y ∷ ys → x ≡ y

@@ -83,7 +83,7 @@ filter-cong p q f (x ∷ xs) = rw (f x, filter-cong p q f xs) refl
 
 -- a poll puts its call at the end, where it was not polled before
 module _ {K D : Type 0} (setup : Setup D) (entries : List (Entry K)) (i : ℕ) (e : Entry K) (stays_open : ends_hold e.reply ≡ false) where
-  finished_same : (b : CallId) → hold_is_finished (entries ++ e ∷ []) b ≡ hold_is_finished entries b
+  pub finished_same : (b : CallId) → hold_is_finished (entries ++ e ∷ []) b ≡ hold_is_finished entries b
   finished_same b = same_by (same_call b (call_of e.event)) refl
     where
       same_by : (s : Bool) → same_call b (call_of e.event) ≡ s → hold_is_finished (entries ++ e ∷ []) b ≡ hold_is_finished entries b
