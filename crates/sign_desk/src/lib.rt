@@ -4,6 +4,7 @@
 pub mod adding;
 pub mod calls;
 pub mod desk;
+pub mod laws;
 pub mod state;
 
 pub use adding::{AddError, AddRefused};

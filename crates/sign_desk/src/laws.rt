@@ -1,0 +1,37 @@
+//! Laws of legal transcripts, over the definitions alone: each function's contract is the law, for every
+//! type of credentials and of rules, every meaning of them, every setup and every transcript.
+ghost use Rattle.sequential_signer.specs.LawsOfReplies.{OneLegalTranscript};
+ghost use Rattle.sequential_signer.specs.LawsOfHandOver.{QueuedAtTurnWasWokenOnce, OnlyQueuedCallsAreWoken, OneCallLoads, SomebodyHasTheTurn, LoadsExactlyWhereTheLookFails};
+
+/// For a setup, events, and a choice of those that meet want of memory there is at most one legal
+/// transcript.
+pub fn one_legal_transcript<K, D>()
+    ensures { OneLegalTranscript K D }
+{}
+
+/// Each queued call that has its turn was named by exactly one `wake`.
+pub fn queued_at_turn_was_woken_once<K, D>()
+    ensures { QueuedAtTurnWasWokenOnce K D }
+{}
+
+/// No call was named by a `wake` that was not queued then.
+pub fn only_queued_calls_are_woken<K, D>()
+    ensures { OnlyQueuedCallsAreWoken K D }
+{}
+
+/// Of one cache at most one call is loading.
+pub fn one_call_loads<K, D>()
+    ensures { OneCallLoads K D }
+{}
+
+/// Where a call of a cache is queued, the first one in the order of first polls whose hold is open has
+/// its turn. So while no hold is open nobody waits.
+pub fn somebody_has_the_turn<K, D>()
+    ensures { SomebodyHasTheTurn K D }
+{}
+
+/// A poll of a waiting call at its turn begins a load exactly where the look at the cache finds nothing
+/// that serves.
+pub fn loads_exactly_where_the_look_fails<K, D>()
+    ensures { LoadsExactlyWhereTheLookFails K D }
+{}
