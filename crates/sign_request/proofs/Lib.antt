@@ -6,3 +6,5 @@ pub mod SamePairs
 pub mod HeaderClone
 pub mod Trimming
 pub mod Picked
+pub mod Refused
+pub mod FieldsTaken

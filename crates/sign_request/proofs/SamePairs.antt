@@ -32,6 +32,7 @@ module _ {Z : Type 0} where
       first : List Pair → Pair
       first [] = ([], [])
       first (r ∷ rs) = r
+
       rest : List Pair → List Pair
       rest [] = []
       rest (r ∷ rs) = rs

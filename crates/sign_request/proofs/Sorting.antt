@@ -87,7 +87,7 @@ module _ {X : Type 0} where
     Ascends-from_sort (x ∷ xs) h =
         let far = sorted_far (λ y z. is_lt (cmp y z)) (ranks_by o (λ y. y)) (x ∷ xs) h in (
           all_from_places (λ y. is_gt (cmp x y) ≡ false) xs
-          (λ k d l. ap is_gt (o.antisymm x (get_or xs k d)) ∙ turned (cmp (get_or xs k d) x) (far 0 (suc k) d (omega arith) (omega arith))),
+              (λ k d l. ap is_gt (o.antisymm x (get_or xs k d)) ∙ turned (cmp (get_or xs k d) x) (far 0 (suc k) d (omega arith) (omega arith))),
           Ascends-from_sort xs (λ k d low high.
               let At : ℕ → Type 0 = λ n. is_lt (cmp (get_or (x ∷ xs) n d) (get_or xs k d)) ≡ false in
               let next : suc k + 1 ≡ suc (k + 1) = omega arith in
@@ -113,7 +113,7 @@ module _ {X : Type 0} where
           let back : is_gt (ordering_reverse (cmp x y)) ≡ false = ap is_gt (sym (o.antisymm y x)) ∙ first_not_above y x ys xs k (λ f. sym (e f)) in
           let front : x ≡ y = same x y (neither (cmp x y) (first_not_above x y xs ys h e) back) in
           ap (λ z. z ∷ xs) front ∙ ap (λ zs. y ∷ zs) (one_order xs ys h.1 k.1 (λ f.
-              let one = sum_by-cons f x xs in let two = sum_by-cons f y ys in let both = e f in let heads : f x ≡ f y = ap f front in omega (arith, one, two, both, heads)))
+          let one = sum_by-cons f x xs in let two = sum_by-cons f y ys in let both = e f in let heads : f x ≡ f y = ap f front in omega (arith, one, two, both, heads)))
 
       -- the one ascending order of a list is that of each list with the same elements
       pub sorted-from_sort : (xs ys : List X) → IsPermutation xs ys → IsSorted cmp ys → ys ≡ sorted cmp xs

@@ -67,7 +67,7 @@ trimmed-same : (bytes : List ℕ) → 0 < length bytes → is_space (get_or byte
 trimmed-same bytes some first last =
     let front : prefix_len is_space bytes ≡ 0 = prefix_len_is is_space bytes 0 0 (omega arith) (λ k l. absurd (omega arith)) (λ l. first) in
     let back : suffix_len is_space bytes ≡ length bytes - length bytes =
-        suffix_len_is is_space bytes (length bytes) 0 (omega arith) (λ k l m. absurd (omega arith)) (λ l. last) in
+    suffix_len_is is_space bytes (length bytes) 0 (omega arith) (λ k l m. absurd (omega arith)) (λ l. last) in
     let whole : length bytes - suffix_len is_space bytes ≡ length bytes = omega arith in
     trimmed-some bytes (omega arith)
     ∙ (ap (λ a. slice_range bytes a (length bytes - suffix_len is_space bytes)) front
@@ -88,10 +88,10 @@ trimmed-trimmed bytes =
           let left = length-drop a bytes in
           let long : length kept ≡ n - a = omega (arith, cut, left) in
           let first : is_space (get_or kept 0 0) ≡ false =
-              ap is_space (at 0 (omega arith) ∙ ap (λ i. get_or bytes i 0) (add-zero a)) ∙ prefix_len_stops is_space bytes 0 some in
+          ap is_space (at 0 (omega arith) ∙ ap (λ i. get_or bytes i 0) (add-zero a)) ∙ prefix_len_stops is_space bytes 0 some in
           let last_place : a + (length kept - 1) ≡ n - 1 = omega arith in
           let last : is_space (get_or kept (length kept - 1) 0) ≡ false =
-              ap is_space (at (length kept - 1) (omega arith) ∙ ap (λ i. get_or bytes i 0) last_place) ∙ suffix_stops is_space bytes (omega arith) in
+          ap is_space (at (length kept - 1) (omega arith) ∙ ap (λ i. get_or bytes i 0) last_place) ∙ suffix_stops is_space bytes (omega arith) in
           let is : trimmed bytes ≡ kept = trimmed-some bytes some in
           ap trimmed is ∙ (trimmed-same kept (omega arith) first last ∙ sym is)
       | inr f ↦

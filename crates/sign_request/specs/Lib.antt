@@ -4,4 +4,5 @@ pub mod PairForm
 pub mod Target
 pub mod Request
 pub mod Headers
+pub mod PlainHead
 pub mod Refusal

@@ -1,5 +1,6 @@
 -- Why a call answers an error.
 use Rattle.std.specs.Prelude.{◌≡◌, ℕ, List, [], codes}
+use Rattle.sign_base.specs.Conversion.{IsOfKind}
 use Rattle.sign_base.specs.Error.{ErrorParts, new_error}
 use Rattle.sign_base.specs.declared.error_kind.ErrorKind.TheVariants.{RequestInvalid, OutOfMemory}
 
@@ -23,3 +24,7 @@ invalid_value = codes "invalid header value"
 
 abbrev pub unknown_version : List ℕ
 unknown_version = codes "unknown version"
+
+-- the request is refused, and the cause holds
+abbrev pub RefusedAs : Type 0 → ErrorParts → Type 0
+RefusedAs Cause e = IsOfKind RequestInvalid e × Cause

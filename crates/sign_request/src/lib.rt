@@ -2,9 +2,11 @@
 //! plain ones.
 #![tactic(auto)]
 
+mod fields;
 mod headers;
 mod pair;
 mod pair_form;
+mod plain_head;
 mod query;
 mod query_view;
 mod refusal;
@@ -12,4 +14,5 @@ mod request;
 mod target;
 mod text;
 
+pub use plain_head::{commit, head_of, parts_of};
 pub use request::{SigningMethod, SigningRequest};

@@ -38,5 +38,7 @@ fn read_pair(alloc: Global, piece: &str) -> Result<(String, String), AllocError>
 pub(crate) fn decode(alloc: Global, text: &str) -> Result<String, AllocError>
     ensures { IfOk result (λ plain. string_bytes plain ≡ decoded text.now) }
 {
-    percent_decode_str(text).decode_utf8_lossy(alloc)?.into_owned(alloc)
+    percent_decode_str(text)
+        .decode_utf8_lossy(alloc)?
+        .into_owned(alloc)
 }

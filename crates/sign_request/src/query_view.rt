@@ -55,7 +55,7 @@ impl SigningRequest {
         requires { F.IsAlwaysCallable filter }
         ensures { IfOk result (λ kept. (answers : List Bool)
             × AllZip (λ pair answer. FnReturnsAt F.Fn filter pair.0 answer)
-                (text_pairs self.now.query.items) answers
+            (text_pairs self.now.query.items) answers
             × (text_pairs kept.items ≡ items_where_true answers (text_pairs self.now.query.items))) }
     {
         let mut kept = Vec::new(*self.query.allocator());
@@ -73,7 +73,9 @@ impl SigningRequest {
     pub fn path_percent_decoded(&self) -> Result<CowStr<'_, Global>, NoMemory<()>>
         ensures { IfOk result (λ path. cow_str_bytes path ≡ decoded (string_bytes self.now.path)) }
     {
-        let path = percent_decode_str(self.path.as_str()).decode_utf8_lossy(*self.path.allocator())?;
+        let path = percent_decode_str(self.path.as_str()).decode_utf8_lossy(
+            *self.path.allocator(),
+        )?;
         Ok(path)
     }
 }

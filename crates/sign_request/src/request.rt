@@ -3,8 +3,8 @@ ghost use Rattle.std.specs.Prelude.{◌≡◌, ◌↔◌, ◌⊎◌, IfOk, IfErr
 ghost use Rattle.http_uri.specs.Uri.{uri_authority};
 ghost use Rattle.sign_request.specs.Refusal.{WantsMemory, RefusedFor, no_authority, view_modified};
 
-use crate::refusal::refusal;
 use crate::query::same_pairs;
+use crate::refusal::refusal;
 use crate::target::{is_scheme_of, pairs_of, path_of, scheme_of};
 use http::Method;
 use http::header::HeaderMap;

@@ -17,9 +17,9 @@ loop-i-preserved c =
     let before = map write (text_pairs (take c.loop-i.i c.args.pairs.now)) in
     let last = write (text_pair c.index-pairs-i.result) in
     let more : map write (text_pairs (take (c.loop-i.i + 1) c.args.pairs.now)) ≡ before ++ last ∷ [] =
-        ap (λ ps. map write (text_pairs ps))
-        (take_more c.args.pairs.now c.loop-i.i c.index-pairs-i.result c.loop-i-test.true ∙ ap (λ p. take c.loop-i.i c.args.pairs.now ++ p ∷ []) (sym c.index-pairs-i.is))
-        ∙ (ap (map write) (map-append text_pair _ _) ∙ map-append write _ _) in
+    ap (λ ps. map write (text_pairs ps))
+    (take_more c.args.pairs.now c.loop-i.i c.index-pairs-i.result c.loop-i-test.true ∙ ap (λ p. take c.loop-i.i c.args.pairs.now ++ p ∷ []) (sym c.index-pairs-i.is))
+    ∙ (ap (map write) (map-append text_pair _ _) ∙ map-append write _ _) in
     let as_many : length before ≡ c.loop-i.i = length-map _ write ∙ (length-map _ text_pair ∙ length-take-le c.loop-i.i c.args.pairs.now (omega arith)) in
     let start = c.in_ok-push_pair.ensures {u = tt} in
     elim c.if-i-ne0.branch [

@@ -1,0 +1,15 @@
+use Rattle.std.proofs.Common.{List, ℕ, subst, sym, inl, inr}
+use Rattle.http_uri.specs.Uri.{SpellsNone}
+use Rattle.sign_request.proofs.Refused.{passed_on}
+use Rattle.sign_request.proofs.plain_head.commit.Goals as goal
+
+pub returns-in_err-headers-clause-err : goal.returns-in_err-headers-clause-err
+returns-in_err-headers-clause-err c =
+    passed_on c.from_residual-in_err-headers.result _ c.from_residual-in_err-headers.ensures.1 (λ cause. inr cause) (c.in_err-headers.ensures {u = tt}).err
+
+pub returns-clause-accepted : goal.returns-clause-accepted
+returns-clause-accepted c = λ refused.
+    elim refused [
+      | inl none ↦ (c.in_ok-uri.ensures {u = tt}).accepted (subst (λ (text : List ℕ). SpellsNone text) (sym c.as_slice.ensures) none)
+      | inr fields ↦ (c.in_ok-headers.ensures {u = tt}).accepted fields
+    ]

@@ -1,0 +1,86 @@
+//! Header maps, and lists of plain fields.
+ghost use Rattle.std.specs.Prelude.{◌≡◌, ◌⊎◌, IfOk, IfErr, OnOk, OnErr, map};
+ghost use Rattle.http_header.specs.FieldName.{IsFieldName};
+ghost use Rattle.http_header.specs.FieldValue.{IsFieldValue, plain_value};
+ghost use Rattle.http_header.specs.HeaderMap.{append, pairs, RefusesAppend};
+ghost use Rattle.http_header.specs.Token.{lowercase};
+ghost use Rattle.sign_request.specs.Headers.{header_pair};
+ghost use Rattle.sign_request.specs.PlainHead.{field_pair, header_map, RefusesField, RefusesFields};
+ghost use Rattle.sign_request.specs.Refusal.{WantsMemory, RefusedAs};
+
+use crate::refusal::told;
+use http::header::{
+    HeaderMap, HeaderMapError, HeaderName, HeaderNameError, HeaderValue, HeaderValueError,
+};
+use sign_base::{Error, Field, Fields, NoMemory, Octets};
+use std::alloc::Global;
+
+/// The headers as plain fields, in the map's order.
+pub(crate) fn fields_of(alloc: Global, headers: &HeaderMap) -> Result<Fields, NoMemory<()>>
+    ensures { IfOk result (λ fields. map field_pair fields ≡ map header_pair (pairs headers.now)) }
+{
+    let mut fields = Fields::new(alloc);
+    for (name, value) in headers.iter() {
+        let field = Field {
+            name: Octets::from_slice(alloc, name.as_bytes())?,
+            value: Octets::from_slice(alloc, value.as_bytes())?,
+        };
+        if fields.push(field).is_err() {
+            return Err(NoMemory { back: () });
+        }
+    }
+    Ok(fields)
+}
+
+/// The header map of plain fields, each appended after those before it.
+pub(crate) fn headers_of(alloc: Global, fields: &Fields) -> Result<HeaderMap, Error>
+    ensures ok { IfOk result (λ headers. headers ≡ header_map fields.now) }
+    ensures accepted { OnOk result (¬ (RefusesFields fields.now)) }
+    ensures err { IfErr result (λ e. WantsMemory e ⊎ RefusedAs (RefusesFields fields.now) e) }
+{
+    let mut headers = HeaderMap::new(alloc);
+    for field in fields.as_slice() {
+        append_field(alloc, &mut headers, field)?;
+    }
+    Ok(headers)
+}
+
+fn append_field(alloc: Global, headers: &mut HeaderMap, field: &Field) -> Result<(), Error>
+    ensures ok { OnOk result
+        (headers.new ≡ append headers.old (lowercase field.now.name) (plain_value field.now.value)) }
+    ensures accepted { OnOk result (¬ (RefusesField headers.old field.now)) }
+    ensures err { IfErr result (λ e. WantsMemory e
+        ⊎ RefusedAs (RefusesField headers.old field.now) e) }
+{
+    let name = name_of(alloc, field.name.as_slice())?;
+    let value = value_of(alloc, field.value.as_slice())?;
+    match headers.append(name, value) {
+        Ok(_) => Ok(()),
+        Err(HeaderMapError::MaxSizeReached) => {
+            Err(told(Error::from_http(alloc, &http::Error::MaxSizeReached)))
+        }
+        Err(HeaderMapError::OutOfMemory) => Err(Error::out_of_memory()),
+    }
+}
+
+fn name_of(alloc: Global, name: &[u8]) -> Result<HeaderName, Error>
+    ensures ok { IfOk result (λ found. found ≡ lowercase name.now) }
+    ensures accepted { OnOk result (¬ ¬ (IsFieldName name.now)) }
+    ensures err { IfErr result (λ e. WantsMemory e ⊎ RefusedAs (¬ (IsFieldName name.now)) e) }
+{
+    match HeaderName::from_bytes(alloc, name) {
+        Ok(name) => Ok(name),
+        Err(e) => Err(told(Error::from_header_name(alloc, &e))),
+    }
+}
+
+fn value_of(alloc: Global, value: &[u8]) -> Result<HeaderValue, Error>
+    ensures ok { IfOk result (λ found. found ≡ plain_value value.now) }
+    ensures accepted { OnOk result (¬ ¬ (IsFieldValue value.now)) }
+    ensures err { IfErr result (λ e. WantsMemory e ⊎ RefusedAs (¬ (IsFieldValue value.now)) e) }
+{
+    match HeaderValue::from_bytes(alloc, value) {
+        Ok(value) => Ok(value),
+        Err(e) => Err(told(Error::from_header_value(alloc, &e))),
+    }
+}
