@@ -1,0 +1,3 @@
+pub mod CountingOff
+pub mod CivilTime
+pub mod CivilRead
