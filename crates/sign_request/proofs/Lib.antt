@@ -8,3 +8,4 @@ pub mod Trimming
 pub mod Picked
 pub mod Refused
 pub mod FieldsTaken
+pub mod ReadBack

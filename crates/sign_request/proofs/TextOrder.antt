@@ -14,7 +14,7 @@ use Rattle.std.proofs.lemmas.List.Sorted.{IsPermutation-map}
 use Rattle.http_header.specs.FieldValue.{FieldValue}
 use Rattle.http_header.specs.HeaderMap.{Entries, keys}
 use Rattle.sign_request.specs.Query.{Pair, text_pair, text_pairs}
-use Rattle.sign_request.specs.CanonicalText.{text_cmp, pair_cmp, sorted, sorted_pairs}
+use Rattle.sign_request.specs.CanonicalText.{text_cmp, pair_cmp, sorted, sorted_pairs, joined, canonical_text}
 use Rattle.sign_request.specs.Headers.{sorted_names}
 use Rattle.sign_request.proofs.Sorting.{sorted-from_sort, sorted-IsPermutation}
 
@@ -64,3 +64,8 @@ unfolding sorted_names
 sorted_names-from_sort headers xs ys all moved up =
     sorted-from_sort text_cmp nat_list_cmp_total same_text (map (λ name. name.now) xs) (map (λ name. name.now) ys)
     (IsPermutation-map (λ name. name.now) xs ys moved) (IsSorted-map (λ name. name.now) text_cmp ys up) ∙ ap (sorted text_cmp) all
+
+-- nor does it for a text of them
+pub canonical_text-IsPermutation : (written : Pair → List ℕ) (between : List ℕ) (ps qs : List Pair) → IsPermutation ps qs → canonical_text written between ps ≡ canonical_text written between qs
+unfolding canonical_text
+canonical_text-IsPermutation written between ps qs moved = ap (λ rs. joined between (map written rs)) (sorted_pairs-IsPermutation ps qs moved)

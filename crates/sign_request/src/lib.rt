@@ -4,6 +4,7 @@
 
 mod fields;
 mod headers;
+pub mod laws;
 mod pair;
 mod pair_form;
 mod plain_head;
