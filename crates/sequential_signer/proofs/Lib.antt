@@ -21,3 +21,5 @@ pub mod HandOver
 pub mod LoadBegins
 pub mod Wakings
 pub mod WokenOnce
+pub mod LeftOut
+pub mod CancelTrace

@@ -31,7 +31,7 @@ abbrev pub to_queued : Phase → Phase
 to_queued Fresh = Queued
 to_queued p = p
 
-phase_by_waited : {K : Type 0} (w : Bool) (r : Reply K) → phase_by true r ≡ to_queued (phase_by w r)
+pub phase_by_waited : {K : Type 0} (w : Bool) (r : Reply K) → phase_by true r ≡ to_queued (phase_by w r)
 phase_by_waited w Begun = elim w as (λ v. Queued ≡ to_queued (cond v Queued Fresh)) [ true ↦ refl | false ↦ refl ]
 phase_by_waited w Pending = refl
 phase_by_waited w NotNow = refl

@@ -13,3 +13,4 @@ pub mod Legal
 pub mod LiveCall
 pub mod LawsOfReplies
 pub mod LawsOfHandOver
+pub mod LawsOfCancel

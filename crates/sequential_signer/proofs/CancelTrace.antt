@@ -1,0 +1,318 @@
+-- A call that is cancelled before its hold finished leaves no trace: without the providers' answers to it the transcript
+-- is legal too, and every cache is the same.
+use Rattle.std.proofs.Common.{◌≡◌, ℕ, ℤ, Bool, true, false, not, cond, ◌&&◌, ◌||◌, List, [], ◌∷◌, ◌++◌, Option, Some, None, refl, sym, ◌∙◌, ap, subst, filter, find, slice_get, is_some, if◌then◌else◌, IsFalse, inl, inr}
+use Rattle.std.specs.List.{list_any, list_all}
+use Rattle.std.proofs.lemmas.List.{append-nil, append_assoc}
+use Rattle.std.proofs.lemmas.List.Folds.{list_any-append}
+use Rattle.std.proofs.lemmas.List.Elements.{filter-append}
+use Rattle.wake_lock.specs.declared.CallId.{CallId}
+use Rattle.sequential_signer.specs.Lookup.{HandOut, Refuse}
+use Rattle.sequential_signer.specs.Policy.{Policy}
+use Rattle.sequential_signer.specs.SequentialCall.{Progress, Asking, Over}
+use Rattle.sequential_signer.specs.Setup.{Setup, cache_of, rule_of}
+use Rattle.sequential_signer.specs.Transcript.{same_call, call_of, is_about, entries_of, kept, is_out_of_memory, last_of}
+use Rattle.sequential_signer.specs.Phase.{Phase, Unknown, Fresh, Queued, Loading, Signing, Ended, phase_of, phase_in, phase_at, phase_by, is_mark, is_loading, is_waiting_poll, event_fits, is_live, is_waiting, is_signing}
+use Rattle.sequential_signer.specs.Turn.{poll_order, has_turn, is_served, serves}
+use Rattle.sequential_signer.specs.Hold.{begin_of, answers_of, turn_moment, input_by}
+use Rattle.sequential_signer.specs.SequentialCache.{sequential_cache}
+use Rattle.sequential_signer.specs.Wake.{gets_turn, call_to_wake}
+use Rattle.sequential_signer.specs.ReplyDue.{progress_reply, with_wake, waking, hold_progress, hold_reply, hold_step, done_head, fitting_reply, reply_at, reply_due}
+use Rattle.sequential_signer.specs.Legal.{IsLegal, IsLegalAfter, IsLegalEntry, is_sign, takes_memory, allocates}
+use Rattle.sequential_signer.specs.LawsOfCancel.{is_answer, without_answers, SameCaches, CancelledLoadLeavesNoTrace, CancelChangesNoCache}
+use Rattle.sequential_signer.specs.declared.event.Answer.{Answer}
+use Rattle.sequential_signer.specs.declared.event.Answer.TheVariants as answer
+use Rattle.sequential_signer.specs.declared.event.Entry.{Entry}
+use Rattle.sequential_signer.specs.declared.event.Event.{Event}
+use Rattle.sequential_signer.specs.declared.event.Event.TheVariants.{Begin, Poll, Provided, Signed, Cancel}
+use Rattle.sequential_signer.specs.declared.event.Reply.{Reply}
+use Rattle.sequential_signer.specs.declared.event.Reply.TheVariants.{NotNow, Pending, Ask, Sign, Refused, Done, Cancelled}
+use Rattle.sequential_signer.specs.declared.event.Verdict.TheVariants.{Accepted, Failed}
+use Rattle.sequential_signer.proofs.Lists.{or_true, or_false, filter-more_yes, filter-more_no, list_any-more, list_all-more}
+use Rattle.sequential_signer.proofs.CallNames.{same_call-eq, same_call-refl, same_call-comm, and_left, and_right, or_left}
+use Rattle.sequential_signer.proofs.OwnEntries.{entries_of-own, entries_of-other, to_queued, phase_by_waited, phase_in-mark, phase_in-not_now}
+use Rattle.sequential_signer.proofs.PollOrder.{is_served-own, is_served-other}
+use Rattle.sequential_signer.proofs.Happens.{Happens, misfits, begins, waits, idles, looks, gets, accepts, fails, cancels}
+use Rattle.sequential_signer.proofs.Run.{IsRun, start, more, legal_run, legal-more, kept-more}
+use Rattle.sequential_signer.proofs.Standing.{phase-other, phase-own_mark, refused_phase}
+use Rattle.sequential_signer.proofs.Due.{legal_before}
+use Rattle.sequential_signer.proofs.CacheRows.{stays_other}
+use Rattle.sequential_signer.proofs.LeftOut.{filter-swap, stays, is_harmless, AreHarmless, is_quiet, waited-left_out, is_new_number-left_out, begin_of-left_out, poll_order-left_out, has_turn-left_out, turn_moment-left_out, answers_of-left_out, sequential_cache-left_out}
+
+-- the phase after one more entry is told by the phase before it, and by whether the call was told to wait
+phase_at_waited : {K : Type 0} (w : Bool) (m : Option (Entry K)) → phase_at true m ≡ to_queued (phase_at w m)
+phase_at_waited w None = refl
+phase_at_waited w (Some e) = phase_by_waited w e.reply
+
+module _ {K : Type 0} where
+  unmarked : (entries : List (Entry K)) (e : Entry K) → is_mark e.reply ≡ false → phase_in (entries ++ e ∷ []) ≡ cond (is_waiting_poll e) (to_queued (phase_in entries)) (phase_in entries)
+  unfolding phase_in
+  unmarked entries e h =
+      rw (list_any-more is_waiting_poll entries e, filter-more_no (λ (x : Entry K). is_mark x.reply) entries e h)
+      (elim (is_waiting_poll e) as (λ v. phase_at (list_any is_waiting_poll entries || v) (last_of (filter (λ (x : Entry K). is_mark x.reply) entries)) ≡ cond v (to_queued (phase_at (list_any is_waiting_poll entries) (last_of (filter (λ (x : Entry K). is_mark x.reply) entries)))) (phase_at (list_any is_waiting_poll entries) (last_of (filter (λ (x : Entry K). is_mark x.reply) entries)))) [
+        | true ↦ rw (or_true (list_any is_waiting_poll entries)) (phase_at_waited (list_any is_waiting_poll entries) (last_of (filter (λ (x : Entry K). is_mark x.reply) entries)))
+        | false ↦ rw (or_false (list_any is_waiting_poll entries)) refl
+      ])
+
+  phase_alike : (xs ys : List (Entry K)) (e : Entry K) → phase_in xs ≡ phase_in ys → list_any is_waiting_poll xs ≡ list_any is_waiting_poll ys → phase_in (xs ++ e ∷ []) ≡ phase_in (ys ++ e ∷ [])
+  phase_alike xs ys e p w = by_mark (is_mark e.reply) refl
+    where
+      by_mark : (m : Bool) → is_mark e.reply ≡ m → phase_in (xs ++ e ∷ []) ≡ phase_in (ys ++ e ∷ [])
+      by_mark true m = phase_in-mark xs e m ∙ ap (λ v. phase_by (v || is_waiting_poll e) e.reply) w ∙ sym (phase_in-mark ys e m)
+      by_mark false m = unmarked xs e m ∙ ap (λ v. cond (is_waiting_poll e) (to_queued v) v) p ∙ sym (unmarked ys e m)
+
+loading_is : (p : Phase) → is_loading p ≡ true → p ≡ Loading
+loading_is Loading h = refl
+loading_is Unknown h = cc
+loading_is Fresh h = cc
+loading_is Queued h = cc
+loading_is Signing h = cc
+loading_is Ended h = cc
+
+module _ {K D : Type 0} (policy : Policy K D) (setup : Setup D) (call : CallId) where
+  -- a call that is not served after an entry was not served before it
+  unserved_before : (entries : List (Entry K)) (e : Entry K) → is_served (entries ++ e ∷ []) call ≡ false → is_served entries call ≡ false
+  unserved_before entries e u = by_name (same_call call (call_of e.event)) refl
+    where
+      by_name : (s : Bool) → same_call call (call_of e.event) ≡ s → is_served entries call ≡ false
+      by_name true s = or_left (is_served entries call) (serves e.reply) (sym (is_served-own setup entries e call s) ∙ u)
+      by_name false s = sym (is_served-other setup entries e call s) ∙ u
+
+  -- and is not served by it
+  not_served_by : (entries : List (Entry K)) (e : Entry K) → is_served (entries ++ e ∷ []) call ≡ false → is_about call e ≡ true → serves e.reply ≡ true → ⊥
+  not_served_by entries e u own s =
+      let served : is_served (entries ++ e ∷ []) call ≡ true = is_served-own setup entries e call own ∙ ap (λ v. is_served entries call || v) s ∙ or_true _ in cc
+
+  not_false : (b : Bool) → not b ≡ false → b ≡ true
+  not_false true h = refl
+  not_false false h = cc
+
+  -- an answer to the call that does not serve it is quiet, and leaves its phase
+  record LeavesPhase (entries : List (Entry K)) (e : Entry K) : Type 0 where
+    pub quiet : is_quiet e.reply ≡ true
+    pub phase : phase_of (entries ++ e ∷ []) call ≡ phase_of entries call
+
+  answer_leaves : (entries : List (Entry K)) (event : Event K) (reply : Reply K) → Happens policy setup entries event reply → is_served (entries ++ record { event = event; reply = reply } ∷ []) call ≡ false
+      → is_about call (record { event = event; reply = reply }) ≡ true → is_answer event ≡ true → LeavesPhase entries (record { event = event; reply = reply })
+  answer_leaves entries event reply (misfits e) u own a = record { quiet = refl; phase = refused_phase setup entries 0 e call own }
+  answer_leaves entries event reply (gets c now answer j (Asking k) wake l g) u own a =
+      let same : call ≡ c = same_call-eq call c own in
+      record {
+        quiet = refl;
+        phase =
+          phase-own_mark setup entries 0 (record { event = event; reply = reply }) call own refl
+          ∙ sym (loading_is (phase_of entries call) (ap (λ x. is_loading (phase_of entries x)) same ∙ l));
+      }
+  answer_leaves entries event reply (gets c now answer j (Over (HandOut k) left) wake l g) u own a = absurd (not_served_by entries (record { event = event; reply = reply }) u own refl)
+  answer_leaves entries event reply (gets c now answer j (Over (Refuse cause) left) wake l g) u own a = absurd (not_served_by entries (record { event = event; reply = reply }) u own refl)
+  answer_leaves entries event reply (begins c head expires_in i at new) u own a = absurd (cc)
+  answer_leaves entries event reply (waits c now i at w t) u own a = absurd (cc)
+  answer_leaves entries event reply (idles c now b) u own a = absurd (cc)
+  answer_leaves entries event reply (looks c now i progress wake w t g) u own a = absurd (cc)
+  answer_leaves entries event reply (accepts c candidate s) u own a = absurd (cc)
+  answer_leaves entries event reply (fails c x i at s) u own a = absurd (cc)
+  answer_leaves entries event reply (cancels c wake l) u own a = absurd (cc)
+
+  -- a run in which the call is not served
+  pub record IsUnserved (entries : List (Entry K)) : Type 0 where
+    pub harmless : AreHarmless call entries
+    pub phase : (b : CallId) → phase_of (without_answers call entries) b ≡ phase_of entries b
+
+  module _ (entries : List (Entry K)) (e : Entry K) where
+    without-left : stays call e ≡ false → without_answers call (entries ++ e ∷ []) ≡ without_answers call entries
+    without-left s = filter-more_no (stays call) entries e s
+
+    without-stays : stays call e ≡ true → without_answers call (entries ++ e ∷ []) ≡ without_answers call entries ++ e ∷ []
+    without-stays s = filter-more_yes (stays call) entries e s
+
+    -- an entry that stays keeps each call's phase the same in both
+    phase_stays : IsUnserved entries → stays call e ≡ true → (b : CallId) → phase_of (without_answers call (entries ++ e ∷ [])) b ≡ phase_of (entries ++ e ∷ []) b
+    unfolding phase_of
+    phase_stays u s b = ap (λ v. phase_of v b) (without-stays s) ∙ by_name (same_call b (call_of e.event)) refl
+      where
+        by_name : (o : Bool) → same_call b (call_of e.event) ≡ o → phase_of (without_answers call entries ++ e ∷ []) b ≡ phase_of (entries ++ e ∷ []) b
+        by_name true o =
+            ap phase_in (entries_of-own (without_answers call entries) b e o)
+            ∙ phase_alike (entries_of (without_answers call entries) b) (entries_of entries b) e (u.phase b) (waited-left_out call entries u.harmless b)
+            ∙ sym (ap phase_in (entries_of-own entries b e o))
+        by_name false o =
+            ap phase_in (entries_of-other (without_answers call entries) b e o)
+            ∙ u.phase b
+            ∙ sym (ap phase_in (entries_of-other entries b e o))
+
+  unserved_step : (entries : List (Entry K)) (event : Event K) (reply : Reply K) → Happens policy setup entries event reply → is_served (entries ++ record { event = event; reply = reply } ∷ []) call ≡ false
+      → IsUnserved entries → (s : Bool) → stays call (record { event = event; reply = reply }) ≡ s → IsUnserved (entries ++ record { event = event; reply = reply } ∷ [])
+  unserved_step entries event reply row u before true s = record {
+    harmless = list_all-more (is_harmless call) entries (record { event = event; reply = reply }) ∙ rw (before.harmless, s) refl;
+    phase = λ b. phase_stays entries (record { event = event; reply = reply }) before s b;
+  }
+  unserved_step entries event reply row u before false s =
+      let e : Entry K = record { event = event; reply = reply } in
+      let own : is_about call (record { event = event; reply = reply }) ≡ true = and_left (is_about call e) (is_answer event) (not_false _ s) in
+      let answers : is_answer event ≡ true = and_right (is_about call e) (is_answer event) (not_false _ s) in
+      let left : LeavesPhase entries (record { event = event; reply = reply }) = answer_leaves entries event reply row u own answers in
+      let quiet : is_quiet reply ≡ true = left.quiet in
+      record {
+        harmless = list_all-more (is_harmless call) entries (record { event = event; reply = reply }) ∙ rw (before.harmless, s, quiet) refl;
+        phase = λ b.
+          ap (λ v. phase_of v b) (without-left entries (record { event = event; reply = reply }) s)
+          ∙ before.phase b
+          ∙ phase_left b (same_call b call) refl left.phase;
+      }
+    where
+      phase_left : (b : CallId) → (o : Bool) → same_call b call ≡ o → phase_of (entries ++ record { event = event; reply = reply } ∷ []) call ≡ phase_of entries call → phase_of entries b ≡ phase_of (entries ++ record { event = event; reply = reply } ∷ []) b
+      phase_left b true o p = let same : b ≡ call = same_call-eq b call o in subst (λ c. phase_of entries c ≡ phase_of (entries ++ record { event = event; reply = reply } ∷ []) c) (sym same) (sym p)
+      phase_left b false o p =
+          let own : is_about call (record { event = event; reply = reply }) ≡ true = and_left (is_about call (record { event = event; reply = reply })) (is_answer event) (not_false _ s) in
+          let differ : same_call b (call_of event) ≡ false = ap (same_call b) (sym (same_call-eq call (call_of event) own)) ∙ o in
+          sym (phase-other setup entries 0 (record { event = event; reply = reply }) b differ)
+
+  start_unserved : IsUnserved []
+  start_unserved = record { harmless = refl; phase = λ b. refl }
+
+  -- in a run that does not serve the call, the answers to it can be left out
+  pub unserved_run : (entries : List (Entry K)) → IsRun policy setup entries → is_served entries call ≡ false → IsUnserved entries
+  unserved_run _ start u = start_unserved
+  unserved_run _ (more entries event reply run row) u =
+      unserved_step entries event reply row u (unserved_run entries run (unserved_before entries (record { event = event; reply = reply }) u)) (stays call (record { event = event; reply = reply })) refl
+
+-- what is due to an event that stays is the same in both
+module _ {K D : Type 0} (policy : Policy K D) (setup : Setup D) (call : CallId) (entries : List (Entry K)) (u : IsUnserved policy setup call entries) (unserved : is_served entries call ≡ false) where
+  fits_alike : (event : Event K) → event_fits setup (without_answers call entries) event ≡ event_fits setup entries event
+  fits_alike (Begin c head expires_in) = ap (λ v. is_some (cache_of setup c) && v) (is_new_number-left_out call entries u.harmless c)
+  fits_alike (Poll c now) = ap is_live (u.phase c)
+  fits_alike (Provided c now answer) = ap is_loading (u.phase c)
+  fits_alike (Signed c answer) = ap is_signing (u.phase c)
+  fits_alike (Cancel c) = ap is_live (u.phase c)
+
+  module _ (i : ℕ) (e : Entry K) (s : stays call e ≡ true) where
+    gets_alike : (b : CallId) → gets_turn setup (without_answers call entries) i e b ≡ gets_turn setup entries i e b
+    gets_alike b =
+        let longer : AreHarmless call (entries ++ e ∷ []) = list_all-more (is_harmless call) entries e ∙ rw (u.harmless, s) refl in
+        let after : has_turn setup (without_answers call entries ++ e ∷ []) i b ≡ has_turn setup (entries ++ e ∷ []) i b =
+        ap (λ v. has_turn setup v i b) (sym (without-stays policy setup call entries e s)) ∙ has_turn-left_out setup call (entries ++ e ∷ []) longer i b in
+        rw (u.phase b, after, has_turn-left_out setup call entries u.harmless i b) refl
+
+    wake_alike : call_to_wake setup (without_answers call entries) i e ≡ call_to_wake setup entries i e
+    unfolding call_to_wake
+    wake_alike =
+        ap (find (gets_turn setup (without_answers call entries) i e)) (poll_order-left_out setup call entries i)
+        ∙ find-alike (gets_turn setup (without_answers call entries) i e) (gets_turn setup entries i e) gets_alike (poll_order setup entries i)
+      where
+        find-alike : (p q : CallId → Bool) → ((x : CallId) → p x ≡ q x) → (xs : List CallId) → find p xs ≡ find q xs
+        find-alike p q f [] = refl
+        find-alike p q f (x ∷ xs) = rw (f x, find-alike p q f xs) refl
+
+  module _ (i : ℕ) (event : Event K) (s : not (same_call call (call_of event) && is_answer event) ≡ true) where
+    waking_alike : (r : Reply K) → waking setup (without_answers call entries) i event r ≡ waking setup entries i event r
+    waking_alike r = ap (with_wake r) (wake_alike i (record { event = event; reply = r }) s)
+
+    hold_alike : (o : Option (Progress K)) → hold_reply setup (without_answers call entries) i event o ≡ hold_reply setup entries i event o
+    hold_alike None = refl
+    hold_alike (Some progress) = waking_alike (progress_reply progress)
+
+    step_alike : (now : Option ℤ) (answers : List (Answer K × ℤ)) → hold_step policy setup (without_answers call entries) i event now answers ≡ hold_step policy setup entries i event now answers
+    step_alike now answers =
+        ap (λ cache. hold_reply setup (without_answers call entries) i event (hold_progress policy cache (slice_get setup.loaders i) (input_by (rule_of setup (call_of event)) (begin_of (without_answers call entries) (call_of event)) now answers)))
+        (sequential_cache-left_out setup call policy entries u.harmless unserved i)
+        ∙ ap (λ begin. hold_reply setup (without_answers call entries) i event (hold_progress policy (sequential_cache policy setup entries i) (slice_get setup.loaders i) (input_by (rule_of setup (call_of event)) begin now answers)))
+        (begin_of-left_out call entries u.harmless (call_of event))
+        ∙ hold_alike _
+
+  fitting_alike : (i : ℕ) (event : Event K) → not (same_call call (call_of event) && is_answer event) ≡ true → fitting_reply policy setup (without_answers call entries) i event ≡ fitting_reply policy setup entries i event
+  fitting_alike i (Begin c head expires_in) s = refl
+  fitting_alike i (Poll c now) s =
+      rw (u.phase c, has_turn-left_out setup call entries u.harmless i c)
+      (ap (λ (v : Reply K). if is_waiting (phase_of entries c) && has_turn setup entries i c then v else Pending) (step_alike i (Poll c now) s (Some now) []))
+  fitting_alike i (Provided c now answer) s =
+      let differ : same_call c call ≡ false = same_call-comm c call ∙ not_both (same_call call c) s in
+      step_alike i (Provided c now answer) s (turn_moment setup (without_answers call entries) i c) (answers_of (without_answers call entries) c ++ (answer, now) ∷ [])
+      ∙ ap (λ v. hold_step policy setup entries i (Provided c now answer) v (answers_of (without_answers call entries) c ++ (answer, now) ∷ [])) (turn_moment-left_out setup call entries u.harmless i c)
+      ∙ ap (λ v. hold_step policy setup entries i (Provided c now answer) (turn_moment setup entries i c) (v ++ (answer, now) ∷ [])) (answers_of-left_out setup call entries c differ)
+    where
+      not_both : (b : Bool) → not (b && true) ≡ true → b ≡ false
+      not_both false h = refl
+      not_both true h = cc
+  fitting_alike i (Signed c (Accepted candidate)) s = ap (λ v. Done (done_head v candidate)) (begin_of-left_out call entries u.harmless c)
+  fitting_alike i (Signed c (Failed x)) s = refl
+  fitting_alike i (Cancel c) s = waking_alike i (Cancel c) s (Cancelled None)
+
+  at_alike : (event : Event K) → not (same_call call (call_of event) && is_answer event) ≡ true → (o : Option ℕ) → reply_at policy setup (without_answers call entries) event o ≡ reply_at policy setup entries event o
+  at_alike event s None = refl
+  at_alike event s (Some i) =
+      rw (fits_alike event, fitting_alike i event s) refl
+
+  pub due_alike : (event : Event K) → not (same_call call (call_of event) && is_answer event) ≡ true → reply_due policy setup (without_answers call entries) event ≡ reply_due policy setup entries event
+  unfolding reply_due
+  due_alike event s = at_alike event s (cache_of setup (call_of event))
+
+  takes_alike : (event : Event K) → not (same_call call (call_of event) && is_answer event) ≡ true → takes_memory policy setup (without_answers call entries) event ≡ takes_memory policy setup entries event
+  takes_alike (Begin c head expires_in) s = refl
+  takes_alike (Poll c now) s = ap is_sign (due_alike (Poll c now) s)
+  takes_alike (Provided c now (answer.Found k)) s = refl
+  takes_alike (Provided c now answer.Missing) s = refl
+  takes_alike (Provided c now (answer.Failed x)) s = refl
+  takes_alike (Signed c (Accepted candidate)) s = refl
+  takes_alike (Signed c (Failed x)) s = refl
+  takes_alike (Cancel c) s = refl
+
+  pub legal_alike : (e : Entry K) → stays call e ≡ true → IsLegalEntry policy setup entries e → IsLegalEntry policy setup (without_answers call entries) e
+  legal_alike e s (inl due) = inl (due ∙ sym (due_alike e.event s))
+  legal_alike e s (inr lost) =
+      let takes : allocates policy setup (without_answers call entries) e.event ≡ allocates policy setup entries e.event = rw (fits_alike e.event, takes_alike e.event s) refl in
+      inr (lost.0, takes ∙ lost.1)
+
+-- what counts, without the answers, is what counts of the transcript without them
+kept-without : {K : Type 0} (call : CallId) (entries : List (Entry K)) → kept (without_answers call entries) ≡ without_answers call (kept entries)
+unfolding kept
+kept-without {K = K} call entries = filter-swap (λ (e : Entry K). not (is_out_of_memory e.reply)) (stays call) entries
+
+kept-append : {K : Type 0} (xs ys : List (Entry K)) → kept (xs ++ ys) ≡ kept xs ++ kept ys
+unfolding kept
+kept-append {K = K} xs ys = filter-append (λ (e : Entry K). not (is_out_of_memory e.reply)) xs ys
+
+unserved_first : {K : Type 0} (xs ys : List (Entry K)) (call : CallId) → is_served (xs ++ ys) call ≡ false → is_served xs call ≡ false
+unfolding is_served entries_of
+unserved_first {K = K} xs ys call h =
+    or_left (list_any (λ (e : Entry K). serves e.reply) (filter (is_about call) xs)) (list_any (λ (e : Entry K). serves e.reply) (filter (is_about call) ys))
+    (sym (ap (list_any (λ (e : Entry K). serves e.reply)) (filter-append (is_about call) xs ys) ∙ list_any-append (λ (e : Entry K). serves e.reply) (filter (is_about call) xs) (filter (is_about call) ys)) ∙ h)
+
+module _ {K D : Type 0} (policy : Policy K D) (setup : Setup D) (call : CallId) where
+  legal_without_step : (before : List (Entry K)) (e : Entry K) → IsLegal policy setup before → is_served (kept before) call ≡ false → IsLegal policy setup (without_answers call before) → IsLegalEntry policy setup (kept before) e
+      → (s : Bool) → stays call e ≡ s → IsLegal policy setup (without_answers call (before ++ e ∷ []))
+  legal_without_step before e l u w legal true s =
+      let run : IsRun policy setup (kept before) = legal_run policy setup before l in
+      let alike : IsLegalEntry policy setup (without_answers call (kept before)) e = legal_alike policy setup call (kept before) (unserved_run policy setup call (kept before) run u) u e s legal in
+      subst (λ v. IsLegal policy setup v) (sym (without-stays policy setup call before e s))
+      (legal-more policy setup (without_answers call before) e w (subst (λ v. IsLegalEntry policy setup v e) (sym (kept-without call before)) alike))
+  legal_without_step before e l u w legal false s = subst (λ v. IsLegal policy setup v) (sym (without-left policy setup call before e s)) w
+
+  legal_without_after : (before rest : List (Entry K)) → IsLegal policy setup before → IsLegal policy setup (without_answers call before) → is_served (kept (before ++ rest)) call ≡ false → IsLegalAfter policy setup before rest → IsLegal policy setup (without_answers call (before ++ rest))
+  legal_without_after before [] l w u after = subst (λ v. IsLegal policy setup (without_answers call v)) (sym (append-nil before)) w
+  legal_without_after before (e ∷ rest) l w u after =
+      let first : is_served (kept before) call ≡ false = unserved_first (kept before) (kept (e ∷ rest)) call (ap (λ v. is_served v call) (sym (kept-append before (e ∷ rest))) ∙ u) in
+      let longer : IsLegal policy setup (before ++ e ∷ []) = legal-more policy setup before e l after.0 in
+      let later : is_served (kept ((before ++ e ∷ []) ++ rest)) call ≡ false = ap (λ v. is_served (kept v) call) (append_assoc before (e ∷ []) rest) ∙ u in
+      subst (λ v. IsLegal policy setup (without_answers call v)) (append_assoc before (e ∷ []) rest)
+      (legal_without_after (before ++ e ∷ []) rest longer (legal_without_step before e l first w after.0 (stays call e) refl) later after.1)
+
+  legal_without : (entries : List (Entry K)) → IsLegal policy setup entries → is_served (kept entries) call ≡ false → IsLegal policy setup (without_answers call entries)
+  unfolding IsLegal
+  legal_without entries l u = legal_without_after [] entries tt tt u l
+
+  caches_without : (entries : List (Entry K)) → IsLegal policy setup entries → is_served (kept entries) call ≡ false → SameCaches policy setup (without_answers call entries) entries
+  caches_without entries l u i =
+      let run : IsRun policy setup (kept entries) = legal_run policy setup entries l in
+      ap (λ v. sequential_cache policy setup v i) (kept-without call entries)
+      ∙ sequential_cache-left_out setup call policy (kept entries) (unserved_run policy setup call (kept entries) run u).harmless u i
+
+false_is : (b : Bool) → IsFalse b → b ≡ false
+false_is b h = h
+
+pub cancelled_load_leaves_no_trace : (K D : Type 0) → CancelledLoadLeavesNoTrace K D
+cancelled_load_leaves_no_trace K D policy setup entries call l f u = (legal_without policy setup call entries l (false_is _ u), caches_without policy setup call entries l (false_is _ u))
+
+pub cancel_changes_no_cache : (K D : Type 0) → CancelChangesNoCache K D
+cancel_changes_no_cache K D policy setup before call wake l i =
+    let e : Entry K = record { event = Cancel call; reply = Cancelled wake } in
+    ap (λ v. sequential_cache policy setup v i) (kept-more before e refl)
+    ∙ stays_other policy setup (kept before) (legal_run policy setup before (legal_before policy setup before e l)) e refl refl i
