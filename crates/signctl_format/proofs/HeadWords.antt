@@ -1,6 +1,6 @@
 -- The words of a head, read one after another.
-use Rattle.std.proofs.Common.{◌≡◌, ℕ, ◌+◌, ◌<◌, ◌≤◌, Bool, true, false, List, [], ◌∷◌, ◌++◌, Option, Some, None, refl, sym, ap, ◌∙◌, append_assoc, append-nil, length, take, drop, arith}
-use Rattle.std.specs.Prelude.{option_map, option_and_then}
+use Rattle.std.proofs.Common.{◌≡◌, ℕ, ◌+◌, ◌<◌, Bool, true, List, [], ◌∷◌, ◌++◌, Option, Some, None, refl, sym, ap, ◌∙◌, append_assoc, append-nil, length, take, drop}
+use Rattle.std.specs.Prelude.{option_map}
 use Rattle.std.specs.List.{list_all, position}
 use Rattle.std.proofs.lemmas.Bool.{lt-ltb}
 use Rattle.signctl_format.specs.Words.{is_visible, is_target}
@@ -8,7 +8,7 @@ use Rattle.sign_base.specs.declared.head.Field.{Field}
 use Rattle.signctl_format.specs.declared.unread.Unread.{Unread}
 use Rattle.signctl_format.specs.declared.unread.Unread.TheVariants.{NotUnderstood, OutOfMemory}
 use Rattle.signctl_format.specs.Reading.{Fails, fields_of, ◌>>=◌}
-use Rattle.signctl_format.specs.Heads.{field_of, named, is_colon, is_plain, behind, escaped, value_of}
+use Rattle.signctl_format.specs.Heads.{field_of, named, is_colon, is_plain, behind, value_of}
 
 -- what was read so far, in front of what the rest says
 abbrev pub with_front : {A : Type 0} → List A → Option (List A) → Option (List A)

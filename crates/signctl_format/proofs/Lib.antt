@@ -1,3 +1,10 @@
 pub mod WordList
 pub mod NumberWords
 pub mod HeadWords
+pub mod ReadingSteps
+pub mod Values
+pub mod Headers
+pub mod Seconds
+pub mod Calls
+pub mod Forms
+pub mod Grammars

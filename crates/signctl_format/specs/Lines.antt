@@ -1,5 +1,5 @@
 -- The lines that a script prints, without their newline.
-use Rattle.std.specs.Prelude.{◌≡◌, ℕ, List, [], ◌∷◌, ◌++◌, Option, Some, None, codes}
+use Rattle.std.specs.Prelude.{ℕ, List, [], ◌∷◌, ◌++◌, Option, Some, None, codes}
 use Rattle.std.specs.Fmt.{decimal}
 use Rattle.wake_lock.specs.declared.CallId.{CallId}
 use Rattle.sequential_signer.specs.declared.event.Reply.{Reply}

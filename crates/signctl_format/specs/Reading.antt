@@ -1,10 +1,8 @@
 -- What a line says: the grammar as a function.
-use Rattle.std.specs.Prelude.{◌≡◌, ℕ, ℤ, Bool, List, [], ◌∷◌, Option, Some, None, Result, Ok, Err, if◌then◌else◌, codes}
+use Rattle.std.specs.Prelude.{◌≡◌, ℕ, ℤ, List, [], ◌∷◌, Option, Some, None, Result, Ok, Err, if◌then◌else◌, codes}
 use Rattle.std.specs.Str.{bytes_eq}
-use Rattle.std.specs.declared.time.Duration.{Duration}
 use Rattle.sign_base.specs.declared.head.Field.{Field}
 use Rattle.sign_base.specs.declared.head.Head.{Head}
-use Rattle.sign_base.specs.declared.head.Version.{Version}
 use Rattle.wake_lock.specs.declared.CallId.{CallId}
 use Rattle.sequential_signer.specs.declared.event.Answer.TheVariants.{Found, Missing}
 use Rattle.sequential_signer.specs.declared.event.Answer.TheVariants as answer

@@ -6,6 +6,7 @@
 pub mod credential;
 mod head;
 pub mod item;
+pub mod laws;
 mod moment;
 pub mod print;
 mod read;

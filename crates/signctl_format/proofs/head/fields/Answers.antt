@@ -1,4 +1,3 @@
-use Rattle.std.proofs.Common.{◌++◌, ◌∷◌, []}
 use Rattle.std.proofs.lemmas.Result.{err_from_is_err_and}
 use Rattle.signctl_format.specs.Reading.{words_after, fields_of}
 use Rattle.signctl_format.proofs.HeadWords.{fields_more, fields_stop, fields_done}

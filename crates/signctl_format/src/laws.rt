@@ -1,0 +1,24 @@
+//! Laws of the grammar of script lines: each is the contract of a call that does nothing.
+ghost use Rattle.std.specs.Prelude.{◌≡◌, ◌≢◌, ◌↔◌, ℕ, List, Some};
+ghost use Rattle.signctl_format.specs.declared.item.Item.{Item};
+ghost use Rattle.signctl_format.specs.declared.item.Item.TheVariants.{Silent};
+ghost use Rattle.signctl_format.specs.Grammar.{Spells};
+ghost use Rattle.signctl_format.specs.Reading.{item_of};
+
+/// A line reads as an item exactly where it spells it.
+#[tactic(auto, using(crate::proofs::Grammars::decided))]
+pub fn grammar_is_decided()
+    ensures { (line : List ℕ) (item : Item) → Spells line item ↔ (item_of line ≡ Some item) }
+{}
+
+/// A line spells at most one item.
+#[tactic(auto, using(crate::proofs::Grammars::one_item))]
+pub fn a_line_spells_one_item()
+    ensures { (line : List ℕ) (a b : Item) → Spells line a → Spells line b → a ≡ b }
+{}
+
+/// An item has at most one spelling, but for the empty lines and those that begin with `#`.
+#[tactic(auto, using(crate::proofs::Grammars::one_spelling))]
+pub fn an_item_has_one_spelling()
+    ensures { (item : Item) (a b : List ℕ) → item ≢ Silent → Spells a item → Spells b item → a ≡ b }
+{}
