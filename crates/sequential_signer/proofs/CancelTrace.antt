@@ -1,7 +1,7 @@
 -- A call that is cancelled before its hold finished leaves no trace: without the providers' answers to it the transcript
 -- is legal too, and every cache is the same.
 use Rattle.std.proofs.Common.{◌≡◌, ℕ, ℤ, Bool, true, false, not, cond, ◌&&◌, ◌||◌, List, [], ◌∷◌, ◌++◌, Option, Some, None, refl, sym, ◌∙◌, ap, subst, filter, find, slice_get, is_some, if◌then◌else◌, IsFalse, inl, inr}
-use Rattle.std.specs.List.{list_any, list_all}
+use Rattle.std.specs.List.{list_any}
 use Rattle.std.proofs.lemmas.List.{append-nil, append_assoc}
 use Rattle.std.proofs.lemmas.List.Folds.{list_any-append}
 use Rattle.std.proofs.lemmas.List.Elements.{filter-append}
@@ -25,11 +25,11 @@ use Rattle.sequential_signer.specs.declared.event.Entry.{Entry}
 use Rattle.sequential_signer.specs.declared.event.Event.{Event}
 use Rattle.sequential_signer.specs.declared.event.Event.TheVariants.{Begin, Poll, Provided, Signed, Cancel}
 use Rattle.sequential_signer.specs.declared.event.Reply.{Reply}
-use Rattle.sequential_signer.specs.declared.event.Reply.TheVariants.{NotNow, Pending, Ask, Sign, Refused, Done, Cancelled}
+use Rattle.sequential_signer.specs.declared.event.Reply.TheVariants.{Pending, Done, Cancelled}
 use Rattle.sequential_signer.specs.declared.event.Verdict.TheVariants.{Accepted, Failed}
 use Rattle.sequential_signer.proofs.Lists.{or_true, or_false, filter-more_yes, filter-more_no, list_any-more, list_all-more}
-use Rattle.sequential_signer.proofs.CallNames.{same_call-eq, same_call-refl, same_call-comm, and_left, and_right, or_left}
-use Rattle.sequential_signer.proofs.OwnEntries.{entries_of-own, entries_of-other, to_queued, phase_by_waited, phase_in-mark, phase_in-not_now}
+use Rattle.sequential_signer.proofs.CallNames.{same_call-eq, same_call-comm, and_left, and_right, or_left}
+use Rattle.sequential_signer.proofs.OwnEntries.{entries_of-own, entries_of-other, to_queued, phase_by_waited, phase_in-mark}
 use Rattle.sequential_signer.proofs.PollOrder.{is_served-own, is_served-other}
 use Rattle.sequential_signer.proofs.Happens.{Happens, misfits, begins, waits, idles, looks, gets, accepts, fails, cancels}
 use Rattle.sequential_signer.proofs.Run.{IsRun, start, more, legal_run, legal-more, kept-more}
@@ -60,7 +60,7 @@ module _ {K : Type 0} where
       by_mark true m = phase_in-mark xs e m ∙ ap (λ v. phase_by (v || is_waiting_poll e) e.reply) w ∙ sym (phase_in-mark ys e m)
       by_mark false m = unmarked xs e m ∙ ap (λ v. cond (is_waiting_poll e) (to_queued v) v) p ∙ sym (unmarked ys e m)
 
-loading_is : (p : Phase) → is_loading p ≡ true → p ≡ Loading
+pub loading_is : (p : Phase) → is_loading p ≡ true → p ≡ Loading
 loading_is Loading h = refl
 loading_is Unknown h = cc
 loading_is Fresh h = cc
@@ -99,8 +99,8 @@ module _ {K D : Type 0} (policy : Policy K D) (setup : Setup D) (call : CallId) 
       record {
         quiet = refl;
         phase =
-          phase-own_mark setup entries 0 (record { event = event; reply = reply }) call own refl
-          ∙ sym (loading_is (phase_of entries call) (ap (λ x. is_loading (phase_of entries x)) same ∙ l));
+            phase-own_mark setup entries 0 (record { event = event; reply = reply }) call own refl
+            ∙ sym (loading_is (phase_of entries call) (ap (λ x. is_loading (phase_of entries x)) same ∙ l));
       }
   answer_leaves entries event reply (gets c now answer j (Over (HandOut k) left) wake l g) u own a = absurd (not_served_by entries (record { event = event; reply = reply }) u own refl)
   answer_leaves entries event reply (gets c now answer j (Over (Refuse cause) left) wake l g) u own a = absurd (not_served_by entries (record { event = event; reply = reply }) u own refl)
@@ -154,9 +154,9 @@ module _ {K D : Type 0} (policy : Policy K D) (setup : Setup D) (call : CallId) 
       record {
         harmless = list_all-more (is_harmless call) entries (record { event = event; reply = reply }) ∙ rw (before.harmless, s, quiet) refl;
         phase = λ b.
-          ap (λ v. phase_of v b) (without-left entries (record { event = event; reply = reply }) s)
-          ∙ before.phase b
-          ∙ phase_left b (same_call b call) refl left.phase;
+            ap (λ v. phase_of v b) (without-left entries (record { event = event; reply = reply }) s)
+            ∙ before.phase b
+            ∙ phase_left b (same_call b call) refl left.phase;
       }
     where
       phase_left : (b : CallId) → (o : Bool) → same_call b call ≡ o → phase_of (entries ++ record { event = event; reply = reply } ∷ []) call ≡ phase_of entries call → phase_of entries b ≡ phase_of (entries ++ record { event = event; reply = reply } ∷ []) b

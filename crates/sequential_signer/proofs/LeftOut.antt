@@ -1,12 +1,12 @@
 -- What is read from a transcript without the providers' answers to a call that was never served: all the same.
-use Rattle.std.proofs.Common.{◌≡◌, ℕ, ℤ, Bool, true, false, not, cond, ◌&&◌, ◌||◌, nat_lt, List, [], ◌∷◌, ◌++◌, Option, Some, None, option_and_then, refl, sym, ◌∙◌, ap, subst, filter, find, fold, slice_get, inl, inr}
+use Rattle.std.proofs.Common.{◌≡◌, ℕ, Bool, true, false, not, cond, ◌&&◌, ◌||◌, nat_lt, List, [], ◌∷◌, ◌++◌, Option, Some, None, option_and_then, refl, sym, ◌∙◌, ap, subst, filter, find, fold, slice_get}
 use Rattle.std.specs.List.{list_any, list_all}
 use Rattle.wake_lock.specs.declared.CallId.{CallId}
 use Rattle.sequential_signer.specs.Policy.{Policy}
 use Rattle.sequential_signer.specs.Setup.{Setup}
 use Rattle.sequential_signer.specs.SequentialCall.{HoldInput}
 use Rattle.sequential_signer.specs.Transcript.{same_call, call_of, is_about, entries_of, each_after}
-use Rattle.sequential_signer.specs.Phase.{is_poll, is_pending, is_begun, is_not_now, is_begin_under, is_new_number, is_waiting_poll, phase_of}
+use Rattle.sequential_signer.specs.Phase.{is_poll, is_pending, is_begun, is_not_now, is_begin_under, is_new_number, is_waiting_poll}
 use Rattle.sequential_signer.specs.Turn.{is_fitting_poll, is_poll_at, poll_order, calls_ahead, before_call, ends_hold, serves, hold_is_finished, is_served, has_turn}
 use Rattle.sequential_signer.specs.Hold.{begun_with, begin_in, begin_of, poll_moment, is_poll_at_turn, turn_moment, answers_of, answers_in, hold_input}
 use Rattle.sequential_signer.specs.SequentialCache.{cache_after, served_calls, sequential_cache}

@@ -23,3 +23,4 @@ pub mod Wakings
 pub mod WokenOnce
 pub mod LeftOut
 pub mod CancelTrace
+pub mod LoadLeavesCache

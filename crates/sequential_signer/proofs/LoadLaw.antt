@@ -54,7 +54,7 @@ module _ {K D : Type 0} (policy : Policy K D) (setup : Setup D) where
 
   module _ (entries : List (Entry K)) (run : IsRun policy setup entries) where
     -- beside a call that loads no other call of its cache is served
-    other_stays : (i : ℕ) (a : CallId) → Loads setup entries i a → (event : Event K) (reply : Reply K) → Happens policy setup entries event reply → same_call a (call_of event) ≡ false
+    pub other_stays : (i : ℕ) (a : CallId) → Loads setup entries i a → (event : Event K) (reply : Reply K) → Happens policy setup entries event reply → same_call a (call_of event) ≡ false
         → sequential_cache policy setup (entries ++ record { event = event; reply = reply } ∷ []) i ≡ sequential_cache policy setup entries i
     other_stays i a l event reply (misfits e) differ = stays_not_now policy setup entries run e i
     other_stays i a l event reply (begins call head expires_in j at new) differ = stays_other policy setup entries run (record { event = event; reply = reply }) refl refl i

@@ -61,7 +61,7 @@ module _ {K D : Type 0} (policy : Policy K D) (setup : Setup D) where
         (subst (λ (r : Reply K). P (kept before ++ record { event = e.event; reply = r } ∷ [])) (sym due) (step (kept before) e.event p))
     entry_keeps before e p (inr lost) = rw (kept-lost before e (ap is_out_of_memory lost.0)) p
 
-    after_keeps : (before rest : List (Entry K)) → P (kept before) → IsLegalAfter policy setup before rest → P (kept (before ++ rest))
+    pub after_keeps : (before rest : List (Entry K)) → P (kept before) → IsLegalAfter policy setup before rest → P (kept (before ++ rest))
     after_keeps before [] p l = rw (append-nil before) p
     after_keeps before (e ∷ rest) p l = rw (sym (append_assoc before (e ∷ []) rest)) (after_keeps (before ++ e ∷ []) rest (entry_keeps before e p l.0) l.1)
 

@@ -104,7 +104,7 @@ module _ {K D : Type 0} (policy : Policy K D) (setup : Setup D) where
   abbrev pub IsWokenSoFar : List (Entry K) → ℕ → CallId → Type 0
   IsWokenSoFar entries i call = WokenSoFar (phase_of entries call) (has_turn setup entries i call) (times_woken entries call)
 
-  unbegun_unknown : (entries : List (Entry K)) (i : ℕ) (call : CallId) (p : Phase) → begin_of entries call ≡ None → Stands setup entries i call p → p ≡ Unknown
+  pub unbegun_unknown : (entries : List (Entry K)) (i : ℕ) (call : CallId) (p : Phase) → begin_of entries call ≡ None → Stands setup entries i call p → p ≡ Unknown
   unbegun_unknown entries i call Unknown n s = refl
   unbegun_unknown entries i call Fresh n (fresh_call w _ _) = let h = w.begun in absurd (cc)
   unbegun_unknown entries i call Queued n (queued_call w _) = let h = w.begun in absurd (cc)

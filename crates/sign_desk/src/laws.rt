@@ -2,6 +2,7 @@
 //! type of credentials and of rules, every meaning of them, every setup and every transcript.
 ghost use Rattle.sequential_signer.specs.LawsOfReplies.{OneLegalTranscript};
 ghost use Rattle.sequential_signer.specs.LawsOfHandOver.{QueuedAtTurnWasWokenOnce, OnlyQueuedCallsAreWoken, OneCallLoads, SomebodyHasTheTurn, LoadsExactlyWhereTheLookFails};
+ghost use Rattle.sequential_signer.specs.LawsOfCancel.{CancelledLoadLeavesNoTrace, CancelChangesNoCache, CancelledLoadLeavesTheCache};
 
 /// For a setup, events, and a choice of those that meet want of memory there is at most one legal
 /// transcript.
@@ -34,4 +35,20 @@ pub fn somebody_has_the_turn<K, D>()
 /// that serves.
 pub fn loads_exactly_where_the_look_fails<K, D>()
     ensures { LoadsExactlyWhereTheLookFails K D }
+{}
+
+/// Where a call's hold ended by a cancel, and not by a credential or a refusal, the transcript without the
+/// providers' answers to it is legal too, and leaves the same caches.
+pub fn cancelled_load_leaves_no_trace<K, D>()
+    ensures { CancelledLoadLeavesNoTrace K D }
+{}
+
+/// A cancel changes no cache.
+pub fn cancel_changes_no_cache<K, D>()
+    ensures { CancelChangesNoCache K D }
+{}
+
+/// Where the cancelled call was loading, its cache is after the cancel what it was before the call's look.
+pub fn cancelled_load_leaves_the_cache<K, D>()
+    ensures { CancelledLoadLeavesTheCache K D }
 {}
