@@ -8,3 +8,4 @@ pub mod Seconds
 pub mod Calls
 pub mod Forms
 pub mod Grammars
+pub mod Texts

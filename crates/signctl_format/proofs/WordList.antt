@@ -1,9 +1,9 @@
 -- The words of a line, one after another.
-use Rattle.std.proofs.Common.{◌≡◌, ℕ, ◌+◌, suc, ◌≤◌, Bool, true, false, cond, not, ltb, List, [], ◌∷◌, length, take, drop, Some, None, refl, arith}
-use Rattle.std.specs.List.{position, position_or_len}
-use Rattle.std.proofs.lemmas.Bool.{ltb-false}
+use Rattle.std.proofs.Common.{◌≡◌, ℕ, ◌+◌, suc, ◌≤◌, Bool, true, false, cond, not, ltb, List, [], ◌∷◌, length, take, drop, Some, None, refl, sym, ap, ◌∙◌, ◌++◌, arith}
+use Rattle.std.specs.List.{onto_first, position, position_or_len}
+use Rattle.std.proofs.lemmas.Bool.{ltb-false, eqb-true}
 use Rattle.std.proofs.lemmas.List.Sums.{prefix_len-le-length}
-use Rattle.signctl_format.specs.Words.{is_space, words}
+use Rattle.signctl_format.specs.Words.{is_space, words, spaced, line_of}
 use Rattle.signctl_format.specs.Reading.{words_after}
 
 abbrev SplitsAt : List ℕ → ℕ → Type 0
@@ -32,3 +32,23 @@ fails_everywhere p xs false test e =
 -- where no place is found, the whole list stands before it
 pub no_place : (p : ℕ → Bool) (xs : List ℕ) → position p xs ≡ None → length xs ≡ position_or_len p xs
 no_place p xs e = fails_everywhere p xs (ltb (position_or_len p xs) (length xs)) refl e
+
+-- words behind a first one, each behind a space, are a space and their line
+spaced_line : (ws : List (List ℕ)) (word : List ℕ) (rest : List (List ℕ)) → ws ≡ word ∷ rest → spaced ws ≡ 32 ∷ line_of ws
+spaced_line ws word rest e = rw e refl
+
+first_longer : (b : ℕ) (ws : List (List ℕ)) (word : List ℕ) (rest : List (List ℕ)) → ws ≡ word ∷ rest → line_of (onto_first b ws) ≡ b ∷ line_of ws
+first_longer b ws word rest e = rw e refl
+
+more_line : (b : ℕ) (text : List ℕ) (s : Bool) → is_space b ≡ s → line_of (words text) ≡ text → line_of (words (b ∷ text)) ≡ b ∷ text
+more_line b text true space ih =
+    let split = spaced_line (words text) _ _ (words_split text) in
+    let here : b ≡ 32 = eqb-true b 32 space in
+    rw space (split ∙ ap (λ (t : List ℕ). 32 ∷ t) ih ∙ ap (λ (x : ℕ). x ∷ text) (sym here))
+more_line b text false space ih =
+    rw space (first_longer b (words text) _ _ (words_split text) ∙ ap (λ (t : List ℕ). b ∷ t) ih)
+
+-- a line is the line of its words
+pub line_of_words : (line : List ℕ) → line_of (words line) ≡ line
+line_of_words [] = refl
+line_of_words (b ∷ text) = more_line b text (is_space b) refl (line_of_words text)

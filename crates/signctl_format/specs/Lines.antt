@@ -1,5 +1,5 @@
 -- The lines that a script prints, without their newline.
-use Rattle.std.specs.Prelude.{ℕ, List, [], ◌∷◌, ◌++◌, Option, Some, None, codes}
+use Rattle.std.specs.Prelude.{◌≡◌, ℕ, List, [], ◌∷◌, ◌++◌, Option, Some, None, codes}
 use Rattle.std.specs.Fmt.{decimal}
 use Rattle.wake_lock.specs.declared.CallId.{CallId}
 use Rattle.sequential_signer.specs.declared.event.Reply.{Reply}
@@ -72,3 +72,8 @@ fault_line number cause = codes "line " ++ decimal number ++ codes ": " ++ cause
 -- why it ended past the limit on its bytes
 abbrev pub too_much_line : List ℕ
 too_much_line = codes "input too long"
+
+-- a text has something more at its end, or nothing
+pub record Grows (old new : List ℕ) : Type 0 where
+  pub more : List ℕ
+  pub is : new ≡ old ++ more

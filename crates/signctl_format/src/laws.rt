@@ -2,6 +2,7 @@
 ghost use Rattle.std.specs.Prelude.{◌≡◌, ◌≢◌, ◌↔◌, ℕ, List, Some};
 ghost use Rattle.signctl_format.specs.declared.item.Item.{Item};
 ghost use Rattle.signctl_format.specs.declared.item.Item.TheVariants.{Silent};
+ghost use Rattle.signctl_format.specs.Words.{words, line_of};
 ghost use Rattle.signctl_format.specs.Grammar.{Spells};
 ghost use Rattle.signctl_format.specs.Reading.{item_of};
 
@@ -21,4 +22,10 @@ pub fn a_line_spells_one_item()
 #[tactic(auto, using(crate::proofs::Grammars::one_spelling))]
 pub fn an_item_has_one_spelling()
     ensures { (item : Item) (a b : List ℕ) → item ≢ Silent → Spells a item → Spells b item → a ≡ b }
+{}
+
+/// A line is its words, parted by single spaces.
+#[tactic(auto, using(crate::proofs::WordList::line_of_words))]
+pub fn a_line_is_its_words()
+    ensures { (line : List ℕ) → line_of (words line) ≡ line }
 {}

@@ -20,3 +20,6 @@ pub use print::{
     Cause, push_cache, push_fault, push_final, push_handle, push_reply, push_too_much,
 };
 pub use read::read_line;
+
+#[cfg(test)]
+mod tests;

@@ -1,11 +1,14 @@
 //! The lines that a script prints, each added at the end of a text without its newline.
 //!
-//! Want of memory ends the program, so the text is then left with a part of the line.
+//! Want of memory ends the program: what stood in the text before then still stands in it, and
+//! a part of the line may stand behind it.
+#![tactic(auto, using(crate::proofs::Texts::grows_then, crate::proofs::Texts::grows_by, crate::proofs::Texts::grows_not))]
+
 ghost use Rattle.std.specs.Prelude.{◌≡◌, ◌++◌, ◌∷◌, OnOk, codes, decimal, map};
 ghost use Rattle.signctl_format.specs.Words.{spaced};
 ghost use Rattle.signctl_format.specs.Moments.{second_word};
 ghost use Rattle.signctl_format.specs.Heads.{value_byte, value_word, field_word, head_words, version_word};
-ghost use Rattle.signctl_format.specs.Lines.{call_words, credential_words, wake_words, why_words, reply_line, cache_line, handle_line, final_line, fault_line, cause_text, too_much_line};
+ghost use Rattle.signctl_format.specs.Lines.{Grows, call_words, credential_words, wake_words, why_words, reply_line, cache_line, handle_line, final_line, fault_line, cause_text, too_much_line};
 
 use crate::ScriptCredential;
 use crate::text::{is_plain, upper_hex};
@@ -36,7 +39,8 @@ impl Cause {
 
 /// Adds the line of a reply.
 pub fn push_reply(text: &mut Vec<u8>, reply: &Reply<ScriptCredential>) -> Result<(), NoMemory<()>>
-    ensures { OnOk result (text.new.items ≡ text.old.items ++ reply_line reply.now) }
+    ensures ok { OnOk result (text.new.items ≡ text.old.items ++ reply_line reply.now) }
+    ensures grows { Grows text.old.items text.new.items }
 {
     match reply {
         Reply::Begun => push(text, b"begun"),
@@ -70,7 +74,8 @@ pub fn push_reply(text: &mut Vec<u8>, reply: &Reply<ScriptCredential>) -> Result
 
 /// Adds the line of a new cache, by its number.
 pub fn push_cache(text: &mut Vec<u8>, number: u64) -> Result<(), NoMemory<()>>
-    ensures { OnOk result (text.new.items ≡ text.old.items ++ cache_line number) }
+    ensures ok { OnOk result (text.new.items ≡ text.old.items ++ cache_line number) }
+    ensures grows { Grows text.old.items text.new.items }
 {
     push(text, b"cache")?;
     push_number(text, number)
@@ -78,7 +83,8 @@ pub fn push_cache(text: &mut Vec<u8>, number: u64) -> Result<(), NoMemory<()>>
 
 /// Adds the line of a new handle, by its number.
 pub fn push_handle(text: &mut Vec<u8>, number: u64) -> Result<(), NoMemory<()>>
-    ensures { OnOk result (text.new.items ≡ text.old.items ++ handle_line number) }
+    ensures ok { OnOk result (text.new.items ≡ text.old.items ++ handle_line number) }
+    ensures grows { Grows text.old.items text.new.items }
 {
     push(text, b"handle")?;
     push_number(text, number)
@@ -90,7 +96,8 @@ pub fn push_final(
     cache: u64,
     cached: Option<ScriptCredential>,
 ) -> Result<(), NoMemory<()>>
-    ensures { OnOk result (text.new.items ≡ text.old.items ++ final_line cache cached) }
+    ensures ok { OnOk result (text.new.items ≡ text.old.items ++ final_line cache cached) }
+    ensures grows { Grows text.old.items text.new.items }
 {
     push(text, b"final")?;
     push_number(text, cache)?;
@@ -102,7 +109,8 @@ pub fn push_final(
 
 /// Adds the line that names the line at which the script ended, counted from 1.
 pub fn push_fault(text: &mut Vec<u8>, number: u64, cause: Cause) -> Result<(), NoMemory<()>>
-    ensures { OnOk result (text.new.items ≡ text.old.items ++ fault_line number cause) }
+    ensures ok { OnOk result (text.new.items ≡ text.old.items ++ fault_line number cause) }
+    ensures grows { Grows text.old.items text.new.items }
 {
     push(text, b"line")?;
     push_number(text, number)?;
@@ -112,13 +120,15 @@ pub fn push_fault(text: &mut Vec<u8>, number: u64, cause: Cause) -> Result<(), N
 
 /// Adds the line that tells that the script has too many bytes.
 pub fn push_too_much(text: &mut Vec<u8>) -> Result<(), NoMemory<()>>
-    ensures { OnOk result (text.new.items ≡ text.old.items ++ too_much_line) }
+    ensures ok { OnOk result (text.new.items ≡ text.old.items ++ too_much_line) }
+    ensures grows { Grows text.old.items text.new.items }
 {
     push(text, b"input too long")
 }
 
-fn push(text: &mut Vec<u8>, bytes: &[u8]) -> Result<(), NoMemory<()>>
-    ensures { OnOk result (text.new.items ≡ text.old.items ++ bytes.now) }
+pub(crate) fn push(text: &mut Vec<u8>, bytes: &[u8]) -> Result<(), NoMemory<()>>
+    ensures ok { OnOk result (text.new.items ≡ text.old.items ++ bytes.now) }
+    ensures grows { Grows text.old.items text.new.items }
 {
     match text.extend_from_slice(bytes) {
         Ok(()) => Ok(()),
@@ -126,34 +136,39 @@ fn push(text: &mut Vec<u8>, bytes: &[u8]) -> Result<(), NoMemory<()>>
     }
 }
 
-fn push_word(text: &mut Vec<u8>, word: &[u8]) -> Result<(), NoMemory<()>>
-    ensures { OnOk result (text.new.items ≡ text.old.items ++ 32 ∷ word.now) }
+pub(crate) fn push_word(text: &mut Vec<u8>, word: &[u8]) -> Result<(), NoMemory<()>>
+    ensures ok { OnOk result (text.new.items ≡ text.old.items ++ 32 ∷ word.now) }
+    ensures grows { Grows text.old.items text.new.items }
 {
     push(text, b" ")?;
     push(text, word)
 }
 
-fn push_number(text: &mut Vec<u8>, number: u64) -> Result<(), NoMemory<()>>
-    ensures { OnOk result (text.new.items ≡ text.old.items ++ 32 ∷ decimal number) }
+pub(crate) fn push_number(text: &mut Vec<u8>, number: u64) -> Result<(), NoMemory<()>>
+    ensures ok { OnOk result (text.new.items ≡ text.old.items ++ 32 ∷ decimal number) }
+    ensures grows { Grows text.old.items text.new.items }
 {
     push_word(text, Buffer::new().format(number).as_bytes())
 }
 
-fn push_second(text: &mut Vec<u8>, moment: Timestamp) -> Result<(), NoMemory<()>>
-    ensures { OnOk result (text.new.items ≡ text.old.items ++ 32 ∷ second_word moment) }
+pub(crate) fn push_second(text: &mut Vec<u8>, moment: Timestamp) -> Result<(), NoMemory<()>>
+    ensures ok { OnOk result (text.new.items ≡ text.old.items ++ 32 ∷ second_word moment) }
+    ensures grows { Grows text.old.items text.new.items }
 {
     push_word(text, Buffer::new().format(moment.as_second()).as_bytes())
 }
 
-fn push_call(text: &mut Vec<u8>, call: CallId) -> Result<(), NoMemory<()>>
-    ensures { OnOk result (text.new.items ≡ text.old.items ++ spaced (call_words call)) }
+pub(crate) fn push_call(text: &mut Vec<u8>, call: CallId) -> Result<(), NoMemory<()>>
+    ensures ok { OnOk result (text.new.items ≡ text.old.items ++ spaced (call_words call)) }
+    ensures grows { Grows text.old.items text.new.items }
 {
     push_number(text, u64::from(call.handle))?;
     push_number(text, call.number)
 }
 
 fn push_wake(text: &mut Vec<u8>, wake: Option<CallId>) -> Result<(), NoMemory<()>>
-    ensures { OnOk result (text.new.items ≡ text.old.items ++ spaced (wake_words wake)) }
+    ensures ok { OnOk result (text.new.items ≡ text.old.items ++ spaced (wake_words wake)) }
+    ensures grows { Grows text.old.items text.new.items }
 {
     match wake {
         None => Ok(()),
@@ -165,7 +180,8 @@ fn push_wake(text: &mut Vec<u8>, wake: Option<CallId>) -> Result<(), NoMemory<()
 }
 
 fn push_why(text: &mut Vec<u8>, why: &Why) -> Result<(), NoMemory<()>>
-    ensures { OnOk result (text.new.items ≡ text.old.items ++ spaced (why_words why.now)) }
+    ensures ok { OnOk result (text.new.items ≡ text.old.items ++ spaced (why_words why.now)) }
+    ensures grows { Grows text.old.items text.new.items }
 {
     match why {
         Why::Missing => push_word(text, b"missing"),
@@ -182,8 +198,9 @@ fn push_why(text: &mut Vec<u8>, why: &Why) -> Result<(), NoMemory<()>>
     }
 }
 
-fn push_credential(text: &mut Vec<u8>, c: ScriptCredential) -> Result<(), NoMemory<()>>
-    ensures { OnOk result (text.new.items ≡ text.old.items ++ spaced (credential_words c)) }
+pub(crate) fn push_credential(text: &mut Vec<u8>, c: ScriptCredential) -> Result<(), NoMemory<()>>
+    ensures ok { OnOk result (text.new.items ≡ text.old.items ++ spaced (credential_words c)) }
+    ensures grows { Grows text.old.items text.new.items }
 {
     push_number(text, c.generation)?;
     push_second(text, c.fresh)?;
@@ -191,8 +208,9 @@ fn push_credential(text: &mut Vec<u8>, c: ScriptCredential) -> Result<(), NoMemo
     push_second(text, c.required)
 }
 
-fn push_head(text: &mut Vec<u8>, head: &Head) -> Result<(), NoMemory<()>>
-    ensures { OnOk result (text.new.items ≡ text.old.items ++ spaced (head_words head.now)) }
+pub(crate) fn push_head(text: &mut Vec<u8>, head: &Head) -> Result<(), NoMemory<()>>
+    ensures ok { OnOk result (text.new.items ≡ text.old.items ++ spaced (head_words head.now)) }
+    ensures grows { Grows text.old.items text.new.items }
 {
     push_word(text, head.method.as_slice())?;
     push_word(text, head.uri.as_slice())?;
@@ -201,7 +219,8 @@ fn push_head(text: &mut Vec<u8>, head: &Head) -> Result<(), NoMemory<()>>
 }
 
 fn push_fields(text: &mut Vec<u8>, fields: &[Field]) -> Result<(), NoMemory<()>>
-    ensures { OnOk result (text.new.items ≡ text.old.items ++ spaced (map field_word fields.now)) }
+    ensures ok { OnOk result (text.new.items ≡ text.old.items ++ spaced (map field_word fields.now)) }
+    ensures grows { Grows text.old.items text.new.items }
 {
     for field in fields {
         push_field(text, field)?;
@@ -210,7 +229,8 @@ fn push_fields(text: &mut Vec<u8>, fields: &[Field]) -> Result<(), NoMemory<()>>
 }
 
 fn push_version(text: &mut Vec<u8>, version: Version) -> Result<(), NoMemory<()>>
-    ensures { OnOk result (text.new.items ≡ text.old.items ++ 32 ∷ version_word version) }
+    ensures ok { OnOk result (text.new.items ≡ text.old.items ++ 32 ∷ version_word version) }
+    ensures grows { Grows text.old.items text.new.items }
 {
     match version {
         Version::V09 => push_word(text, b"0.9"),
@@ -222,7 +242,8 @@ fn push_version(text: &mut Vec<u8>, version: Version) -> Result<(), NoMemory<()>
 }
 
 fn push_field(text: &mut Vec<u8>, field: &Field) -> Result<(), NoMemory<()>>
-    ensures { OnOk result (text.new.items ≡ text.old.items ++ 32 ∷ field_word field.now) }
+    ensures ok { OnOk result (text.new.items ≡ text.old.items ++ 32 ∷ field_word field.now) }
+    ensures grows { Grows text.old.items text.new.items }
 {
     push_word(text, field.name.as_slice())?;
     push(text, b":")?;
@@ -230,7 +251,8 @@ fn push_field(text: &mut Vec<u8>, field: &Field) -> Result<(), NoMemory<()>>
 }
 
 fn push_value(text: &mut Vec<u8>, value: &[u8]) -> Result<(), NoMemory<()>>
-    ensures { OnOk result (text.new.items ≡ text.old.items ++ value_word value.now) }
+    ensures ok { OnOk result (text.new.items ≡ text.old.items ++ value_word value.now) }
+    ensures grows { Grows text.old.items text.new.items }
 {
     for b in value {
         push_value_byte(text, *b)?;
@@ -239,7 +261,8 @@ fn push_value(text: &mut Vec<u8>, value: &[u8]) -> Result<(), NoMemory<()>>
 }
 
 fn push_value_byte(text: &mut Vec<u8>, b: u8) -> Result<(), NoMemory<()>>
-    ensures { OnOk result (text.new.items ≡ text.old.items ++ value_byte b) }
+    ensures ok { OnOk result (text.new.items ≡ text.old.items ++ value_byte b) }
+    ensures grows { Grows text.old.items text.new.items }
 {
     if is_plain(b) {
         push(text, &[b])

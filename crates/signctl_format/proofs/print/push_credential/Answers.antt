@@ -1,0 +1,7 @@
+use Rattle.std.proofs.Common.{append_assoc, append-nil}
+use Rattle.signctl_format.proofs.print.push_credential.Goals as goal
+
+pub returns-clause-ok : goal.returns-clause-ok
+returns-clause-ok c =
+    let added = rw (c.in_ok-push_second-2.ensures.ok, c.in_ok-push_second.ensures.ok, c.in_ok-push_number.ensures.ok) at c.push_second-3.ensures.ok in
+    simp append-nil (simp append_assoc at added)

@@ -1,0 +1,319 @@
+//! Lines that are read and written back, lines that are refused, and the lines of replies.
+use super::*;
+use crate::print::{
+    push, push_call, push_credential, push_head, push_number, push_second, push_word,
+};
+use sequential_signer::{Answer, Event, Loader, Reply, Verdict, Why};
+use sign_base::{NoMemory, Timestamp};
+use std::alloc::Global;
+use std::test::*;
+use wake_lock::CallId;
+
+const SPELLED: [&str; 17] = [
+    "cache single",
+    "cache chain 0",
+    "cache chain 4294967295",
+    "handle 0 now",
+    "handle 4294967295 cred",
+    "begin 0 1 - GET https://e.x/a 1.1 x-original:v",
+    "begin 4294967295 18446744073709551615 18446744073709551615 ! ~ 0.9",
+    "begin 0 0 0 GET / 1.0 a:b a:b",
+    "poll 0 1 253402207200",
+    "found 0 1 501 7 900 1000 600",
+    "missing 0 1 0",
+    "failed 0 1 5 42",
+    "accept 0 1 GET https://bucket.s3.amazonaws.com/key?x=%2F 1.1 date:Tue,%2001%20Mar%202022%2008:12:34%20GMT x-empty:",
+    "accept 0 1 POST https://e.x/a?auth=1 2 authorization:signed",
+    "accept 0 1 GET / 3 percent:%25 all:%00%0A%7F%80%FF a:::",
+    "reject 0 1 9",
+    "cancel 0 1",
+];
+
+const REFUSED: [&str; 41] = [
+    " ",
+    " #",
+    "cache",
+    "cache single ",
+    " cache single",
+    "cache  single",
+    "Cache single",
+    "cache chain",
+    "cache chain 4294967296",
+    "cache chain 1 1",
+    "handle 0",
+    "handle 0 never",
+    "handle 00 now",
+    "handle 4294967296 now",
+    "begin 0 1 - GET https://e.x/a",
+    "begin 0 1 -1 GET https://e.x/a 1.1",
+    "begin 0 1 18446744073709551616 GET https://e.x/a 1.1",
+    "begin 0 1 - GET https://e.x/a 1.2",
+    "begin 0 1 -  https://e.x/a 1.1",
+    "begin 0 1 - GE\x7f https://e.x/a 1.1",
+    "begin 0 1 - GET https://e.x/a 1.1 ",
+    "begin 0 1 - GET https://e.x/a 1.1 name",
+    "begin 0 1 - GET https://e.x/a 1.1 :v",
+    "begin 0 1 - GET https://e.x/a 1.1 a:%41",
+    "begin 0 1 - GET https://e.x/a 1.1 a:%2f",
+    "begin 0 1 - GET https://e.x/a 1.1 a:%2",
+    "begin 0 1 - GET https://e.x/a 1.1 a:%",
+    "begin 0 1 - GET https://e.x/a 1.1 a:%G0",
+    "begin 0 1 - GET https://e.x/a 1.1 a:\t",
+    "poll 0 01 5",
+    "poll 0 1 +5",
+    "poll 0 1 -5",
+    "poll 0 1",
+    "poll 0 1 5 6",
+    "poll 0 1 253402207201",
+    "poll 0 18446744073709551616 5",
+    "found 0 1 253402207201 7 900 1000 600",
+    "found 0 1 501 7 900 1000",
+    "failed 0 1 5 18446744073709551616",
+    "cancel 0 1 ",
+    "signctl 2",
+];
+
+fn spell(text: &mut Vec<u8>, item: &Item) -> Result<(), NoMemory<()>> {
+    match item {
+        Item::Silent => Ok(()),
+        Item::Cache(Loader::Single) => push(text, b"cache single"),
+        Item::Cache(Loader::Chain(providers)) => {
+            push(text, b"cache chain")?;
+            push_number(text, u64::from(*providers))
+        }
+        Item::Handle { cache, rule } => {
+            push(text, b"handle")?;
+            push_number(text, u64::from(*cache))?;
+            match rule {
+                ScriptRule::Now => push_word(text, b"now"),
+                ScriptRule::Cred => push_word(text, b"cred"),
+            }
+        }
+        Item::Event(event) => spell_event(text, event),
+    }
+}
+
+fn spell_event(text: &mut Vec<u8>, event: &Event<ScriptCredential>) -> Result<(), NoMemory<()>> {
+    match event {
+        Event::Begin {
+            call,
+            head,
+            expires_in,
+        } => {
+            push(text, b"begin")?;
+            push_call(text, *call)?;
+            match expires_in {
+                None => push_word(text, b"-")?,
+                Some(duration) => push_number(text, duration.as_secs())?,
+            }
+            push_head(text, head)
+        }
+        Event::Poll { call, now } => {
+            push(text, b"poll")?;
+            push_call(text, *call)?;
+            push_second(text, *now)
+        }
+        Event::Provided { call, now, answer } => spell_answer(text, *call, *now, answer),
+        Event::Signed { call, answer } => spell_verdict(text, *call, answer),
+        Event::Cancel { call } => {
+            push(text, b"cancel")?;
+            push_call(text, *call)
+        }
+    }
+}
+
+fn spell_answer(
+    text: &mut Vec<u8>,
+    call: CallId,
+    now: Timestamp,
+    answer: &Answer<ScriptCredential>,
+) -> Result<(), NoMemory<()>> {
+    let name: &[u8] = match answer {
+        Answer::Found(_) => b"found",
+        Answer::Missing => b"missing",
+        Answer::Failed(_) => b"failed",
+    };
+    push(text, name)?;
+    push_call(text, call)?;
+    push_second(text, now)?;
+    match answer {
+        Answer::Found(credential) => push_credential(text, *credential),
+        Answer::Missing => Ok(()),
+        Answer::Failed(error) => push_number(text, *error),
+    }
+}
+
+fn spell_verdict(text: &mut Vec<u8>, call: CallId, verdict: &Verdict) -> Result<(), NoMemory<()>> {
+    match verdict {
+        Verdict::Accepted(head) => {
+            push(text, b"accept")?;
+            push_call(text, call)?;
+            push_head(text, head)
+        }
+        Verdict::Failed(error) => {
+            push(text, b"reject")?;
+            push_call(text, call)?;
+            push_number(text, *error)
+        }
+    }
+}
+
+/// The item that a line spells, written back, None where it spells none.
+fn again(alloc: Global, line: &[u8]) -> Result<Option<Vec<u8>>, NoMemory<()>> {
+    match read_line(alloc, line)? {
+        None => Ok(None),
+        Some(item) => {
+            let mut text = Vec::new(alloc);
+            spell(&mut text, &item)?;
+            Ok(Some(text))
+        }
+    }
+}
+
+#[test]
+fn a_line_of_each_form_is_read_and_written_back(rt: HostRuntime) -> Result<(), Fail> {
+    for line in SPELLED {
+        let text = again(rt.alloc(), line.as_bytes()).ok().ok_or("memory")?;
+        let text = text.ok_or("the line is of a form")?;
+        assert_eq!(rt; text.as_slice(), line.as_bytes(), "at {line}");
+    }
+    Ok(())
+}
+
+#[test]
+fn other_lines_are_refused(rt: HostRuntime) -> Result<(), Fail> {
+    for line in REFUSED {
+        let read = read_line(rt.alloc(), line.as_bytes()).ok().ok_or("memory")?;
+        assert!(rt; read.is_none(), "at {line}");
+    }
+    Ok(())
+}
+
+#[test]
+fn empty_lines_and_remarks_say_nothing(rt: HostRuntime) -> Result<(), Fail> {
+    for line in [b"".as_slice(), b"#", b"# poll 0 1 5", b"#\x00\xff\r"] {
+        let read = read_line(rt.alloc(), line).ok().ok_or("memory")?;
+        assert!(rt; matches!(read, Some(Item::Silent)));
+    }
+    Ok(())
+}
+
+#[test]
+fn a_number_of_thousands_of_digits_is_refused(rt: HostRuntime) -> Result<(), Fail> {
+    for digit in [b'0', b'9'] {
+        let mut line = Vec::from_slice(rt.alloc(), b"poll 0 1 ")?;
+        for _ in 0..5_000 {
+            line.push(digit)?;
+        }
+        let read = read_line(rt.alloc(), line.as_slice()).ok().ok_or("memory")?;
+        assert!(rt; read.is_none());
+    }
+    Ok(())
+}
+
+#[test]
+fn replies_are_printed(rt: HostRuntime) -> Result<(), Fail> {
+    let moment = Timestamp::from_nanos(900_000_000_000).ok_or("a moment")?;
+    let credential = ScriptCredential {
+        generation: 7,
+        fresh: moment,
+        expires: moment,
+        required: moment,
+    };
+    let wake = Some(CallId {
+        handle: 0,
+        number: 2,
+    });
+    for (reply, line) in [
+        (Reply::Begun, "begun"),
+        (Reply::Pending, "pending"),
+        (Reply::NotNow, "not now"),
+        (Reply::Ask { provider: 3 }, "ask 3"),
+        (
+            Reply::Sign {
+                credential,
+                wake: None,
+            },
+            "sign 7",
+        ),
+        (Reply::Sign { credential, wake }, "sign 7 wake 0 2"),
+        (
+            Reply::Refused {
+                why: Why::Missing,
+                wake: None,
+            },
+            "refused missing",
+        ),
+        (
+            Reply::Refused {
+                why: Why::Short(moment),
+                wake,
+            },
+            "refused short wake 0 2",
+        ),
+        (
+            Reply::Refused {
+                why: Why::Range,
+                wake: None,
+            },
+            "refused range",
+        ),
+        (
+            Reply::Refused {
+                why: Why::Loader(42),
+                wake,
+            },
+            "refused loader 42 wake 0 2",
+        ),
+        (
+            Reply::Refused {
+                why: Why::Service(9),
+                wake: None,
+            },
+            "refused service 9",
+        ),
+        (Reply::Cancelled { wake: None }, "cancelled"),
+        (Reply::Cancelled { wake }, "cancelled wake 0 2"),
+    ] {
+        let mut text = Vec::new(rt.alloc());
+        push_reply(&mut text, &reply).ok().ok_or("memory")?;
+        assert_eq!(rt; text.as_slice(), line.as_bytes(), "at {line}");
+    }
+    Ok(())
+}
+
+#[test]
+fn other_lines_are_printed(rt: HostRuntime) -> Result<(), Fail> {
+    let moment = Timestamp::from_nanos(600_000_000_000).ok_or("a moment")?;
+    let credential = ScriptCredential {
+        generation: 18_446_744_073_709_551_615,
+        fresh: moment,
+        expires: moment,
+        required: moment,
+    };
+    let mut text = Vec::new(rt.alloc());
+    push_cache(&mut text, 0).ok().ok_or("memory")?;
+    push(&mut text, b"\n").ok().ok_or("memory")?;
+    push_handle(&mut text, 10).ok().ok_or("memory")?;
+    push(&mut text, b"\n").ok().ok_or("memory")?;
+    push_final(&mut text, 0, None).ok().ok_or("memory")?;
+    push(&mut text, b"\n").ok().ok_or("memory")?;
+    push_final(&mut text, 1, Some(credential))
+        .ok()
+        .ok_or("memory")?;
+    push(&mut text, b"\n").ok().ok_or("memory")?;
+    push_fault(&mut text, 4, Cause::NotUnderstood)
+        .ok()
+        .ok_or("memory")?;
+    push(&mut text, b"\n").ok().ok_or("memory")?;
+    push_fault(&mut text, 100, Cause::NotBuilt)
+        .ok()
+        .ok_or("memory")?;
+    push(&mut text, b"\n").ok().ok_or("memory")?;
+    push_too_much(&mut text).ok().ok_or("memory")?;
+    assert_eq!(rt;
+        text.as_slice(),
+        b"cache 0\nhandle 10\nfinal 0 empty\nfinal 1 18446744073709551615 600 600 600\nline 4: not understood\nline 100: not built\ninput too long".as_slice()
+    );
+    Ok(())
+}
