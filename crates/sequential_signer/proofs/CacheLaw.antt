@@ -1,5 +1,5 @@
 -- The sequential cache, after one more entry.
-use Rattle.std.proofs.Common.{◌≡◌, ℕ, Bool, true, false, ◌&&◌, ◌||◌, List, [], ◌∷◌, ◌++◌, Option, Some, None, is_some, refl, sym, ◌∙◌, ap, subst, filter, map, fold, slice_get, arith}
+use Rattle.std.proofs.Common.{◌≡◌, ℕ, Bool, true, false, ◌&&◌, ◌||◌, List, [], ◌∷◌, ◌++◌, Option, Some, None, refl, sym, ◌∙◌, ap, subst, filter, map, fold, slice_get, arith}
 use Rattle.std.specs.List.{list_any, list_all}
 use Rattle.std.proofs.lemmas.Bool.Decides.{nat_tests}
 use Rattle.std.proofs.lemmas.List.Sums.{fold-append}
@@ -7,19 +7,19 @@ use Rattle.wake_lock.specs.declared.CallId.{CallId}
 use Rattle.sequential_signer.specs.Policy.{Policy}
 use Rattle.sequential_signer.specs.SequentialCall.{HoldInput}
 use Rattle.sequential_signer.specs.Setup.{Setup, cache_of, is_of_cache, is_number}
-use Rattle.sequential_signer.specs.Transcript.{same_call, call_of, entries_of}
+use Rattle.sequential_signer.specs.Transcript.{same_call, call_of}
 use Rattle.sequential_signer.specs.Phase.{Phase, Unknown, Fresh, Queued, Loading, Signing, Ended, phase_of}
 use Rattle.sequential_signer.specs.Turn.{before_call, poll_order, is_fitting_poll, is_poll_at, serves, hold_is_finished, is_served, has_turn}
-use Rattle.sequential_signer.specs.Hold.{BeginInput, begin_in, begin_of, answers_of, answers_in, turn_moment, hold_input}
+use Rattle.sequential_signer.specs.Hold.{begin_in, begin_of, answers_of, answers_in, turn_moment, hold_input}
 use Rattle.sequential_signer.specs.SequentialCache.{cache_after, served_calls, sequential_cache}
 use Rattle.sequential_signer.specs.declared.event.Entry.{Entry}
 use Rattle.sequential_signer.proofs.Lists.{filter-more_no, filter-same, list_all-by, list_all-filter, fold-same, or_true}
 use Rattle.sequential_signer.proofs.CallNames.{same_call-eq, same_call-refl, same_call-comm, and_left, and_right}
 use Rattle.sequential_signer.proofs.Distinct.{IsOnce, first_of_each-once, list_all-filter_of, list_all-first_of_each, list_all-map, filter-newly}
-use Rattle.sequential_signer.proofs.OwnEntries.{entries_of-own, entries_of-other, begin_in-found}
+use Rattle.sequential_signer.proofs.OwnEntries.{entries_of-other}
 use Rattle.sequential_signer.proofs.PollOrder.{is_polled, OrderAfter, stays, grows, order_after, calls_ahead-more, is_served-own, is_served-other, turn_moment-found, turn_moment-no}
 use Rattle.sequential_signer.proofs.Run.{IsRun}
-use Rattle.sequential_signer.proofs.Standing.{IsServed, Stands, unknown_call, fresh_call, queued_call, loading_call, signing_call, over_call, cancelled_call}
+use Rattle.sequential_signer.proofs.Standing.{IsServed, Stands, unknown_call, fresh_call, queued_call, loading_call, signing_call, over_call, cancelled_call, begin-kept}
 use Rattle.sequential_signer.proofs.Stands.{stands}
 
 pub list_all-member : (q : CallId → Bool) (b : CallId) (xs : List CallId) → list_all q xs ≡ true → list_any (same_call b) xs ≡ true → q b ≡ true
@@ -77,16 +77,12 @@ module _ {K D : Type 0} (policy : Policy K D) (setup : Setup D) (entries : List 
   abbrev pub KeepsAnswers : Type 0
   KeepsAnswers = is_served entries (call_of e.event) ≡ true → answers_of (entries ++ e ∷ []) (call_of e.event) ≡ answers_of entries (call_of e.event)
 
-  begin_stays : (call : CallId) → same_call call (call_of e.event) ≡ true → (o : Option BeginInput) → begin_of entries call ≡ o → is_some o ≡ true → begin_of (entries ++ e ∷ []) call ≡ begin_of entries call
-  begin_stays call own None h s = cc
-  begin_stays call own (Some b) h s = ap begin_in (entries_of-own entries call e own) ∙ begin_in-found (entries_of entries call) e b h ∙ sym h
-
   -- the input of a served hold stays
   input_by_call : KeepsAnswers → (i : ℕ) (call : CallId) → cache_of setup call ≡ Some i → is_served entries call ≡ true → (s : Bool) → same_call call (call_of e.event) ≡ s → hold_input {K = K} setup (entries ++ e ∷ []) i call ≡ hold_input setup entries i call
   input_by_call keeps i call at served true s =
       let same : call ≡ call_of e.event = same_call-eq call (call_of e.event) s in
       let x : IsServed setup entries i call = served_had setup entries i call (phase_of entries call) served (stands policy setup entries run call i at) in
-      let b : begin_of (entries ++ e ∷ []) call ≡ begin_of entries call = begin_stays call s (begin_of entries call) refl x.begun in
+      let b : begin_of (entries ++ e ∷ []) call ≡ begin_of entries call = begin-kept setup entries i e call s x.begun in
       let m : turn_moment setup (entries ++ e ∷ []) i call ≡ turn_moment setup entries i call = turn_moment-found setup entries i e call x.had.moment x.had.at ∙ sym x.had.at in
       let a : answers_of (entries ++ e ∷ []) call ≡ answers_of entries call = subst (λ c. answers_of (entries ++ e ∷ []) c ≡ answers_of entries c) (sym same) (keeps (ap (is_served entries) (sym same) ∙ served)) in
       inputs_same i call b m a

@@ -1,6 +1,6 @@
 -- Each row of the table, on the sequential caches; and what a load goes on from.
 use Rattle.std.proofs.Common.{◌≡◌, ℕ, ℤ, Bool, true, false, cond, ◌||◌, List, [], ◌∷◌, ◌++◌, Option, Some, None, is_some, refl, sym, ◌∙◌, ap, slice_get, ◌⊎◌, inl, inr}
-use Rattle.std.specs.List.{list_any, list_all}
+use Rattle.std.specs.List.{list_any}
 use Rattle.wake_lock.specs.declared.CallId.{CallId}
 use Rattle.sequential_signer.specs.Lookup.{Outcome, HandOut, Refuse}
 use Rattle.sequential_signer.specs.Policy.{Policy}
@@ -9,7 +9,7 @@ use Rattle.sequential_signer.specs.Setup.{Setup, cache_of, rule_of}
 use Rattle.sequential_signer.specs.Transcript.{same_call, call_of, entries_of}
 use Rattle.sequential_signer.specs.Phase.{is_not_now}
 use Rattle.sequential_signer.specs.Turn.{before_call, poll_order, calls_ahead, is_fitting_poll, serves, hold_is_finished, is_served, has_turn}
-use Rattle.sequential_signer.specs.Hold.{BeginInput, begin_in, begin_of, answers_of, answers_in, answer_in, turn_moment, input_by, hold_input}
+use Rattle.sequential_signer.specs.Hold.{begin_of, answers_of, answers_in, answer_in, turn_moment, input_by, hold_input}
 use Rattle.sequential_signer.specs.SequentialCache.{cache_after, sequential_cache}
 use Rattle.sequential_signer.specs.ReplyDue.{progress_reply, with_wake}
 use Rattle.sequential_signer.specs.declared.event.Answer.{Answer}
@@ -20,14 +20,14 @@ use Rattle.sequential_signer.specs.declared.event.Loader.{Loader}
 use Rattle.sequential_signer.specs.declared.event.Reply.{Reply}
 use Rattle.sequential_signer.specs.declared.event.Reply.TheVariants.{NotNow, Sign, Refused}
 use Rattle.sequential_signer.proofs.Lists.{or_false}
-use Rattle.sequential_signer.proofs.CallNames.{same_call-eq, same_call-refl, and_left, and_right}
-use Rattle.sequential_signer.proofs.OwnEntries.{entries_of-own, begin_in-found, answers_in-more}
+use Rattle.sequential_signer.proofs.CallNames.{same_call-eq, same_call-refl}
+use Rattle.sequential_signer.proofs.OwnEntries.{entries_of-own, answers_in-more}
 use Rattle.sequential_signer.proofs.PollOrder.{is_polled, is_served-own, is_served-other, turn_moment-found}
 use Rattle.sequential_signer.proofs.Happens.{GoesOn}
 use Rattle.sequential_signer.proofs.Run.{IsRun}
-use Rattle.sequential_signer.proofs.Standing.{Waits, Loads, answers-own_none, refused_answers, had-more}
+use Rattle.sequential_signer.proofs.Standing.{Waits, Loads, answers-own_none, refused_answers, had-more, begin-kept}
 use Rattle.sequential_signer.proofs.Stands.{looked, looked_moment}
-use Rattle.sequential_signer.proofs.CacheLaw.{KeepsAnswers, cache_stays, cache_serves}
+use Rattle.sequential_signer.proofs.CacheLaw.{KeepsAnswers, cache_stays, cache_serves, list_all-member}
 
 module _ {K D : Type 0} (policy : Policy K D) (setup : Setup D) where
   module _ (entries : List (Entry K)) (run : IsRun policy setup entries) where
@@ -78,14 +78,10 @@ module _ {K D : Type 0} (policy : Policy K D) (setup : Setup D) where
     input_looked call now reply i at t w turn b =
         let e : Entry K = record { event = Poll call now; reply = reply } in
         let own : same_call call call ≡ true = same_call-refl call in
-        let begin : begin_of (entries ++ record { event = Poll call now; reply = reply } ∷ []) call ≡ begin_of entries call = begin_same e call own (begin_of entries call) refl b in
+        let begin : begin_of (entries ++ record { event = Poll call now; reply = reply } ∷ []) call ≡ begin_of entries call = begin-kept setup entries i e call own b in
         let answers : answers_of (entries ++ record { event = Poll call now; reply = reply } ∷ []) call ≡ [] = answers-own_none setup entries i e call own refl ∙ w.answers in
         let moment : turn_moment setup (entries ++ record { event = Poll call now; reply = reply } ∷ []) i call ≡ Some now = looked_moment policy setup entries i call at now reply t w turn in
         rw (begin, answers, moment) refl
-      where
-        begin_same : (e : Entry K) (call : CallId) → same_call call (call_of e.event) ≡ true → (o : Option BeginInput) → begin_of entries call ≡ o → is_some o ≡ true → begin_of (entries ++ e ∷ []) call ≡ begin_of entries call
-        begin_same e call own None h s = cc
-        begin_same e call own (Some b) h s = ap begin_in (entries_of-own entries call e own) ∙ begin_in-found (entries_of entries call) e b h ∙ sym h
 
     -- the input of a hold that gets one more answer
     pub input_got : (call : CallId) (now : ℤ) (answer : Answer K) (reply : Reply K) (i : ℕ) → cache_of setup call ≡ Some i → is_not_now reply ≡ false
@@ -94,16 +90,12 @@ module _ {K D : Type 0} (policy : Policy K D) (setup : Setup D) where
     input_got call now answer reply i at n l =
         let e : Entry K = record { event = Provided call now answer; reply = reply } in
         let own : same_call call call ≡ true = same_call-refl call in
-        let begin : begin_of (entries ++ record { event = Provided call now answer; reply = reply } ∷ []) call ≡ begin_of entries call = begin_same e call own (begin_of entries call) refl l.begun in
+        let begin : begin_of (entries ++ record { event = Provided call now answer; reply = reply } ∷ []) call ≡ begin_of entries call = begin-kept setup entries i e call own l.begun in
         let answers : answers_of (entries ++ record { event = Provided call now answer; reply = reply } ∷ []) call ≡ answers_of entries call ++ (answer, now) ∷ [] =
         ap answers_in (entries_of-own entries call e own) ∙ answers_in-more (entries_of entries call) e (answer, now) n refl in
         let moment : turn_moment setup (entries ++ record { event = Provided call now answer; reply = reply } ∷ []) i call ≡ turn_moment setup entries i call =
         turn_moment-found setup entries i e call l.had.moment l.had.at ∙ sym l.had.at in
         rw (begin, answers, moment) refl
-      where
-        begin_same : (e : Entry K) (call : CallId) → same_call call (call_of e.event) ≡ true → (o : Option BeginInput) → begin_of entries call ≡ o → is_some o ≡ true → begin_of (entries ++ e ∷ []) call ≡ begin_of entries call
-        begin_same e call own None h s = cc
-        begin_same e call own (Some b) h s = ap begin_in (entries_of-own entries call e own) ∙ begin_in-found (entries_of entries call) e b h ∙ sym h
 
     -- a hold that a look ends leaves what the look leaves
     pub serves_looked : (call : CallId) (now : ℤ) (outcome : Outcome K) (left : Option K) (wake : Option CallId) (i : ℕ)
@@ -174,14 +166,6 @@ before_either a b differ (x ∷ xs) m = either_by (same_call a x) refl (same_cal
     either_by false s true t m rest = inr (rw (s, t) refl)
     either_by false s false t m rest = elim (rest m) [ inl k ↦ inl (rw (t, s) k) | inr k ↦ inr (rw (s, t) k) ]
 
-member_all : (q : CallId → Bool) (b : CallId) (xs : List CallId) → list_all q xs ≡ true → list_any (same_call b) xs ≡ true → q b ≡ true
-member_all q b [] h m = cc
-member_all q b (x ∷ xs) h m = member_by (same_call b x) refl m (λ k. member_all q b xs (and_right _ _ h) k)
-  where
-    member_by : (s : Bool) → same_call b x ≡ s → (s || list_any (same_call b) xs) ≡ true → (list_any (same_call b) xs ≡ true → q b ≡ true) → q b ≡ true
-    member_by true s m rest = ap q (same_call-eq b x s) ∙ and_left _ _ h
-    member_by false s m rest = rest m
-
 module _ {K D : Type 0} (setup : Setup D) where
   -- of two calls whose holds are not finished only one has its turn
   pub one_turn : (entries : List (Entry K)) (i : ℕ) (a b : CallId) → same_call a b ≡ false → is_polled setup entries i a ≡ true
@@ -189,6 +173,6 @@ module _ {K D : Type 0} (setup : Setup D) where
   unfolding has_turn
   one_turn entries i a b differ m ta fa tb fb =
       elim (before_either a b differ (poll_order setup entries i) m) [
-        | inl k ↦ let bad : hold_is_finished entries a ≡ true = member_all (hold_is_finished entries) a (calls_ahead setup entries i b) tb k in cc
-        | inr k ↦ let bad : hold_is_finished entries b ≡ true = member_all (hold_is_finished entries) b (calls_ahead setup entries i a) ta k in cc
+        | inl k ↦ let bad : hold_is_finished entries a ≡ true = list_all-member (hold_is_finished entries) a (calls_ahead setup entries i b) tb k in cc
+        | inr k ↦ let bad : hold_is_finished entries b ≡ true = list_all-member (hold_is_finished entries) b (calls_ahead setup entries i a) ta k in cc
       ]

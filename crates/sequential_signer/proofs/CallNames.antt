@@ -5,34 +5,17 @@ use Rattle.std.specs.List.{list_any}
 use Rattle.wake_lock.specs.declared.CallId.{CallId}
 use Rattle.sequential_signer.specs.Transcript.{same_call}
 use Rattle.sequential_signer.specs.Turn.{first_of_each, before_call}
+use Rattle.sequential_signer.proofs.Places.{same_number}
 use Rattle.sequential_signer.proofs.Lists.{filter-more_yes, filter-more_no}
-
-number_same : (a b : ℕ) → (a == b) ≡ true → a ≡ b
-number_same a b h = grind (arith, nat_tests)
+pub use Rattle.sequential_signer.proofs.Lists.{and_left, and_right, or_left, or_right}
 
 pub number_refl : (a : ℕ) → (a == a) ≡ true
 number_refl a = grind (arith, nat_tests)
 
-pub and_left : (a b : Bool) → (a && b) ≡ true → a ≡ true
-and_left true b h = refl
-and_left false b h = h
-
-pub and_right : (a b : Bool) → (a && b) ≡ true → b ≡ true
-and_right true b h = h
-and_right false b h = cc
-
-pub or_left : (a b : Bool) → (a || b) ≡ false → a ≡ false
-or_left true b h = h
-or_left false b h = refl
-
-pub or_right : (a b : Bool) → (a || b) ≡ false → b ≡ false
-or_right true b h = cc
-or_right false b h = h
-
 pub same_call-eq : (a b : CallId) → same_call a b ≡ true → a ≡ b
 same_call-eq a b h =
-    let e : a.handle ≡ b.handle = number_same a.handle b.handle (and_left _ _ h) in
-    let f : a.number ≡ b.number = number_same a.number b.number (and_right _ _ h) in
+    let e : a.handle ≡ b.handle = same_number a.handle b.handle (and_left _ _ h) in
+    let f : a.number ≡ b.number = same_number a.number b.number (and_right _ _ h) in
     ap (λ (n : ℕ). let r : CallId = record { handle = n; number = a.number } in r) e
     ∙ ap (λ (n : ℕ). let r : CallId = record { handle = b.handle; number = n } in r) f
 

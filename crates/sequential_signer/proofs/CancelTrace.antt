@@ -1,6 +1,6 @@
 -- A call that is cancelled before its hold finished leaves no trace: without the providers' answers to it the transcript
 -- is legal too, and every cache is the same.
-use Rattle.std.proofs.Common.{◌≡◌, ℕ, ℤ, Bool, true, false, not, cond, ◌&&◌, ◌||◌, List, [], ◌∷◌, ◌++◌, Option, Some, None, refl, sym, ◌∙◌, ap, subst, filter, find, slice_get, is_some, if◌then◌else◌, IsFalse, inl, inr}
+use Rattle.std.proofs.Common.{◌≡◌, ℕ, ℤ, Bool, true, false, not, ◌&&◌, ◌||◌, List, [], ◌∷◌, ◌++◌, Option, Some, None, refl, sym, ◌∙◌, ap, subst, filter, find, slice_get, is_some, if◌then◌else◌, inl, inr}
 use Rattle.std.specs.List.{list_any}
 use Rattle.std.proofs.lemmas.List.{append-nil, append_assoc}
 use Rattle.std.proofs.lemmas.List.Folds.{list_any-append}
@@ -10,8 +10,8 @@ use Rattle.sequential_signer.specs.Lookup.{HandOut, Refuse}
 use Rattle.sequential_signer.specs.Policy.{Policy}
 use Rattle.sequential_signer.specs.SequentialCall.{Progress, Asking, Over}
 use Rattle.sequential_signer.specs.Setup.{Setup, cache_of, rule_of}
-use Rattle.sequential_signer.specs.Transcript.{same_call, call_of, is_about, entries_of, kept, is_out_of_memory, last_of}
-use Rattle.sequential_signer.specs.Phase.{Phase, Unknown, Fresh, Queued, Loading, Signing, Ended, phase_of, phase_in, phase_at, phase_by, is_mark, is_loading, is_waiting_poll, event_fits, is_live, is_waiting, is_signing}
+use Rattle.sequential_signer.specs.Transcript.{same_call, call_of, is_about, entries_of, kept, is_out_of_memory}
+use Rattle.sequential_signer.specs.Phase.{Phase, Unknown, Fresh, Queued, Loading, Signing, Ended, phase_of, phase_in, is_loading, event_fits, is_live, is_waiting, is_signing}
 use Rattle.sequential_signer.specs.Turn.{poll_order, has_turn, is_served, serves}
 use Rattle.sequential_signer.specs.Hold.{begin_of, answers_of, turn_moment, input_by}
 use Rattle.sequential_signer.specs.SequentialCache.{sequential_cache}
@@ -27,38 +27,16 @@ use Rattle.sequential_signer.specs.declared.event.Event.TheVariants.{Begin, Poll
 use Rattle.sequential_signer.specs.declared.event.Reply.{Reply}
 use Rattle.sequential_signer.specs.declared.event.Reply.TheVariants.{Pending, Done, Cancelled}
 use Rattle.sequential_signer.specs.declared.event.Verdict.TheVariants.{Accepted, Failed}
-use Rattle.sequential_signer.proofs.Lists.{or_true, or_false, filter-more_yes, filter-more_no, list_any-more, list_all-more}
+use Rattle.sequential_signer.proofs.Lists.{or_true, filter-more_yes, filter-more_no, list_all-more, not_false, filter-swap, find-same}
 use Rattle.sequential_signer.proofs.CallNames.{same_call-eq, same_call-comm, and_left, and_right, or_left}
-use Rattle.sequential_signer.proofs.OwnEntries.{entries_of-own, entries_of-other, to_queued, phase_by_waited, phase_in-mark}
+use Rattle.sequential_signer.proofs.OwnEntries.{entries_of-own, entries_of-other, phase_in-alike}
 use Rattle.sequential_signer.proofs.PollOrder.{is_served-own, is_served-other}
 use Rattle.sequential_signer.proofs.Happens.{Happens, misfits, begins, waits, idles, looks, gets, accepts, fails, cancels}
 use Rattle.sequential_signer.proofs.Run.{IsRun, start, more, legal_run, legal-more, kept-more}
 use Rattle.sequential_signer.proofs.Standing.{phase-other, phase-own_mark, refused_phase}
 use Rattle.sequential_signer.proofs.Due.{legal_before}
 use Rattle.sequential_signer.proofs.CacheRows.{stays_other}
-use Rattle.sequential_signer.proofs.LeftOut.{filter-swap, stays, is_harmless, AreHarmless, is_quiet, waited-left_out, is_new_number-left_out, begin_of-left_out, poll_order-left_out, has_turn-left_out, turn_moment-left_out, answers_of-left_out, sequential_cache-left_out}
-
--- the phase after one more entry is told by the phase before it, and by whether the call was told to wait
-phase_at_waited : {K : Type 0} (w : Bool) (m : Option (Entry K)) → phase_at true m ≡ to_queued (phase_at w m)
-phase_at_waited w None = refl
-phase_at_waited w (Some e) = phase_by_waited w e.reply
-
-module _ {K : Type 0} where
-  unmarked : (entries : List (Entry K)) (e : Entry K) → is_mark e.reply ≡ false → phase_in (entries ++ e ∷ []) ≡ cond (is_waiting_poll e) (to_queued (phase_in entries)) (phase_in entries)
-  unfolding phase_in
-  unmarked entries e h =
-      rw (list_any-more is_waiting_poll entries e, filter-more_no (λ (x : Entry K). is_mark x.reply) entries e h)
-      (elim (is_waiting_poll e) as (λ v. phase_at (list_any is_waiting_poll entries || v) (last_of (filter (λ (x : Entry K). is_mark x.reply) entries)) ≡ cond v (to_queued (phase_at (list_any is_waiting_poll entries) (last_of (filter (λ (x : Entry K). is_mark x.reply) entries)))) (phase_at (list_any is_waiting_poll entries) (last_of (filter (λ (x : Entry K). is_mark x.reply) entries)))) [
-        | true ↦ rw (or_true (list_any is_waiting_poll entries)) (phase_at_waited (list_any is_waiting_poll entries) (last_of (filter (λ (x : Entry K). is_mark x.reply) entries)))
-        | false ↦ rw (or_false (list_any is_waiting_poll entries)) refl
-      ])
-
-  phase_alike : (xs ys : List (Entry K)) (e : Entry K) → phase_in xs ≡ phase_in ys → list_any is_waiting_poll xs ≡ list_any is_waiting_poll ys → phase_in (xs ++ e ∷ []) ≡ phase_in (ys ++ e ∷ [])
-  phase_alike xs ys e p w = by_mark (is_mark e.reply) refl
-    where
-      by_mark : (m : Bool) → is_mark e.reply ≡ m → phase_in (xs ++ e ∷ []) ≡ phase_in (ys ++ e ∷ [])
-      by_mark true m = phase_in-mark xs e m ∙ ap (λ v. phase_by (v || is_waiting_poll e) e.reply) w ∙ sym (phase_in-mark ys e m)
-      by_mark false m = unmarked xs e m ∙ ap (λ v. cond (is_waiting_poll e) (to_queued v) v) p ∙ sym (unmarked ys e m)
+use Rattle.sequential_signer.proofs.LeftOut.{stays, is_harmless, AreHarmless, is_quiet, waited-left_out, is_new_number-left_out, begin_of-left_out, poll_order-left_out, has_turn-left_out, turn_moment-left_out, answers_of-left_out, sequential_cache-left_out}
 
 pub loading_is : (p : Phase) → is_loading p ≡ true → p ≡ Loading
 loading_is Loading h = refl
@@ -81,10 +59,6 @@ module _ {K D : Type 0} (policy : Policy K D) (setup : Setup D) (call : CallId) 
   not_served_by : (entries : List (Entry K)) (e : Entry K) → is_served (entries ++ e ∷ []) call ≡ false → is_about call e ≡ true → serves e.reply ≡ true → ⊥
   not_served_by entries e u own s =
       let served : is_served (entries ++ e ∷ []) call ≡ true = is_served-own setup entries e call own ∙ ap (λ v. is_served entries call || v) s ∙ or_true _ in cc
-
-  not_false : (b : Bool) → not b ≡ false → b ≡ true
-  not_false true h = refl
-  not_false false h = cc
 
   -- an answer to the call that does not serve it is quiet, and leaves its phase
   record LeavesPhase (entries : List (Entry K)) (e : Entry K) : Type 0 where
@@ -132,7 +106,7 @@ module _ {K D : Type 0} (policy : Policy K D) (setup : Setup D) (call : CallId) 
         by_name : (o : Bool) → same_call b (call_of e.event) ≡ o → phase_of (without_answers call entries ++ e ∷ []) b ≡ phase_of (entries ++ e ∷ []) b
         by_name true o =
             ap phase_in (entries_of-own (without_answers call entries) b e o)
-            ∙ phase_alike (entries_of (without_answers call entries) b) (entries_of entries b) e (u.phase b) (waited-left_out call entries u.harmless b)
+            ∙ phase_in-alike (entries_of (without_answers call entries) b) (entries_of entries b) e (u.phase b) (waited-left_out call entries u.harmless b)
             ∙ sym (ap phase_in (entries_of-own entries b e o))
         by_name false o =
             ap phase_in (entries_of-other (without_answers call entries) b e o)
@@ -196,11 +170,7 @@ module _ {K D : Type 0} (policy : Policy K D) (setup : Setup D) (call : CallId) 
     unfolding call_to_wake
     wake_alike =
         ap (find (gets_turn setup (without_answers call entries) i e)) (poll_order-left_out setup call entries i)
-        ∙ find-alike (gets_turn setup (without_answers call entries) i e) (gets_turn setup entries i e) gets_alike (poll_order setup entries i)
-      where
-        find-alike : (p q : CallId → Bool) → ((x : CallId) → p x ≡ q x) → (xs : List CallId) → find p xs ≡ find q xs
-        find-alike p q f [] = refl
-        find-alike p q f (x ∷ xs) = rw (f x, find-alike p q f xs) refl
+        ∙ find-same (gets_turn setup (without_answers call entries) i e) (gets_turn setup entries i e) gets_alike (poll_order setup entries i)
 
   module _ (i : ℕ) (event : Event K) (s : not (same_call call (call_of event) && is_answer event) ≡ true) where
     waking_alike : (r : Reply K) → waking setup (without_answers call entries) i event r ≡ waking setup entries i event r
@@ -305,11 +275,8 @@ module _ {K D : Type 0} (policy : Policy K D) (setup : Setup D) (call : CallId) 
       ap (λ v. sequential_cache policy setup v i) (kept-without call entries)
       ∙ sequential_cache-left_out setup call policy (kept entries) (unserved_run policy setup call (kept entries) run u).harmless u i
 
-false_is : (b : Bool) → IsFalse b → b ≡ false
-false_is b h = h
-
 pub cancelled_load_leaves_no_trace : (K D : Type 0) → CancelledLoadLeavesNoTrace K D
-cancelled_load_leaves_no_trace K D policy setup entries call l f u = (legal_without policy setup call entries l (false_is _ u), caches_without policy setup call entries l (false_is _ u))
+cancelled_load_leaves_no_trace K D policy setup entries call l f u = (legal_without policy setup call entries l u, caches_without policy setup call entries l u)
 
 pub cancel_changes_no_cache : (K D : Type 0) → CancelChangesNoCache K D
 cancel_changes_no_cache K D policy setup before call wake l i =

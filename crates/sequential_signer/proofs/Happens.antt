@@ -21,6 +21,7 @@ use Rattle.sequential_signer.specs.declared.event.Reply.{Reply}
 use Rattle.sequential_signer.specs.declared.event.Reply.TheVariants.{Begun, Pending, NotNow, Refused, Done, Cancelled}
 use Rattle.sequential_signer.specs.declared.event.Verdict.TheVariants.{Accepted, Failed}
 use Rattle.sequential_signer.specs.declared.event.Why.TheVariants as why
+use Rattle.sequential_signer.proofs.CallNames.{and_right}
 
 -- asking a provider, or signing
 abbrev pub is_busy : Phase → Bool
@@ -36,10 +37,6 @@ pub record GoesOn {K D : Type 0} (policy : Policy K D) (setup : Setup D) (entrie
   pub input : HoldInput K D
   pub inputs : input_by (rule_of setup call) (begin_of entries call) moment answers ≡ Some input
   pub gets : progress ≡ sequential_call policy (sequential_cache policy setup entries i) loader input
-
-and_right : (a b : Bool) → (a && b) ≡ true → b ≡ true
-and_right true b h = h
-and_right false b h = cc
 
 -- a live call waits or is busy
 live_cases : (p : Phase) → is_live p ≡ true → is_waiting p ≡ false → is_busy p ≡ true

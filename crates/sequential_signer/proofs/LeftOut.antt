@@ -16,62 +16,9 @@ use Rattle.sequential_signer.specs.declared.event.Event.{Event}
 use Rattle.sequential_signer.specs.declared.event.Event.TheVariants.{Begin, Poll, Provided, Signed, Cancel}
 use Rattle.sequential_signer.specs.declared.event.Reply.{Reply}
 use Rattle.sequential_signer.specs.declared.event.Reply.TheVariants.{Begun, Pending, NotNow, OutOfMemory, Ask, Sign, Refused, Done, Cancelled}
-use Rattle.sequential_signer.proofs.Lists.{filter-same, filter-more_yes, filter-more_no, filter-within, fold-same, list_all-filter, list_all-more}
+use Rattle.sequential_signer.proofs.Lists.{not_false, filter-same, filter-more_yes, filter-more_no, filter-within, filter-swap, fold-same, find-left_out, list_any-left_out, list_all-by, list_all-same, list_all-filter, list_all-more, list_all-left_out}
 use Rattle.sequential_signer.proofs.CallNames.{same_call-eq, same_call-refl, and_left, and_right}
 use Rattle.sequential_signer.proofs.Distinct.{list_all-filter_of}
-
-module _ {X : Type 0} where
-  -- two tests can be asked in either order
-  swap_by : (p q : X → Bool) (x : X) (xs : List X) → filter p (filter q xs) ≡ filter q (filter p xs) → (s : Bool) → p x ≡ s → (t : Bool) → q x ≡ t → filter p (filter q (x ∷ xs)) ≡ filter q (filter p (x ∷ xs))
-  swap_by p q x xs rest true s true t = rw (s, t, s, rest) refl
-  swap_by p q x xs rest true s false t = rw (s, t) rest
-  swap_by p q x xs rest false s true t = rw (s, t, s) rest
-  swap_by p q x xs rest false s false t = rw (s, t) rest
-
-  pub filter-swap : (p q : X → Bool) (xs : List X) → filter p (filter q xs) ≡ filter q (filter p xs)
-  filter-swap p q [] = refl
-  filter-swap p q (x ∷ xs) = swap_by p q x xs (filter-swap p q xs) (p x) refl (q x) refl
-
-  -- items that fail a test do not count for whether one passes, nor for which is the first
-  any_by : (t q : X → Bool) (x : X) (xs : List X) → list_any t (filter q xs) ≡ list_any t xs → (s : Bool) → q x ≡ s → (s || not (t x)) ≡ true → list_any t (filter q (x ∷ xs)) ≡ list_any t (x ∷ xs)
-  any_by t q x xs rest true s h = rw (s, rest) refl
-  any_by t q x xs rest false s h =
-      (elim (t x) as (λ v. not v ≡ true → list_any t (cond (q x) (x ∷ filter q xs) (filter q xs)) ≡ (v || list_any t xs))
-      [ true ↦ λ k. (cc) | false ↦ λ k. rw s rest ]) h
-
-  pub list_any-left_out : (t q : X → Bool) (xs : List X) → list_all (λ x. q x || not (t x)) xs ≡ true → list_any t (filter q xs) ≡ list_any t xs
-  list_any-left_out t q [] h = refl
-  list_any-left_out t q (x ∷ xs) h = any_by t q x xs (list_any-left_out t q xs (and_right _ _ h)) (q x) refl (and_left _ _ h)
-
-  find_by : (t q : X → Bool) (x : X) (xs : List X) → find t (filter q xs) ≡ find t xs → (s : Bool) → q x ≡ s → (s || not (t x)) ≡ true → find t (filter q (x ∷ xs)) ≡ find t (x ∷ xs)
-  find_by t q x xs rest true s h = rw (s, rest) refl
-  find_by t q x xs rest false s h =
-      (elim (t x) as (λ v. not v ≡ true → find t (cond (q x) (x ∷ filter q xs) (filter q xs)) ≡ cond v (Some x) (find t xs))
-      [ true ↦ λ k. (cc) | false ↦ λ k. rw s rest ]) h
-
-  pub find-left_out : (t q : X → Bool) (xs : List X) → list_all (λ x. q x || not (t x)) xs ≡ true → find t (filter q xs) ≡ find t xs
-  find-left_out t q [] h = refl
-  find-left_out t q (x ∷ xs) h = find_by t q x xs (find-left_out t q xs (and_right _ _ h)) (q x) refl (and_left _ _ h)
-
-  -- items that pass a test anyway do not count for whether all pass
-  all_by : (t q : X → Bool) (x : X) (xs : List X) → list_all t (filter q xs) ≡ list_all t xs → (s : Bool) → q x ≡ s → (s || t x) ≡ true → list_all t (filter q (x ∷ xs)) ≡ list_all t (x ∷ xs)
-  all_by t q x xs rest true s h = rw (s, rest) refl
-  all_by t q x xs rest false s h = rw (s, h) rest
-
-  pub list_all-left_out : (t q : X → Bool) (xs : List X) → list_all (λ x. q x || t x) xs ≡ true → list_all t (filter q xs) ≡ list_all t xs
-  list_all-left_out t q [] h = refl
-  list_all-left_out t q (x ∷ xs) h = all_by t q x xs (list_all-left_out t q xs (and_right _ _ h)) (q x) refl (and_left _ _ h)
-
-  pub list_all-alike : (p q : X → Bool) → ((x : X) → p x ≡ q x) → (xs : List X) → list_all p xs ≡ list_all q xs
-  list_all-alike p q f [] = refl
-  list_all-alike p q f (x ∷ xs) = rw (f x, list_all-alike p q f xs) refl
-
-  pub list_all-each : (p q : X → Bool) → ((x : X) → p x ≡ true → q x ≡ true) → (xs : List X) → list_all p xs ≡ true → list_all q xs ≡ true
-  list_all-each p q f [] h = refl
-  list_all-each p q f (x ∷ xs) h =
-      let here : q x ≡ true = f x (and_left _ _ h) in
-      let later : list_all q xs ≡ true = list_all-each p q f xs (and_right _ _ h) in
-      rw (here, later) refl
 
 -- what leaves its call as it is: no begin, and no end of a hold
 abbrev pub is_quiet : {K : Type 0} → Reply K → Bool
@@ -127,10 +74,6 @@ or_by false b f = f refl
 or_else : (a b : Bool) → (a || b) ≡ true → a ≡ false → b ≡ true
 or_else a b h f = cc
 
-not_false : (b : Bool) → not b ≡ false → b ≡ true
-not_false true h = refl
-not_false false h = cc
-
 module _ {K : Type 0} (call : CallId) where
   -- whether the entry stays
   abbrev pub stays : Entry K → Bool
@@ -152,7 +95,7 @@ module _ {K : Type 0} (call : CallId) where
   -- a test that no quiet entry passes
   unpassed : (t : Entry K → Bool) → ((e : Entry K) → stays e ≡ false → is_quiet e.reply ≡ true → t e ≡ false) → (entries : List (Entry K)) → AreHarmless entries → list_all (λ e. stays e || not (t e)) entries ≡ true
   unpassed t f entries h =
-      list_all-each is_harmless (λ e. stays e || not (t e)) (λ e k. or_by (stays e) (not (t e)) (λ s. ap not (f e s (left_quiet e k s)))) entries h
+      list_all-by is_harmless (λ e. stays e || not (t e)) (λ e k. or_by (stays e) (not (t e)) (λ s. ap not (f e s (left_quiet e k s)))) entries h
 
   module _ (entries : List (Entry K)) (harmless : AreHarmless entries) where
     of_harmless : (b : CallId) → AreHarmless (entries_of entries b)
@@ -168,7 +111,7 @@ module _ {K : Type 0} (call : CallId) where
     unfolding is_new_number
     is_new_number-left_out b =
         list_all-left_out (λ (e : Entry K). not (is_begin_under b.handle e) || nat_lt (call_of e.event).number b.number) stays entries
-        (list_all-each is_harmless (λ (e : Entry K). stays e || (not (is_begin_under b.handle e) || nat_lt (call_of e.event).number b.number))
+        (list_all-by is_harmless (λ (e : Entry K). stays e || (not (is_begin_under b.handle e) || nat_lt (call_of e.event).number b.number))
         (λ e k. or_by (stays e) _ (λ s. let n : is_begun e.reply ≡ false = quiet_begins e.reply (left_quiet e k s) in rw n refl)) entries harmless)
 
     pub hold_is_finished-left_out : (b : CallId) → hold_is_finished (without_answers call entries) b ≡ hold_is_finished entries b
@@ -226,7 +169,7 @@ module _ {K D : Type 0} (setup : Setup D) (call : CallId) where
   unfolding has_turn
   has_turn-left_out entries harmless i b =
       ap (λ order. list_all (hold_is_finished (without_answers call entries)) (before_call b order)) (poll_order-left_out entries i)
-      ∙ list_all-alike (hold_is_finished (without_answers call entries)) (hold_is_finished entries) (λ x. hold_is_finished-left_out call entries harmless x) (calls_ahead setup entries i b)
+      ∙ list_all-same (hold_is_finished (without_answers call entries)) (hold_is_finished entries) (λ x. hold_is_finished-left_out call entries harmless x) (calls_ahead setup entries i b)
 
   -- the first poll at the turn, looked for after entries of which some were left out
   moment_by : (i : ℕ) (b : CallId) (before xs : List (Entry K)) (x : Entry K) → AreHarmless call before

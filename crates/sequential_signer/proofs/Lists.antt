@@ -1,5 +1,5 @@
--- One more item at the end of a list.
-use Rattle.std.proofs.Common.{◌≡◌, Bool, true, false, cond, ◌&&◌, ◌||◌, List, [], ◌∷◌, ◌++◌, Some, None, refl, sym, ◌∙◌, ap, filter, fold, find}
+-- Lists: one more item at the end, and items left out. Tests: their parts.
+use Rattle.std.proofs.Common.{◌≡◌, Bool, true, false, not, cond, ◌&&◌, ◌||◌, List, [], ◌∷◌, ◌++◌, Some, None, refl, sym, ◌∙◌, ap, filter, fold, find}
 use Rattle.std.specs.List.{list_any, list_all}
 use Rattle.std.proofs.lemmas.List.{append-nil, append_assoc}
 use Rattle.std.proofs.lemmas.List.Elements.{filter-append}
@@ -17,6 +17,30 @@ pub and_false : (a : Bool) → (a && false) ≡ false
 and_false true = refl
 and_false false = refl
 
+pub and_left : (a b : Bool) → (a && b) ≡ true → a ≡ true
+and_left true b h = refl
+and_left false b h = h
+
+pub and_right : (a b : Bool) → (a && b) ≡ true → b ≡ true
+and_right true b h = h
+and_right false b h = cc
+
+pub or_left : (a b : Bool) → (a || b) ≡ false → a ≡ false
+or_left true b h = h
+or_left false b h = refl
+
+pub or_right : (a b : Bool) → (a || b) ≡ false → b ≡ false
+or_right true b h = cc
+or_right false b h = h
+
+pub not_true : (b : Bool) → not b ≡ true → b ≡ false
+not_true false h = refl
+not_true true h = cc
+
+pub not_false : (b : Bool) → not b ≡ false → b ≡ true
+not_false true h = refl
+not_false false h = cc
+
 module _ {X : Type 0} where
   -- what holds of each item, where what it follows from does
   pub list_all-by : (p q : X → Bool) → ((x : X) → p x ≡ true → q x ≡ true) → (xs : List X) → list_all p xs ≡ true → list_all q xs ≡ true
@@ -28,6 +52,14 @@ module _ {X : Type 0} where
   pub filter-same : (p q : X → Bool) → ((x : X) → p x ≡ q x) → (xs : List X) → filter p xs ≡ filter q xs
   filter-same p q f [] = refl
   filter-same p q f (x ∷ xs) = rw (f x, filter-same p q f xs) refl
+
+  pub list_all-same : (p q : X → Bool) → ((x : X) → p x ≡ q x) → (xs : List X) → list_all p xs ≡ list_all q xs
+  list_all-same p q f [] = refl
+  list_all-same p q f (x ∷ xs) = rw (f x, list_all-same p q f xs) refl
+
+  pub find-same : (p q : X → Bool) → ((x : X) → p x ≡ q x) → (xs : List X) → find p xs ≡ find q xs
+  find-same p q f [] = refl
+  find-same p q f (x ∷ xs) = rw (f x, find-same p q f xs) refl
 
   pub list_all-filter : (p : X → Bool) (xs : List X) → list_all p (filter p xs) ≡ true
   list_all-filter p [] = refl
@@ -102,3 +134,44 @@ module _ {X : Type 0} where
   pub filter-within : (p q : X → Bool) → ((x : X) → p x ≡ true → q x ≡ true) → (xs : List X) → filter p (filter q xs) ≡ filter p xs
   filter-within p q f [] = refl
   filter-within p q f (x ∷ xs) = within_by p q x xs (f x) (filter-within p q f xs) (q x) refl (p x) refl
+
+  -- two tests can be asked in either order
+  swap_by : (p q : X → Bool) (x : X) (xs : List X) → filter p (filter q xs) ≡ filter q (filter p xs) → (s : Bool) → p x ≡ s → (t : Bool) → q x ≡ t → filter p (filter q (x ∷ xs)) ≡ filter q (filter p (x ∷ xs))
+  swap_by p q x xs rest true s true t = rw (s, t, s, rest) refl
+  swap_by p q x xs rest true s false t = rw (s, t) rest
+  swap_by p q x xs rest false s true t = rw (s, t, s) rest
+  swap_by p q x xs rest false s false t = rw (s, t) rest
+
+  pub filter-swap : (p q : X → Bool) (xs : List X) → filter p (filter q xs) ≡ filter q (filter p xs)
+  filter-swap p q [] = refl
+  filter-swap p q (x ∷ xs) = swap_by p q x xs (filter-swap p q xs) (p x) refl (q x) refl
+
+  -- items that fail a test do not count for whether one passes, nor for which is the first
+  any_by : (t q : X → Bool) (x : X) (xs : List X) → list_any t (filter q xs) ≡ list_any t xs → (s : Bool) → q x ≡ s → (s || not (t x)) ≡ true → list_any t (filter q (x ∷ xs)) ≡ list_any t (x ∷ xs)
+  any_by t q x xs rest true s h = rw (s, rest) refl
+  any_by t q x xs rest false s h =
+      (elim (t x) as (λ v. not v ≡ true → list_any t (cond (q x) (x ∷ filter q xs) (filter q xs)) ≡ (v || list_any t xs))
+      [ true ↦ λ k. (cc) | false ↦ λ k. rw s rest ]) h
+
+  pub list_any-left_out : (t q : X → Bool) (xs : List X) → list_all (λ x. q x || not (t x)) xs ≡ true → list_any t (filter q xs) ≡ list_any t xs
+  list_any-left_out t q [] h = refl
+  list_any-left_out t q (x ∷ xs) h = any_by t q x xs (list_any-left_out t q xs (and_right _ _ h)) (q x) refl (and_left _ _ h)
+
+  find_by : (t q : X → Bool) (x : X) (xs : List X) → find t (filter q xs) ≡ find t xs → (s : Bool) → q x ≡ s → (s || not (t x)) ≡ true → find t (filter q (x ∷ xs)) ≡ find t (x ∷ xs)
+  find_by t q x xs rest true s h = rw (s, rest) refl
+  find_by t q x xs rest false s h =
+      (elim (t x) as (λ v. not v ≡ true → find t (cond (q x) (x ∷ filter q xs) (filter q xs)) ≡ cond v (Some x) (find t xs))
+      [ true ↦ λ k. (cc) | false ↦ λ k. rw s rest ]) h
+
+  pub find-left_out : (t q : X → Bool) (xs : List X) → list_all (λ x. q x || not (t x)) xs ≡ true → find t (filter q xs) ≡ find t xs
+  find-left_out t q [] h = refl
+  find-left_out t q (x ∷ xs) h = find_by t q x xs (find-left_out t q xs (and_right _ _ h)) (q x) refl (and_left _ _ h)
+
+  -- items that pass a test anyway do not count for whether all pass
+  all_by : (t q : X → Bool) (x : X) (xs : List X) → list_all t (filter q xs) ≡ list_all t xs → (s : Bool) → q x ≡ s → (s || t x) ≡ true → list_all t (filter q (x ∷ xs)) ≡ list_all t (x ∷ xs)
+  all_by t q x xs rest true s h = rw (s, rest) refl
+  all_by t q x xs rest false s h = rw (s, h) rest
+
+  pub list_all-left_out : (t q : X → Bool) (xs : List X) → list_all (λ x. q x || t x) xs ≡ true → list_all t (filter q xs) ≡ list_all t xs
+  list_all-left_out t q [] h = refl
+  list_all-left_out t q (x ∷ xs) h = all_by t q x xs (list_all-left_out t q xs (and_right _ _ h)) (q x) refl (and_left _ _ h)

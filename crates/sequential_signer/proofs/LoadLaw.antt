@@ -1,6 +1,5 @@
 -- A call that loads would load again: its look at the sequential cache still finds nothing to hand out.
-use Rattle.std.proofs.Common.{◌≡◌, ℕ, Bool, true, false, cond, ◌&&◌, ◌||◌, ◌==◌, List, [], ◌∷◌, ◌++◌, Option, Some, None, is_some, refl, sym, ◌∙◌, ap, subst, length, arith}
-use Rattle.std.proofs.lemmas.Bool.Decides.{nat_tests}
+use Rattle.std.proofs.Common.{◌≡◌, ℕ, Bool, true, false, cond, ◌&&◌, ◌||◌, ◌==◌, List, [], ◌∷◌, ◌++◌, Option, Some, None, refl, sym, ◌∙◌, ap, subst, length}
 use Rattle.std.specs.List.{list_any}
 use Rattle.wake_lock.specs.declared.CallId.{CallId}
 use Rattle.sequential_signer.specs.Lookup.{Outcome, HandOut, Refuse, cache_lookup}
@@ -10,31 +9,23 @@ use Rattle.sequential_signer.specs.Setup.{Setup, cache_of}
 use Rattle.sequential_signer.specs.Transcript.{same_call, call_of, entries_of, last_of}
 use Rattle.sequential_signer.specs.Phase.{Phase, Unknown, Fresh, Queued, Loading, Signing, Ended, phase_of, phase_in, is_loading, is_waiting, is_waiting_poll}
 use Rattle.sequential_signer.specs.Turn.{is_fitting_poll, has_turn}
-use Rattle.sequential_signer.specs.Hold.{BeginInput, begin_in, begin_of, answers_of, answers_in, turn_moment, hold_input}
+use Rattle.sequential_signer.specs.Hold.{begin_in, begin_of, answers_of, answers_in, turn_moment, hold_input}
 use Rattle.sequential_signer.specs.SequentialCache.{sequential_cache}
 use Rattle.sequential_signer.specs.declared.event.Entry.{Entry}
 use Rattle.sequential_signer.specs.declared.event.Event.{Event}
 use Rattle.sequential_signer.specs.declared.event.Loader.{Loader}
 use Rattle.sequential_signer.specs.declared.event.Reply.{Reply}
 use Rattle.sequential_signer.specs.declared.event.Reply.TheVariants.{NotNow, Ask}
+use Rattle.sequential_signer.proofs.Places.{same_number, other_number}
 use Rattle.sequential_signer.proofs.CallNames.{same_call-eq, same_call-refl}
-use Rattle.sequential_signer.proofs.OwnEntries.{entries_of-own, entries_of-other, to_queued, begin_in-found}
+use Rattle.sequential_signer.proofs.OwnEntries.{entries_of-other, to_queued}
 use Rattle.sequential_signer.proofs.PollOrder.{turn_moment-found, turn_moment-no}
 use Rattle.sequential_signer.proofs.Happens.{Happens, misfits, begins, waits, idles, looks, gets, accepts, fails, cancels}
 use Rattle.sequential_signer.proofs.Run.{IsRun, start, more}
-use Rattle.sequential_signer.proofs.Standing.{Waits, Loads, answers-own_none, refused_answers, phase-own_mark, phase-other, refused_phase}
+use Rattle.sequential_signer.proofs.Standing.{Waits, Loads, answers-own_none, refused_answers, phase-own_mark, phase-other, refused_phase, begin-kept}
 use Rattle.sequential_signer.proofs.Stands.{stands, waiting_waits, loading_loads, signing_served, pending_phase}
 use Rattle.sequential_signer.proofs.CacheLaw.{cache_other}
 use Rattle.sequential_signer.proofs.CacheRows.{stays_not_now, stays_other, stays_served, stays_unserved, input_looked, input_got, one_turn}
-
-same_number : (a b : ℕ) → (a == b) ≡ true → a ≡ b
-same_number a b h = grind (arith, nat_tests)
-
-other_number : (a b : ℕ) → (a == b) ≡ false → a ≡ b → ⊥
-other_number a b h e = let t : (a == b) ≡ true = ap (λ v. a == v) (sym e) ∙ self a in cc
-  where
-    self : (n : ℕ) → (n == n) ≡ true
-    self n = grind (arith, nat_tests)
 
 module _ {K D : Type 0} (policy : Policy K D) (setup : Setup D) where
   -- the input of the call's hold, with which a look at the cache as it is would load
@@ -100,10 +91,6 @@ module _ {K D : Type 0} (policy : Policy K D) (setup : Setup D) where
         by_number true h = absurd (one_turn setup entries i a call differ l.had.polled l.had.turn l.unfinished (subst (λ n. has_turn setup entries n call ≡ true) (same_number j i h) x.had.turn) x.unfinished)
         by_number false h = cache_other policy setup entries run (record { event = event; reply = reply }) j g.at x.unserved x.unfinished refl i (other_number j i h)
 
-    begin_same : (e : Entry K) (call : CallId) → same_call call (call_of e.event) ≡ true → (o : Option BeginInput) → begin_of entries call ≡ o → is_some o ≡ true → begin_of (entries ++ e ∷ []) call ≡ begin_of entries call
-    begin_same e call own None h s = cc
-    begin_same e call own (Some b) h s = ap begin_in (entries_of-own entries call e own) ∙ begin_in-found (entries_of entries call) e b h ∙ sym h
-
     -- an entry that changes neither the input nor the cache
     carry : (e : Entry K) (i : ℕ) (call : CallId) → LoadsOn entries i call → hold_input {K = K} setup (entries ++ e ∷ []) i call ≡ hold_input setup entries i call
         → sequential_cache policy setup (entries ++ e ∷ []) i ≡ sequential_cache policy setup entries i → LoadsOn (entries ++ e ∷ []) i call
@@ -119,7 +106,7 @@ module _ {K D : Type 0} (policy : Policy K D) (setup : Setup D) where
 
     input_own : (e : Entry K) (i : ℕ) (call : CallId) → same_call call (call_of e.event) ≡ true → Loads setup entries i call → answers_of (entries ++ e ∷ []) call ≡ answers_of entries call → hold_input {K = K} setup (entries ++ e ∷ []) i call ≡ hold_input setup entries i call
     input_own e i call s l a =
-        let b : begin_of (entries ++ e ∷ []) call ≡ begin_of entries call = begin_same e call s (begin_of entries call) refl l.begun in
+        let b : begin_of (entries ++ e ∷ []) call ≡ begin_of entries call = begin-kept setup entries i e call s l.begun in
         let m : turn_moment setup (entries ++ e ∷ []) i call ≡ turn_moment setup entries i call = turn_moment-found setup entries i e call l.had.moment l.had.at ∙ sym l.had.at in
         rw (b, m, a) refl
 

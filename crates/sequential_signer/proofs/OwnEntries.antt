@@ -1,5 +1,5 @@
 -- The entries of one call, after one more entry.
-use Rattle.std.proofs.Common.{◌≡◌, Bool, true, false, not, cond, ◌||◌, List, [], ◌∷◌, ◌++◌, Option, Some, None, refl, ap}
+use Rattle.std.proofs.Common.{◌≡◌, Bool, true, false, not, cond, ◌||◌, List, [], ◌∷◌, ◌++◌, Option, Some, None, refl, sym, ◌∙◌, ap}
 use Rattle.wake_lock.specs.declared.CallId.{CallId}
 use Rattle.sequential_signer.specs.Transcript.{same_call, call_of, is_about, entries_of}
 use Rattle.sequential_signer.specs.declared.event.Entry.{Entry}
@@ -31,7 +31,7 @@ abbrev pub to_queued : Phase → Phase
 to_queued Fresh = Queued
 to_queued p = p
 
-pub phase_by_waited : {K : Type 0} (w : Bool) (r : Reply K) → phase_by true r ≡ to_queued (phase_by w r)
+phase_by_waited : {K : Type 0} (w : Bool) (r : Reply K) → phase_by true r ≡ to_queued (phase_by w r)
 phase_by_waited w Begun = elim w as (λ v. Queued ≡ to_queued (cond v Queued Fresh)) [ true ↦ refl | false ↦ refl ]
 phase_by_waited w Pending = refl
 phase_by_waited w NotNow = refl
@@ -48,20 +48,35 @@ module _ {K : Type 0} where
   phase_in-mark entries e h =
       rw (list_any-more is_waiting_poll entries e, filter-more_yes (λ (x : Entry K). is_mark x.reply) entries e h, last_of-more (filter (λ (x : Entry K). is_mark x.reply) entries) e) refl
 
-  pub phase_in-not_now : (entries : List (Entry K)) (event : Event K) → phase_in (entries ++ record { event = event; reply = NotNow } ∷ []) ≡ phase_in entries
-  unfolding phase_in
-  phase_in-not_now entries event =
-      rw (list_any-more is_waiting_poll entries (record { event = event; reply = NotNow }), filter-more_no (λ (x : Entry K). is_mark x.reply) entries (record { event = event; reply = NotNow }) refl, and_false (is_poll event), or_false (list_any is_waiting_poll entries)) refl
-
   phase_at_waited : (w : Bool) (m : Option (Entry K)) → phase_at true m ≡ to_queued (phase_at w m)
   phase_at_waited w None = refl
   phase_at_waited w (Some e) = phase_by_waited w e.reply
 
-  pub phase_in-pending : (entries : List (Entry K)) (call : CallId) (now : ℤ) → phase_in (entries ++ record { event = Poll call now; reply = Pending } ∷ []) ≡ to_queued (phase_in entries)
+  -- a reply that is no mark leaves the phase, but for a poll that is told to wait
+  pub phase_in-unmarked : (entries : List (Entry K)) (e : Entry K) → is_mark e.reply ≡ false → phase_in (entries ++ e ∷ []) ≡ cond (is_waiting_poll e) (to_queued (phase_in entries)) (phase_in entries)
   unfolding phase_in
-  phase_in-pending entries call now =
-      rw (list_any-more is_waiting_poll entries (record { event = Poll call now; reply = Pending }), filter-more_no (λ (x : Entry K). is_mark x.reply) entries (record { event = Poll call now; reply = Pending }) refl, or_true (list_any is_waiting_poll entries))
-      (phase_at_waited (list_any is_waiting_poll entries) (last_of (filter (λ (x : Entry K). is_mark x.reply) entries)))
+  phase_in-unmarked entries e h =
+      rw (list_any-more is_waiting_poll entries e, filter-more_no (λ (x : Entry K). is_mark x.reply) entries e h)
+      (elim (is_waiting_poll e) as (λ v. phase_at (list_any is_waiting_poll entries || v) (last_of (filter (λ (x : Entry K). is_mark x.reply) entries)) ≡ cond v (to_queued (phase_at (list_any is_waiting_poll entries) (last_of (filter (λ (x : Entry K). is_mark x.reply) entries)))) (phase_at (list_any is_waiting_poll entries) (last_of (filter (λ (x : Entry K). is_mark x.reply) entries)))) [
+        | true ↦ rw (or_true (list_any is_waiting_poll entries)) (phase_at_waited (list_any is_waiting_poll entries) (last_of (filter (λ (x : Entry K). is_mark x.reply) entries)))
+        | false ↦ rw (or_false (list_any is_waiting_poll entries)) refl
+      ])
+
+  pub phase_in-not_now : (entries : List (Entry K)) (event : Event K) → phase_in (entries ++ record { event = event; reply = NotNow } ∷ []) ≡ phase_in entries
+  phase_in-not_now entries event =
+      phase_in-unmarked entries (record { event = event; reply = NotNow }) refl
+      ∙ ap (λ v. cond v (to_queued (phase_in entries)) (phase_in entries)) (and_false (is_poll event))
+
+  pub phase_in-pending : (entries : List (Entry K)) (call : CallId) (now : ℤ) → phase_in (entries ++ record { event = Poll call now; reply = Pending } ∷ []) ≡ to_queued (phase_in entries)
+  phase_in-pending entries call now = phase_in-unmarked entries (record { event = Poll call now; reply = Pending }) refl
+
+  -- so the phase after one more entry is told by the phase before it, and by whether the call was told to wait
+  pub phase_in-alike : (xs ys : List (Entry K)) (e : Entry K) → phase_in xs ≡ phase_in ys → list_any is_waiting_poll xs ≡ list_any is_waiting_poll ys → phase_in (xs ++ e ∷ []) ≡ phase_in (ys ++ e ∷ [])
+  phase_in-alike xs ys e p w = by_mark (is_mark e.reply) refl
+    where
+      by_mark : (m : Bool) → is_mark e.reply ≡ m → phase_in (xs ++ e ∷ []) ≡ phase_in (ys ++ e ∷ [])
+      by_mark true m = phase_in-mark xs e m ∙ ap (λ v. phase_by (v || is_waiting_poll e) e.reply) w ∙ sym (phase_in-mark ys e m)
+      by_mark false m = phase_in-unmarked xs e m ∙ ap (λ v. cond (is_waiting_poll e) (to_queued v) v) p ∙ sym (phase_in-unmarked ys e m)
 
   pub begin_in-found : (entries : List (Entry K)) (e : Entry K) (b : BeginInput) → begin_in entries ≡ Some b → begin_in (entries ++ e ∷ []) ≡ Some b
   unfolding begin_in

@@ -7,7 +7,7 @@ use Rattle.sequential_signer.specs.Transcript.{same_call, call_of}
 use Rattle.sequential_signer.specs.Turn.{before_call, ends_hold, poll_order, hold_is_finished, has_turn}
 use Rattle.sequential_signer.specs.declared.event.Entry.{Entry}
 use Rattle.sequential_signer.proofs.CallNames.{before_call-absent, same_call-eq}
-use Rattle.sequential_signer.proofs.Lists.{or_false, filter-more_yes}
+use Rattle.sequential_signer.proofs.Lists.{or_false, filter-more_yes, filter-same}
 use Rattle.sequential_signer.proofs.PollOrder.{is_polled, OrderAfter, stays, grows, hold_is_finished-own, hold_is_finished-other}
 
 -- the first of a list is the call
@@ -77,10 +77,6 @@ module _ {K D : Type 0} (setup : Setup D) where
       ap (list_all (hold_is_finished entries)) (before_call-absent call (poll_order setup entries i) u)
       ∙ all-finished (hold_is_finished entries) (poll_order setup entries i)
 
-filter-cong : (p q : CallId → Bool) → ((x : CallId) → p x ≡ q x) → (xs : List CallId) → filter p xs ≡ filter q xs
-filter-cong p q f [] = refl
-filter-cong p q f (x ∷ xs) = rw (f x, filter-cong p q f xs) refl
-
 -- a poll puts its call at the end, where it was not polled before
 module _ {K D : Type 0} (setup : Setup D) (entries : List (Entry K)) (i : ℕ) (e : Entry K) (stays_open : ends_hold e.reply ≡ false) where
   pub finished_same : (b : CallId) → hold_is_finished (entries ++ e ∷ []) b ≡ hold_is_finished entries b
@@ -95,10 +91,10 @@ module _ {K D : Type 0} (setup : Setup D) (entries : List (Entry K)) (i : ℕ) (
       → (queue setup (entries ++ e ∷ []) i ≡ queue setup entries i) ⊎ (queue setup (entries ++ e ∷ []) i ≡ queue setup entries i ++ call_of e.event ∷ [])
   queue-enters (stays o) f =
       inl (ap (filter (λ x. not (hold_is_finished (entries ++ e ∷ []) x))) o
-      ∙ filter-cong (λ x. not (hold_is_finished (entries ++ e ∷ []) x)) (λ x. not (hold_is_finished entries x)) (λ x. ap not (finished_same x)) (poll_order setup entries i))
+      ∙ filter-same (λ x. not (hold_is_finished (entries ++ e ∷ []) x)) (λ x. not (hold_is_finished entries x)) (λ x. ap not (finished_same x)) (poll_order setup entries i))
   queue-enters (grows h u o) f =
       inr (ap (filter (λ x. not (hold_is_finished (entries ++ e ∷ []) x))) o
-      ∙ filter-cong (λ x. not (hold_is_finished (entries ++ e ∷ []) x)) (λ x. not (hold_is_finished entries x)) (λ x. ap not (finished_same x)) (poll_order setup entries i ++ call_of e.event ∷ [])
+      ∙ filter-same (λ x. not (hold_is_finished (entries ++ e ∷ []) x)) (λ x. not (hold_is_finished entries x)) (λ x. ap not (finished_same x)) (poll_order setup entries i ++ call_of e.event ∷ [])
       ∙ filter-more_yes (λ x. not (hold_is_finished entries x)) (poll_order setup entries i) (call_of e.event) (ap not f))
 
 -- an entry that ends its call's hold takes the call out of the queue

@@ -142,12 +142,16 @@ module _ {K D : Type 0} (setup : Setup D) where
     pub begin-own : is_begun e.reply ≡ false → begin_of (entries ++ e ∷ []) call ≡ begin_of entries call
     begin-own h = ap begin_in (entries_of-own entries call e own) ∙ begin_in-no (entries_of entries call) e h
 
-    begun_by : (o : Option BeginInput) → begin_of entries call ≡ o → is_some o ≡ true → is_some (begin_of (entries ++ e ∷ []) call) ≡ true
-    begun_by None f h = cc
-    begun_by (Some b) f h = ap is_some (ap begin_in (entries_of-own entries call e own) ∙ begin_in-found (entries_of entries call) e b f)
+    kept_by : (o : Option BeginInput) → begin_of entries call ≡ o → is_some o ≡ true → begin_of (entries ++ e ∷ []) call ≡ begin_of entries call
+    kept_by None f h = cc
+    kept_by (Some b) f h = ap begin_in (entries_of-own entries call e own) ∙ begin_in-found (entries_of entries call) e b f ∙ sym f
+
+    -- what a call was begun with stays
+    pub begin-kept : is_some (begin_of entries call) ≡ true → begin_of (entries ++ e ∷ []) call ≡ begin_of entries call
+    begin-kept h = kept_by (begin_of entries call) refl h
 
     pub begun-own : is_some (begin_of entries call) ≡ true → is_some (begin_of (entries ++ e ∷ []) call) ≡ true
-    begun-own h = begun_by (begin_of entries call) refl h
+    begun-own h = ap is_some (begin-kept h) ∙ h
 
     pub answers-own_none : answer_in e.event ≡ None → answers_of (entries ++ e ∷ []) call ≡ answers_of entries call
     answers-own_none h = ap answers_in (entries_of-own entries call e own) ∙ answers_in-no (entries_of entries call) e h

@@ -22,7 +22,7 @@ use Rattle.sequential_signer.specs.declared.event.Reply.TheVariants.{Begun, Pend
 use Rattle.sequential_signer.specs.declared.event.Verdict.TheVariants.{Accepted, Failed}
 use Rattle.sequential_signer.specs.declared.event.Why.{Why}
 use Rattle.sequential_signer.specs.declared.event.Why.TheVariants.{Service}
-use Rattle.sequential_signer.proofs.Lists.{or_true}
+use Rattle.sequential_signer.proofs.Lists.{or_true, and_false, not_true, list_all-same}
 use Rattle.sequential_signer.proofs.CallNames.{same_call-eq, same_call-refl, same_call-comm, and_left, and_right}
 use Rattle.sequential_signer.proofs.Places.{same_number, other_number}
 use Rattle.sequential_signer.proofs.PollOrder.{is_polled, is_polled-more, poll_order-same, poll_order-poll, calls_ahead-more, hold_is_finished-own, hold_is_finished-other}
@@ -80,10 +80,6 @@ zero_middle : (v w : Bool) → ((v && false) && w) ≡ false
 zero_middle true w = refl
 zero_middle false w = refl
 
-zero_right : (v : Bool) → (v && false) ≡ false
-zero_right true = refl
-zero_right false = refl
-
 list_all-same_on : (p q r : CallId → Bool) → ((x : CallId) → r x ≡ true → p x ≡ q x) → (xs : List CallId) → list_all r xs ≡ true → list_all p xs ≡ list_all q xs
 list_all-same_on p q r f [] h = refl
 list_all-same_on p q r f (x ∷ xs) h =
@@ -119,17 +115,13 @@ module _ {K D : Type 0} (policy : Policy K D) (setup : Setup D) (entries : List 
         by_queue false q = unqueued e call q
         by_queue true q =
             let w : IsInQueue policy setup entries run i call = queued_is_in_queue policy setup entries run call i at q in
-            rw (turn_same call w.polled, never_both (has_turn setup entries i call)) (zero_right (not (same_call (call_of e.event) call) && is_queued (phase_of entries call)))
+            rw (turn_same call w.polled, never_both (has_turn setup entries i call)) (and_false (not (same_call (call_of e.event) call) && is_queued (phase_of entries call)))
 
   -- who gets the turn is another call, queued, and has its turn from then on
   pub record GetsTurn (e : Entry K) (call : CallId) : Type 0 where
     pub other : same_call (call_of e.event) call ≡ false
     pub queued : is_queued (phase_of entries call) ≡ true
     pub turn : has_turn setup (entries ++ e ∷ []) i call ≡ true
-
-  not_true : (b : Bool) → not b ≡ true → b ≡ false
-  not_true false h = refl
-  not_true true h = cc
 
   pub gets_turn-is : (e : Entry K) (call : CallId) → gets_turn setup entries i e call ≡ true → GetsTurn e call
   gets_turn-is e call h = record {
@@ -212,10 +204,6 @@ module _ {K D : Type 0} (setup : Setup D) (entries : List (Entry K)) (i : ℕ) (
   turn_alike call =
       ap (λ order. list_all (hold_is_finished (entries ++ record { event = event; reply = r } ∷ [])) (before_call call order)) order_alike
       ∙ list_all-same (hold_is_finished (entries ++ record { event = event; reply = r } ∷ [])) (hold_is_finished (entries ++ record { event = event; reply = s } ∷ [])) finished_alike (before_call call (poll_order setup (entries ++ record { event = event; reply = s } ∷ []) i))
-    where
-      list_all-same : (p q : CallId → Bool) → ((x : CallId) → p x ≡ q x) → (xs : List CallId) → list_all p xs ≡ list_all q xs
-      list_all-same p q f [] = refl
-      list_all-same p q f (x ∷ xs) = rw (f x, list_all-same p q f xs) refl
 
   pub gets_turn-alike : (call : CallId) → gets_turn setup entries i (record { event = event; reply = r }) call ≡ gets_turn setup entries i (record { event = event; reply = s }) call
   gets_turn-alike call = rw (turn_alike call) refl

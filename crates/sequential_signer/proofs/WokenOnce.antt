@@ -18,7 +18,7 @@ use Rattle.sequential_signer.specs.declared.event.Event.{Event}
 use Rattle.sequential_signer.specs.declared.event.Event.TheVariants.{Poll}
 use Rattle.sequential_signer.specs.declared.event.Reply.{Reply}
 use Rattle.sequential_signer.specs.declared.event.Reply.TheVariants.{Begun, Pending, NotNow, OutOfMemory, Ask, Sign, Refused, Done, Cancelled}
-use Rattle.sequential_signer.proofs.Lists.{filter-more_yes, filter-more_no, filter-within}
+use Rattle.sequential_signer.proofs.Lists.{filter-more_yes, filter-more_no, filter-within, list_all-same}
 use Rattle.sequential_signer.proofs.CallNames.{same_call-eq, same_call-refl, same_call-comm}
 use Rattle.sequential_signer.proofs.OwnEntries.{to_queued}
 use Rattle.sequential_signer.proofs.PollOrder.{has_turn-more, calls_ahead-own}
@@ -120,10 +120,6 @@ module _ {K D : Type 0} (policy : Policy K D) (setup : Setup D) where
     own_turn_same e f =
         ap (list_all (hold_is_finished (entries ++ e ∷ []))) (calls_ahead-own setup entries i e)
         ∙ list_all-same (hold_is_finished (entries ++ e ∷ [])) (hold_is_finished entries) (λ x. finished_same setup entries i e f x) (calls_ahead setup entries i (call_of e.event))
-      where
-        list_all-same : (p q : CallId → Bool) → ((x : CallId) → p x ≡ q x) → (xs : List CallId) → list_all p xs ≡ list_all q xs
-        list_all-same p q f [] = refl
-        list_all-same p q f (x ∷ xs) = rw (f x, list_all-same p q f xs) refl
 
     begun_unwoken : (p : Phase) (turn : Bool) (times : ℕ) → p ≡ Unknown → WokenSoFar p turn times → times ≡ 0
     begun_unwoken Unknown turn times h w = w
