@@ -184,6 +184,6 @@ module _ {K D : Type 0} (policy : Policy K D) (setup : Setup D) (entries : List 
             ap (filter (is_served (entries ++ e ∷ []))) o
             ∙ filter-same_on (is_served (entries ++ e ∷ [])) (is_served entries) (is_of_cache setup j) (λ b q. not_own b q (same_call b (call_of e.event)) refl) (poll_order setup entries j) (order_of_cache setup entries j)
         served_by (grows h _ _) =
-            let k : cache_of setup (call_of e.event) ≡ Some j = number_of j (cache_of setup (call_of e.event)) (and_right _ _ h) in
+            let k : cache_of setup (call_of e.event) ≡ Some j = number_of j (cache_of setup (call_of e.event)) (and_right (is_fitting_poll e) (is_of_cache setup j (call_of e.event)) h) in
             let bad : i ≡ j = cc in
             absurd (differ bad)

@@ -21,7 +21,7 @@ none_begun : {K : Type 0} (call : CallId) (entries : List (Entry K))
 none_begun {K = K} call [] h = refl
 none_begun {K = K} call (e ∷ rest) h =
     let first : (not (is_begin_under call.handle e) || nat_lt (call_of e.event).number call.number) ≡ true = and_left _ _ h in
-    let later : find (λ (x : Entry K). is_begun x.reply) (filter (is_about call) rest) ≡ None = none_begun call rest (and_right _ _ h) in
+    let later : find (λ (x : Entry K). is_begun x.reply) (filter (is_about call) rest) ≡ None = none_begun call rest (and_right (not (is_begin_under call.handle e) || nat_lt (call_of e.event).number call.number) (list_all (λ (x : Entry K). not (is_begin_under call.handle x) || nat_lt (call_of x.event).number call.number) rest) h) in
     (elim (is_about call e) as (λ v. is_about call e ≡ v → find (λ (x : Entry K). is_begun x.reply) (cond v (e ∷ filter (is_about call) rest) (filter (is_about call) rest)) ≡ None) [
       | true ↦ λ a.
           (elim (is_begun e.reply) as (λ v. is_begun e.reply ≡ v → cond v (Some e) (find (λ (x : Entry K). is_begun x.reply) (filter (is_about call) rest)) ≡ None)
