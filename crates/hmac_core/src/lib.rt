@@ -4,3 +4,6 @@
 pub mod hash;
 mod hmac;
 pub mod laws;
+
+#[cfg(test)]
+mod tests;

@@ -1,5 +1,5 @@
 -- A date and time that lies so many nanoseconds from 1970 shows what the calendar says of that moment.
-use Rattle.std.proofs.Common.{◌≡◌, ℕ, ◌+◌, ◌-◌, ◌*◌, ◌/◌, ◌%◌, ◌≤◌, refl, sym, ap, ◌∙◌, arith, ℤ, pos, negsuc, ◌+ℤ◌, unsigned_abs}
+use Rattle.std.proofs.Common.{◌≡◌, ℕ, zero, suc, ◌+◌, ◌-◌, ◌*◌, ◌/◌, ◌%◌, ◌≤◌, refl, sym, ap, ◌∙◌, arith, ℤ, pos, negsuc, ◌+ℤ◌, unsigned_abs}
 use Rattle.std.proofs.lemmas.Int.{int_rem_euclid_is}
 use Rattle.jiff_core.specs.declared.civil.datetime.DateTime.{DateTime}
 use Rattle.jiff_core.specs.Calendar.{days_of_months, day_count, day_of_year, days_from_civil, weekday_number, IsCivilDate}
@@ -7,7 +7,7 @@ use Rattle.jiff_core.specs.DateTime.{civil_nanos}
 use Rattle.jiff_core.specs.Time.{time_nanos, time_seconds}
 use Rattle.jiff_core.proofs.SignedLemmas.{signed_arith}
 use Rattle.jiff_core.proofs.MarchLemmas.{day_count-early}
-use Rattle.jiff_core.proofs.CalendarLemmas.{days_from_civil-day_count, day_count-lt_year, day_count-day_of_year, day_of_year_bound, days_of_months-zero}
+use Rattle.jiff_core.proofs.CalendarLemmas.{days_from_civil-day_count, day_count-lt_year, day_count-later_year, day_count-day_of_year, day_of_year_bound, days_of_months-zero}
 use Rattle.jiff_core.proofs.DateLemmas.{civil}
 use Rattle.jiff_core.proofs.DateTimeLemmas.{civil_nanos-parts, time_nanos_bound}
 use Rattle.sign_base.specs.Calendar.{count_months, civil_of, since_year_0, day_of, second_of, day_nanos, days_before_1970, year_reached, month_reached, weekday_of_day, IsFourDigitYear}
@@ -41,7 +41,7 @@ month_found year m d h =
     rw same at (count_months-found year (m - 1) 11 1 (day_of_year (pos year) m d - 1) (d - 1) (omega arith) (omega (arith, h.1.1)) (rw same split) (rw same (omega (arith, h.2.0, h.2.1))))
 
 -- a date that does not come before the year 0 is what is counted off
-date_found : (z : ℤ) (m d : ℕ) → IsCivilDate z m d → 3652425 ≤ day_count z m d
+pub date_found : (z : ℤ) (m d : ℕ) → IsCivilDate z m d → 3652425 ≤ day_count z m d
     → (z ≡ pos (year_reached (days_since z m d)).0) × (m ≡ (month_reached (days_since z m d)).0) × (d ≡ (month_reached (days_since z m d)).1 + 1)
 date_found (pos year) m d h low =
     let years = year_found year m d h low in
@@ -90,3 +90,10 @@ civil_shown shown t e low =
       minute = clock.1;
       second = clock.2;
     }
+
+-- the years from 0 on do not begin before the year 0
+pub not_before_year_0 : (year month day : ℕ) → IsCivilDate (pos year) month day → 3652425 ≤ day_count (pos year) month day
+not_before_year_0 zero month day h =
+    omega (arith, day_count-year_0, day_count-day_of_year (pos 0) month day h.2.0, h.2.0)
+not_before_year_0 (suc n) month day h =
+    omega (arith, day_count-year_0, day_count-later_year (pos 0) (pos (suc n)) (omega (arith, signed_arith)) (omega (arith, signed_arith)), day_count-day_of_year (pos (suc n)) month day h.2.0, h.2.0)

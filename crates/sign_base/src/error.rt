@@ -147,6 +147,16 @@ impl Error {
         self.kind
     }
 
+    /// What `Display` prints.
+    pub(crate) fn message(&self) -> &str
+        ensures { result.now ≡ self.now.message }
+    {
+        match &self.message {
+            Some(text) => text.as_str(),
+            None => "",
+        }
+    }
+
     /// Whether the same call may pass later.
     pub fn is_retryable(&self) -> bool
         ensures { result ≡ self.now.retryable }
@@ -184,10 +194,7 @@ impl fmt::Display for Error {
     ghost output = { λ e. Some e.message };
 
     fn fmt<W: fmt::Write>(&self, f: &mut fmt::Formatter<W>) -> fmt::Result {
-        match &self.message {
-            Some(text) => f.write_str(text.as_str()),
-            None => f.write_str(""),
-        }
+        f.write_str(self.message())
     }
 }
 
@@ -195,7 +202,7 @@ impl fmt::Debug for Error {
     fn fmt<W: fmt::Write>(&self, f: &mut fmt::Formatter<W>) -> fmt::Result {
         let mut parts = f.debug_struct("Error");
         parts.field("kind", &self.kind);
-        parts.field("message", &self.message.as_deref().unwrap_or(""));
+        parts.field("message", &self.message());
         if let Some(texts) = &self.context {
             parts.field("context", texts);
         }
