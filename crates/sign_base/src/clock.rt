@@ -9,8 +9,9 @@ use std::time;
 
 /// A clock of the world.
 pub trait Clock {
-    /// What a reading may give: the clock before it, the clock after it, the moment.
-    ghost gives: { Self → Self → ℤ → Type 0 };
+    /// What a reading may give: the clock before it, the clock after it, the moment. Where a clock
+    /// says nothing, any moment.
+    ghost gives: { Self → Self → ℤ → Type 0 } = { λ _ _ _. ⊤ };
 
     /// The moment now.
     fn now(&mut self) -> Timestamp
@@ -74,8 +75,6 @@ impl<R: time::Clock> SystemClock<R> {
 }
 
 impl<R: time::Clock> Clock for SystemClock<R> {
-    ghost gives = { λ _ _ _. ⊤ };
-
     fn now(&mut self) -> Timestamp {
         if let Ok(since_1970) = self.system.since_1970() {
             if let Some(now) = Timestamp::start_of_1970().checked_add(since_1970) {

@@ -1,11 +1,12 @@
 //! What no clause says: examples from outside, printed texts, and that each call succeeds.
 use crate::source::Failed;
 use crate::{
-    Clock, Error, ErrorKind, FaultySink, FaultySource, ListClock, Redact, Sink, Source, StdSink,
-    StdSource, SystemClock, Timestamp,
+    Clock, Error, ErrorKind, FaultySink, FaultySource, ListClock, NoMemory, Redact, Sink, Source,
+    StdSink, StdSource, SystemClock, Timestamp,
 };
 use http_header::{HeaderNameError, HeaderValue, HeaderValueError};
 use http_uri::{Parts, Uri};
+use std::alloc::Global;
 use std::collections::VecDeque;
 use std::io;
 use std::process::Abort;
@@ -13,120 +14,152 @@ use std::test::Fail;
 use std::time::Duration;
 
 #[test]
-fn moments_print_in_four_formats(rt: HostRuntime) -> Result<(), Fail> {
-    let alloc = rt.alloc();
-    for (second, date, time, http) in [
+fn moments_print_in_four_formats(rt: HostRuntime) {
+    for (second, date, iso8601, rfc3339, http) in [
         (
             1_646_122_354,
             "20220301",
-            "08:12:34",
+            "20220301T081234Z",
+            "2022-03-01T08:12:34Z",
             "Tue, 01 Mar 2022 08:12:34 GMT",
         ),
         (
             784_111_777,
             "19941106",
-            "08:49:37",
+            "19941106T084937Z",
+            "1994-11-06T08:49:37Z",
             "Sun, 06 Nov 1994 08:49:37 GMT",
         ),
-        (0, "19700101", "00:00:00", "Thu, 01 Jan 1970 00:00:00 GMT"),
-        (-1, "19691231", "23:59:59", "Wed, 31 Dec 1969 23:59:59 GMT"),
+        (
+            0,
+            "19700101",
+            "19700101T000000Z",
+            "1970-01-01T00:00:00Z",
+            "Thu, 01 Jan 1970 00:00:00 GMT",
+        ),
+        (
+            -1,
+            "19691231",
+            "19691231T235959Z",
+            "1969-12-31T23:59:59Z",
+            "Wed, 31 Dec 1969 23:59:59 GMT",
+        ),
         (
             951_782_400,
             "20000229",
-            "00:00:00",
+            "20000229T000000Z",
+            "2000-02-29T00:00:00Z",
             "Tue, 29 Feb 2000 00:00:00 GMT",
         ),
         (
             1_709_164_800,
             "20240229",
-            "00:00:00",
+            "20240229T000000Z",
+            "2024-02-29T00:00:00Z",
             "Thu, 29 Feb 2024 00:00:00 GMT",
         ),
         (
             -2_203_891_201,
             "19000228",
-            "23:59:59",
+            "19000228T235959Z",
+            "1900-02-28T23:59:59Z",
             "Wed, 28 Feb 1900 23:59:59 GMT",
         ),
         (
             -2_203_891_200,
             "19000301",
-            "00:00:00",
+            "19000301T000000Z",
+            "1900-03-01T00:00:00Z",
             "Thu, 01 Mar 1900 00:00:00 GMT",
         ),
         (
             -62_135_596_800,
             "00010101",
-            "00:00:00",
+            "00010101T000000Z",
+            "0001-01-01T00:00:00Z",
             "Mon, 01 Jan 0001 00:00:00 GMT",
         ),
         (
             -62_167_219_200,
             "00000101",
-            "00:00:00",
+            "00000101T000000Z",
+            "0000-01-01T00:00:00Z",
             "Sat, 01 Jan 0000 00:00:00 GMT",
         ),
         (
             253_402_207_200,
             "99991230",
-            "22:00:00",
+            "99991230T220000Z",
+            "9999-12-30T22:00:00Z",
             "Thu, 30 Dec 9999 22:00:00 GMT",
         ),
         (
             -377_705_023_201,
             "-99990102",
-            "01:59:59",
+            "-99990102T015959Z",
+            "-9999-01-02T01:59:59Z",
             "Tue, 02 Jan -9999 01:59:59 GMT",
         ),
     ] {
-        let moment = Timestamp::from_second(alloc, second)?;
-        assert_eq!(rt; moment.format_date(alloc)?.as_str(), date, "{second}");
-        assert_eq!(rt; moment.format_http_date(alloc)?.as_str(), http, "{second}");
-        let (year, month_and_day) = date.split_at_checked(date.len() - 4).ok_or("short")?;
-        let (month, day) = month_and_day.split_at_checked(2).ok_or("short")?;
-        let rfc3339 = format!(in alloc; "{year}-{month}-{day}T{time}Z")?;
-        assert_eq!(rt;
-            moment.format_rfc3339_zulu(alloc)?.as_str(),
-            rfc3339.as_str()
-        );
-        let clock = time.replace(alloc, ":", "")?;
-        let iso8601 = format!(in alloc; "{date}T{clock}Z")?;
-        assert_eq!(rt; moment.format_iso8601(alloc)?.as_str(), iso8601.as_str());
+        let Ok(moment) = Timestamp::from_second(rt.alloc(), second) else {
+            return assert!(rt; false, "{date} is in range");
+        };
+        is_text(&rt, moment.format_date(rt.alloc()), date);
+        is_text(&rt, moment.format_iso8601(rt.alloc()), iso8601);
+        is_text(&rt, moment.format_rfc3339_zulu(rt.alloc()), rfc3339);
+        is_text(&rt, moment.format_http_date(rt.alloc()), http);
     }
-    Ok(())
+}
+
+fn is_text(rt: &impl Abort, answer: Result<String, NoMemory<()>>, text: &str) {
+    match answer {
+        Ok(shown) => assert_eq!(rt; shown.as_str(), text),
+        Err(_) => assert!(rt; false, "memory"),
+    }
 }
 
 #[test]
-fn each_second_of_a_day_prints(rt: HostRuntime) -> Result<(), Fail> {
-    let alloc = rt.alloc();
-    for (midnight, date) in [
-        (1_703_980_800, "2023-12-31T"),
-        (1_709_164_800, "2024-02-29T"),
-    ] {
-        for hour in 0..24u8 {
-            for minute in 0..60u8 {
-                for second in 0..60u8 {
-                    let of_day = hour as i64 * 3600 + minute as i64 * 60 + second as i64;
-                    let text = Timestamp::from_second(
-                        alloc,
-                        midnight + of_day,
-                    )?.format_rfc3339_zulu(alloc)?;
-                    let clock = text.strip_prefix(date).ok_or("the date")?.as_bytes();
-                    let [h, hh, b':', m, mm, b':', s, ss, b'Z'] = clock else {
-                        return Err(Fail::from("the clock"));
-                    };
-                    assert_eq!(rt; (*h, *hh), digits(hour), "{text}");
-                    assert_eq!(rt; (*m, *mm), digits(minute), "{text}");
-                    assert_eq!(rt; (*s, *ss), digits(second), "{text}");
-                }
+fn each_second_of_a_day_prints(rt: HostRuntime) {
+    for hour in 0..24u8 {
+        for minute in 0..60u8 {
+            for second in 0..60u8 {
+                let of_day = hour as i64 * 3600 + minute as i64 * 60 + second as i64;
+                prints(
+                    &rt,
+                    rt.alloc(),
+                    1_703_980_800 + of_day,
+                    b"20231231T",
+                    [hour, minute, second],
+                );
+                prints(
+                    &rt,
+                    rt.alloc(),
+                    1_709_164_800 + of_day,
+                    b"20240229T",
+                    [hour, minute, second],
+                );
             }
         }
     }
-    Ok(())
+}
+
+/// Whether the text of this second since 1970 has the date and the clock.
+fn prints(rt: &impl Abort, alloc: Global, since_1970: i64, date: &[u8], clock: [u8; 3]) {
+    let [hour, minute, second] = clock;
+    let Ok(Ok(text)) = Timestamp::from_second(alloc, since_1970).map(|t| t.format_iso8601(alloc))
+    else {
+        return assert!(rt; false, "in range");
+    };
+    let Some(shown) = text.as_bytes().strip_prefix(date) else {
+        return assert!(rt; false, "{text}");
+    };
+    let (hour, minute, second) = (digits(hour), digits(minute), digits(second));
+    let wanted = [hour.0, hour.1, minute.0, minute.1, second.0, second.1, b'Z'];
+    assert_eq!(rt; shown, wanted.as_slice(), "{text}");
 }
 
 fn digits(number: u8) -> (u8, u8) {
-    (b'0' + number / 10, b'0' + number % 10)
+    (b'0' + number / 10 % 10, b'0' + number % 10)
 }
 
 #[test]
@@ -247,13 +280,13 @@ fn what_is_no_moment_is_refused(rt: HostRuntime) -> Result<(), Fail> {
 #[test]
 fn errors_carry_their_parts(rt: HostRuntime) -> Result<(), Fail> {
     let alloc = rt.alloc();
-    let limited = Error::rate_limited(alloc, "too many requests")?;
-    assert!(rt; limited.is_retryable());
     let quota = Error::rate_limited(alloc, "quota exceeded")?.set_retryable(false);
     assert!(rt; !quota.is_retryable());
-    let denied = Error::permission_denied(alloc, "access denied")?
+    let denied = Error::permission_denied(alloc, "access denied")?;
+    let denied = denied
         .with_context(alloc, "role: reader")
-        .map_err(|e| e.back)?
+        .map_err(|e| e.back)?;
+    let denied = denied
         .with_context(alloc, "region: eu")
         .map_err(|e| e.back)?;
     let [first, second] = denied.context() else {
@@ -261,110 +294,173 @@ fn errors_carry_their_parts(rt: HostRuntime) -> Result<(), Fail> {
     };
     assert_eq!(rt; first.as_str(), "role: reader");
     assert_eq!(rt; second.as_str(), "region: eu");
-    let config = Error::config_invalid(alloc, "missing region")?
-        .with_context(alloc, "file: ~/.aws/config")
-        .map_err(|e| e.back)?;
-    assert_eq!(rt;
-        format!(in alloc; "{config:?}")?.as_str(),
-        "Error { kind: ConfigInvalid, message: \"missing region\", context: [\"file: ~/.aws/config\"], retryable: false }"
-    );
-    let caused = Error::from_anyhow(alloc, anyhow::Error::msg("m")).map_err(|e| e.back)?;
-    assert_eq!(rt; caused.kind(), ErrorKind::Unexpected);
-    assert_eq!(rt; caused.message(), "m");
-    assert!(rt; caused.source_error().is_some());
-    assert_eq!(rt;
-        format!(in alloc; "{caused:?}")?.as_str(),
-        "Error { kind: Unexpected, message: \"m\", source: m, retryable: false }"
-    );
-    assert_eq!(rt;
-        format!(in alloc; "{}: {limited}", limited.kind())?.as_str(),
-        "rate limited: too many requests"
-    );
-    for (error, kind) in [
-        (
-            Error::credential_invalid(alloc, "x")?,
-            ErrorKind::CredentialInvalid,
-        ),
-        (
-            Error::request_invalid(alloc, "x")?,
-            ErrorKind::RequestInvalid,
-        ),
-        (Error::unexpected(alloc, "x")?, ErrorKind::Unexpected),
-        (
-            Error::new(alloc, ErrorKind::ConfigInvalid, "x")?,
-            ErrorKind::ConfigInvalid,
-        ),
-        (Error::out_of_memory(), ErrorKind::OutOfMemory),
-    ] {
-        assert_eq!(rt; error.kind(), kind);
-    }
     Ok(())
 }
 
 #[test]
-fn errors_of_libraries_keep_their_text(rt: HostRuntime) -> Result<(), Fail> {
+fn errors_print(rt: HostRuntime) -> Result<(), Fail> {
+    let alloc = rt.alloc();
+    let config = Error::config_invalid(alloc, "missing region")?;
+    let config = config
+        .with_context(alloc, "file: ~/.aws/config")
+        .map_err(|e| e.back)?;
+    let text =
+        "Error { kind: ConfigInvalid, message: \"missing region\", context: [\"file: ~/.aws/config\"], retryable: false }";
+    assert_eq!(rt; format!(in alloc; "{config:?}")?.as_str(), text);
+    let caused = Error::from_anyhow(alloc, anyhow::Error::msg("m")).map_err(|e| e.back)?;
+    let text = "Error { kind: Unexpected, message: \"m\", source: m, retryable: false }";
+    assert_eq!(rt; format!(in alloc; "{caused:?}")?.as_str(), text);
+    assert_eq!(rt;
+        format!(in alloc; "{}: {caused}", caused.kind())?.as_str(),
+        "unexpected error: m"
+    );
+    Ok(())
+}
+
+#[test]
+fn errors_are_made_with_their_kind(rt: HostRuntime) {
+    let alloc = rt.alloc();
+    is_told(
+        &rt,
+        Error::credential_invalid(alloc, "x"),
+        ErrorKind::CredentialInvalid,
+        false,
+        "x",
+    );
+    is_told(
+        &rt,
+        Error::request_invalid(alloc, "x"),
+        ErrorKind::RequestInvalid,
+        false,
+        "x",
+    );
+    is_told(
+        &rt,
+        Error::rate_limited(alloc, "x"),
+        ErrorKind::RateLimited,
+        true,
+        "x",
+    );
+    is_told(
+        &rt,
+        Error::unexpected(alloc, "x"),
+        ErrorKind::Unexpected,
+        false,
+        "x",
+    );
+    let answer = Error::new(alloc, ErrorKind::ConfigInvalid, "x");
+    is_told(&rt, answer, ErrorKind::ConfigInvalid, false, "x");
+    is_told(
+        &rt,
+        Ok(Error::out_of_memory()),
+        ErrorKind::OutOfMemory,
+        false,
+        "",
+    );
+}
+
+/// Whether a cause was told by this kind and text, without a retry.
+fn is_told(
+    rt: &impl Abort,
+    answer: Result<Error, NoMemory<()>>,
+    kind: ErrorKind,
+    retryable: bool,
+    text: &str,
+) {
+    match answer {
+        Ok(error) => {
+            assert_eq!(rt; error.kind(), kind, "{text}");
+            assert_eq!(rt; error.is_retryable(), retryable, "{text}");
+            assert_eq!(rt; error.message(), text);
+        }
+        Err(_) => assert!(rt; false, "memory"),
+    }
+}
+
+#[test]
+fn errors_of_libraries_keep_their_text(rt: HostRuntime) {
+    let alloc = rt.alloc();
+    let (unexpected, request) = (ErrorKind::Unexpected, ErrorKind::RequestInvalid);
+    let text = "an error occurred when formatting an argument";
+    is_told(
+        &rt,
+        Error::from_fmt(alloc, &std::fmt::Error),
+        unexpected,
+        false,
+        text,
+    );
+    let answer = Error::from_http(alloc, &http::Error::Method);
+    is_told(&rt, answer, request, false, "invalid HTTP method");
+    let answer = Error::from_header_value(alloc, &HeaderValueError::Invalid);
+    is_told(&rt, answer, request, false, "failed to parse header value");
+    let answer = Error::from_header_name(alloc, &HeaderNameError::Invalid);
+    is_told(&rt, answer, request, false, "invalid HTTP header name");
+    if let Err(error) = Uri::from_str(alloc, ": ") {
+        is_told(
+            &rt,
+            Error::from_uri(alloc, &error),
+            request,
+            false,
+            "invalid uri character",
+        );
+    }
+}
+
+#[test]
+fn errors_of_readers_keep_their_text(rt: HostRuntime) -> Result<(), Fail> {
     let alloc = rt.alloc();
     let value = HeaderValue::from_bytes(alloc, b"\xff")?;
-    let parts = Uri::from_str(alloc, "https://e.x/a")?.into_parts();
-    let parts = Parts {
+    let error = value.to_str().err().ok_or("no text")?;
+    let text = "failed to convert header to a str";
+    is_told(
+        &rt,
+        Error::from_to_str(alloc, &error),
+        ErrorKind::RequestInvalid,
+        false,
+        text,
+    );
+    let error = String::from_utf8(Vec::from_slice(alloc, b"\xff")?)
+        .err()
+        .ok_or("no text")?;
+    let text = "invalid utf-8 sequence of 1 bytes from index 0";
+    is_told(
+        &rt,
+        Error::from_utf8(alloc, &error),
+        ErrorKind::Unexpected,
+        false,
+        text,
+    );
+    Ok(())
+}
+
+#[test]
+fn errors_of_uris_keep_their_text(rt: HostRuntime) -> Result<(), Fail> {
+    let alloc = rt.alloc();
+    let Parts {
+        authority,
+        path_and_query,
+        ..
+    } = Uri::from_str(alloc, "https://e.x/a")?.into_parts();
+    let no_scheme = Uri::from_parts(Parts {
         scheme: None,
-        authority: parts.authority,
-        path_and_query: parts.path_and_query,
-    };
-    let (Err(to_str), Err(uri), Err(no_scheme), Err(utf8)) = (
-        value.to_str(),
-        Uri::from_str(alloc, ": "),
-        Uri::from_parts(parts),
-        String::from_utf8(Vec::from_slice(alloc, b"\xff")?),
-    ) else {
-        return Err(Fail::from("four errors"));
-    };
-    for (error, kind, text) in [
-        (
-            Error::from_fmt(alloc, &std::fmt::Error)?,
-            ErrorKind::Unexpected,
-            format!(in alloc; "{}", std::fmt::Error)?,
-        ),
-        (
-            Error::from_utf8(alloc, &utf8)?,
-            ErrorKind::Unexpected,
-            format!(in alloc; "{utf8}")?,
-        ),
-        (
-            Error::from_http(alloc, &http::Error::Method)?,
-            ErrorKind::RequestInvalid,
-            String::from_str(alloc, "invalid HTTP method")?,
-        ),
-        (
-            Error::from_header_value(alloc, &HeaderValueError::Invalid)?,
-            ErrorKind::RequestInvalid,
-            String::from_str(alloc, "failed to parse header value")?,
-        ),
-        (
-            Error::from_header_name(alloc, &HeaderNameError::Invalid)?,
-            ErrorKind::RequestInvalid,
-            String::from_str(alloc, "invalid HTTP header name")?,
-        ),
-        (
-            Error::from_to_str(alloc, &to_str)?,
-            ErrorKind::RequestInvalid,
-            format!(in alloc; "{to_str}")?,
-        ),
-        (
-            Error::from_uri(alloc, &uri)?,
-            ErrorKind::RequestInvalid,
-            format!(in alloc; "{uri}")?,
-        ),
-        (
-            Error::from_uri_parts(alloc, &no_scheme)?,
-            ErrorKind::RequestInvalid,
-            format!(in alloc; "{no_scheme}")?,
-        ),
-    ] {
-        assert_eq!(rt; error.kind(), kind, "{text}");
-        assert_eq!(rt; error.message(), text.as_str());
-        assert!(rt; !error.is_retryable(), "{text}");
-    }
+        authority,
+        path_and_query,
+    });
+    let error = no_scheme.err().ok_or("a scheme")?;
+    let answer = Error::from_uri_parts(alloc, &error);
+    is_told(
+        &rt,
+        answer,
+        ErrorKind::RequestInvalid,
+        false,
+        "scheme missing",
+    );
+    Ok(())
+}
+
+#[test]
+fn errors_of_the_system_say_what_to_do(rt: HostRuntime) {
+    let alloc = rt.alloc();
     for (cause, kind, retryable) in [
         (io::ErrorKind::NotFound, ErrorKind::ConfigInvalid, false),
         (
@@ -382,12 +478,14 @@ fn errors_of_libraries_keep_their_text(rt: HostRuntime) -> Result<(), Fail> {
         (io::ErrorKind::InvalidData, ErrorKind::Unexpected, false),
     ] {
         let cause = io::Error::new(cause, "the cause");
-        let error = Error::from_io(alloc, &cause)?;
-        assert_eq!(rt; error.kind(), kind, "{cause:?}");
-        assert_eq!(rt; error.is_retryable(), retryable, "{cause:?}");
-        assert_eq!(rt; error.message(), "the cause");
+        is_told(
+            &rt,
+            Error::from_io(alloc, &cause),
+            kind,
+            retryable,
+            "the cause",
+        );
     }
-    Ok(())
 }
 
 #[test]
