@@ -4,6 +4,5 @@
 pub mod hash;
 mod hmac;
 pub mod laws;
-
 #[cfg(test)]
 mod tests;
