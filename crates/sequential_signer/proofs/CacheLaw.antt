@@ -30,7 +30,7 @@ list_all-member q b (x ∷ xs) h m = member_by (same_call b x) refl m (λ k. lis
     member_by true s m rest = ap q (same_call-eq b x s) ∙ and_left _ _ h
     member_by false s m rest = rest m
 
-filter-same_on : (p q r : CallId → Bool) → ((x : CallId) → r x ≡ true → p x ≡ q x) → (xs : List CallId) → list_all r xs ≡ true → filter p xs ≡ filter q xs
+pub filter-same_on : (p q r : CallId → Bool) → ((x : CallId) → r x ≡ true → p x ≡ q x) → (xs : List CallId) → list_all r xs ≡ true → filter p xs ≡ filter q xs
 filter-same_on p q r f [] h = refl
 filter-same_on p q r f (x ∷ xs) h =
     let here : p x ≡ q x = f x (and_left _ _ h) in

@@ -1,5 +1,5 @@
 -- What is read from a transcript without the providers' answers to a call that was never served: all the same.
-use Rattle.std.proofs.Common.{◌≡◌, ℕ, Bool, true, false, not, cond, ◌&&◌, ◌||◌, nat_lt, List, [], ◌∷◌, ◌++◌, Option, Some, None, option_and_then, refl, sym, ◌∙◌, ap, subst, filter, find, fold, slice_get}
+use Rattle.std.proofs.Common.{ℤ, ◌≡◌, ℕ, Bool, true, false, not, cond, ◌&&◌, ◌||◌, nat_lt, List, [], ◌∷◌, ◌++◌, Option, Some, None, option_and_then, refl, sym, ◌∙◌, ap, subst, filter, find, fold, slice_get}
 use Rattle.std.specs.List.{list_any, list_all}
 use Rattle.wake_lock.specs.declared.CallId.{CallId}
 use Rattle.sequential_signer.specs.Policy.{Policy}
@@ -19,6 +19,39 @@ use Rattle.sequential_signer.specs.declared.event.Reply.TheVariants.{Begun, Pend
 use Rattle.sequential_signer.proofs.Lists.{not_false, filter-same, filter-more_yes, filter-more_no, filter-within, filter-swap, fold-same, find-left_out, list_any-left_out, list_all-by, list_all-same, list_all-filter, list_all-more, list_all-left_out}
 use Rattle.sequential_signer.proofs.CallNames.{same_call-eq, same_call-refl, and_left, and_right}
 use Rattle.sequential_signer.proofs.Distinct.{list_all-filter_of}
+
+-- the moment of a call's turn stays where what is left out is no poll of the call at its turn, and changes no turn
+module _ {K D : Type 0} (setup : Setup D) (keep ok : Entry K → Bool) (i : ℕ) (b : CallId)
+    (turns : (before : List (Entry K)) → list_all ok before ≡ true → has_turn setup (filter keep before) i b ≡ has_turn setup before i b)
+    (no_polls : (before : List (Entry K)) (x : Entry K) → keep x ≡ false → is_poll_at_turn setup i b (before, x) ≡ false) where
+  -- the moment of the first poll at the turn among `xs`, which come after `before`
+  abbrev moment_in : List (Entry K) → List (Entry K) → Option ℤ
+  moment_in before xs = option_and_then (λ (p : List (Entry K) × Entry K). poll_moment p.1.event) (find (is_poll_at_turn setup i b) (each_after before xs))
+
+  moment_by : (before xs : List (Entry K)) (x : Entry K) → list_all ok before ≡ true → (s : Bool) → keep x ≡ s
+      → moment_in (filter keep (before ++ x ∷ [])) (filter keep xs) ≡ moment_in (before ++ x ∷ []) xs
+      → moment_in (filter keep before) (filter keep (x ∷ xs)) ≡ moment_in before (x ∷ xs)
+  moment_by before xs x fine true s rest =
+      let turn : has_turn setup (filter keep before) i b ≡ has_turn setup before i b = turns before fine in
+      let later : moment_in (filter keep before ++ x ∷ []) (filter keep xs) ≡ moment_in (before ++ x ∷ []) xs =
+      subst (λ v. moment_in v (filter keep xs) ≡ moment_in (before ++ x ∷ []) xs) (filter-more_yes keep before x s) rest in
+      rw (s, turn)
+      (elim ((is_about b x && is_fitting_poll x) && has_turn setup before i b) as (λ v. option_and_then (λ (p : List (Entry K) × Entry K). poll_moment p.1.event) (cond v (Some (filter keep before, x)) (find (is_poll_at_turn setup i b) (each_after (filter keep before ++ x ∷ []) (filter keep xs))))
+      ≡ option_and_then (λ (p : List (Entry K) × Entry K). poll_moment p.1.event) (cond v (Some (before, x)) (find (is_poll_at_turn setup i b) (each_after (before ++ x ∷ []) xs))))
+      [ true ↦ refl | false ↦ later ])
+  moment_by before xs x fine false s rest =
+      let none : is_poll_at_turn setup i b (before, x) ≡ false = no_polls before x s in
+      rw (s, none) (subst (λ v. moment_in v (filter keep xs) ≡ moment_in (before ++ x ∷ []) xs) (filter-more_no keep before x s) rest)
+
+  moment_after : (before xs : List (Entry K)) → list_all ok before ≡ true → list_all ok xs ≡ true → moment_in (filter keep before) (filter keep xs) ≡ moment_in before xs
+  moment_after before [] h k = refl
+  moment_after before (x ∷ xs) h k =
+      let here : ok x ≡ true = and_left _ _ k in
+      moment_by before xs x h (keep x) refl (moment_after (before ++ x ∷ []) xs (list_all-more ok before x ∙ rw (h, here) refl) (and_right _ _ k))
+
+  pub turn_moment-kept : (entries : List (Entry K)) → list_all ok entries ≡ true → turn_moment setup (filter keep entries) i b ≡ turn_moment setup entries i b
+  unfolding turn_moment
+  turn_moment-kept entries h = moment_after [] entries refl h
 
 -- what leaves its call as it is: no begin, and no end of a hold
 abbrev pub is_quiet : {K : Type 0} → Reply K → Bool
@@ -171,47 +204,16 @@ module _ {K D : Type 0} (setup : Setup D) (call : CallId) where
       ap (λ order. list_all (hold_is_finished (without_answers call entries)) (before_call b order)) (poll_order-left_out entries i)
       ∙ list_all-same (hold_is_finished (without_answers call entries)) (hold_is_finished entries) (λ x. hold_is_finished-left_out call entries harmless x) (calls_ahead setup entries i b)
 
-  -- the first poll at the turn, looked for after entries of which some were left out
-  moment_by : (i : ℕ) (b : CallId) (before xs : List (Entry K)) (x : Entry K) → AreHarmless call before
-      → (s : Bool) → stays call x ≡ s
-      → option_and_then (λ (p : List (Entry K) × Entry K). poll_moment p.1.event) (find (is_poll_at_turn setup i b) (each_after (filter (stays call) (before ++ x ∷ [])) (filter (stays call) xs)))
-      ≡ option_and_then (λ (p : List (Entry K) × Entry K). poll_moment p.1.event) (find (is_poll_at_turn setup i b) (each_after (before ++ x ∷ []) xs))
-      → option_and_then (λ (p : List (Entry K) × Entry K). poll_moment p.1.event) (find (is_poll_at_turn setup i b) (each_after (filter (stays call) before) (filter (stays call) (x ∷ xs))))
-      ≡ option_and_then (λ (p : List (Entry K) × Entry K). poll_moment p.1.event) (find (is_poll_at_turn setup i b) (each_after before (x ∷ xs)))
-  moment_by i b before xs x harmless true s rest =
-      let turn : has_turn setup (filter (stays call) before) i b ≡ has_turn setup before i b = has_turn-left_out before harmless i b in
-      let longer : filter (stays call) (before ++ x ∷ []) ≡ filter (stays call) before ++ x ∷ [] = filter-more_yes (stays call) before x s in
-      let later : option_and_then (λ (p : List (Entry K) × Entry K). poll_moment p.1.event) (find (is_poll_at_turn setup i b) (each_after (filter (stays call) before ++ x ∷ []) (filter (stays call) xs)))
-      ≡ option_and_then (λ (p : List (Entry K) × Entry K). poll_moment p.1.event) (find (is_poll_at_turn setup i b) (each_after (before ++ x ∷ []) xs)) =
-      subst (λ v. option_and_then (λ (p : List (Entry K) × Entry K). poll_moment p.1.event) (find (is_poll_at_turn setup i b) (each_after v (filter (stays call) xs))) ≡ option_and_then (λ (p : List (Entry K) × Entry K). poll_moment p.1.event) (find (is_poll_at_turn setup i b) (each_after (before ++ x ∷ []) xs))) longer rest in
-      rw (s, turn)
-      (elim ((is_about b x && is_fitting_poll x) && has_turn setup before i b) as (λ v. option_and_then (λ (p : List (Entry K) × Entry K). poll_moment p.1.event) (cond v (Some (filter (stays call) before, x)) (find (is_poll_at_turn setup i b) (each_after (filter (stays call) before ++ x ∷ []) (filter (stays call) xs))))
-      ≡ option_and_then (λ (p : List (Entry K) × Entry K). poll_moment p.1.event) (cond v (Some (before, x)) (find (is_poll_at_turn setup i b) (each_after (before ++ x ∷ []) xs))))
-      [ true ↦ refl | false ↦ later ])
-  moment_by i b before xs x harmless false s rest =
-      let same : filter (stays call) (before ++ x ∷ []) ≡ filter (stays call) before = filter-more_no (stays call) before x s in
-      let poll : is_poll x.event ≡ false = left_no_poll call x s in
-      let none : is_poll_at_turn setup i b (before, x) ≡ false = no_poll (is_about b x) (has_turn setup before i b) (is_poll x.event) (not (is_not_now x.reply)) poll in
-      rw (s, none)
-      (subst (λ v. option_and_then (λ (p : List (Entry K) × Entry K). poll_moment p.1.event) (find (is_poll_at_turn setup i b) (each_after v (filter (stays call) xs))) ≡ option_and_then (λ (p : List (Entry K) × Entry K). poll_moment p.1.event) (find (is_poll_at_turn setup i b) (each_after (before ++ x ∷ []) xs))) same rest)
+  pub turn_moment-left_out : (entries : List (Entry K)) → AreHarmless call entries → (i : ℕ) (b : CallId) → turn_moment setup (without_answers call entries) i b ≡ turn_moment setup entries i b
+  turn_moment-left_out entries harmless i b =
+      turn_moment-kept setup (stays call) (is_harmless call) i b (λ before h. has_turn-left_out before h i b)
+      (λ before x s. no_poll (is_about b x) (has_turn setup before i b) (is_poll x.event) (not (is_not_now x.reply)) (left_no_poll call x s))
+      entries harmless
     where
       no_poll : (a t p n : Bool) → p ≡ false → ((a && (p && n)) && t) ≡ false
       no_poll a t true n h = cc
       no_poll true t false n h = refl
       no_poll false t false n h = refl
-
-  moment_after : (i : ℕ) (b : CallId) (before xs : List (Entry K)) → AreHarmless call before → AreHarmless call xs
-      → option_and_then (λ (p : List (Entry K) × Entry K). poll_moment p.1.event) (find (is_poll_at_turn setup i b) (each_after (filter (stays call) before) (filter (stays call) xs)))
-      ≡ option_and_then (λ (p : List (Entry K) × Entry K). poll_moment p.1.event) (find (is_poll_at_turn setup i b) (each_after before xs))
-  moment_after i b before [] h k = refl
-  moment_after i b before (x ∷ xs) h k =
-      let here : is_harmless call x ≡ true = and_left _ _ k in
-      moment_by i b before xs x h (stays call x) refl
-      (moment_after i b (before ++ x ∷ []) xs (list_all-more (is_harmless call) before x ∙ rw (h, here) refl) (and_right _ _ k))
-
-  pub turn_moment-left_out : (entries : List (Entry K)) → AreHarmless call entries → (i : ℕ) (b : CallId) → turn_moment setup (without_answers call entries) i b ≡ turn_moment setup entries i b
-  unfolding turn_moment
-  turn_moment-left_out entries harmless i b = moment_after i b [] entries refl harmless
 
   pub answers_of-left_out : (entries : List (Entry K)) (b : CallId) → same_call b call ≡ false → answers_of (without_answers call entries) b ≡ answers_of entries b
   answers_of-left_out entries b differ = ap answers_in (entries_of-left_out call entries b differ)

@@ -24,3 +24,4 @@ pub mod WokenOnce
 pub mod LeftOut
 pub mod CancelTrace
 pub mod LoadLeavesCache
+pub mod Isolation

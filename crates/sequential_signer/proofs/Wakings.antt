@@ -80,7 +80,7 @@ zero_middle : (v w : Bool) → ((v && false) && w) ≡ false
 zero_middle true w = refl
 zero_middle false w = refl
 
-list_all-same_on : (p q r : CallId → Bool) → ((x : CallId) → r x ≡ true → p x ≡ q x) → (xs : List CallId) → list_all r xs ≡ true → list_all p xs ≡ list_all q xs
+pub list_all-same_on : (p q r : CallId → Bool) → ((x : CallId) → r x ≡ true → p x ≡ q x) → (xs : List CallId) → list_all r xs ≡ true → list_all p xs ≡ list_all q xs
 list_all-same_on p q r f [] h = refl
 list_all-same_on p q r f (x ∷ xs) h =
     let here : p x ≡ q x = f x (and_left _ _ h) in
@@ -88,7 +88,7 @@ list_all-same_on p q r f (x ∷ xs) h =
     rw (here, later) refl
 
 -- what holds of all calls of a list holds of those before one of them
-list_all-before : (r : CallId → Bool) (call : CallId) (xs : List CallId) → list_all r xs ≡ true → list_all r (before_call call xs) ≡ true
+pub list_all-before : (r : CallId → Bool) (call : CallId) (xs : List CallId) → list_all r xs ≡ true → list_all r (before_call call xs) ≡ true
 list_all-before r call [] h = refl
 list_all-before r call (x ∷ xs) h =
     (elim (same_call call x) as (λ v. list_all r (cond v [] (x ∷ before_call call xs)) ≡ true)

@@ -14,3 +14,4 @@ pub mod LiveCall
 pub mod LawsOfReplies
 pub mod LawsOfHandOver
 pub mod LawsOfCancel
+pub mod LawsOfCaches
