@@ -70,20 +70,20 @@ module _ {K D : Type 0} (policy : Policy K D) (setup : Setup D) where
       ))
       (kept-none, nothing_is_legal) events).1
 
-  -- what is legal up to an entry is legal before it, and the entry is legal after that
-  legal_parts_after : (before entries : List (Entry K)) (e : Entry K) → IsLegalAfter policy setup before (entries ++ e ∷ []) → IsLegalAfter policy setup before entries × IsLegalEntry policy setup (kept (before ++ entries)) e
-  legal_parts_after before [] e l = (tt, subst (λ b. IsLegalEntry policy setup (kept b) e) (sym (append-nil before)) l.0)
-  legal_parts_after before (x ∷ rest) e l =
-      let parts = legal_parts_after (before ++ x ∷ []) rest e l.1 in
-      ((l.0, parts.0), subst (λ b. IsLegalEntry policy setup (kept b) e) (append_assoc before (x ∷ []) rest) parts.1)
+  -- what is legal in one piece is legal piece by piece
+  pub legal_split : (before xs ys : List (Entry K)) → IsLegalAfter policy setup before (xs ++ ys) → IsLegalAfter policy setup before xs × IsLegalAfter policy setup (before ++ xs) ys
+  legal_split before [] ys l = (tt, subst (λ v. IsLegalAfter policy setup v ys) (sym (append-nil before)) l)
+  legal_split before (x ∷ xs) ys l =
+      let parts = legal_split (before ++ x ∷ []) xs ys l.1 in
+      ((l.0, parts.0), subst (λ v. IsLegalAfter policy setup v ys) (append_assoc before (x ∷ []) xs) parts.1)
 
   pub legal_before : (entries : List (Entry K)) (e : Entry K) → IsLegal policy setup (entries ++ e ∷ []) → IsLegal policy setup entries
   unfolding IsLegal
-  legal_before entries e l = (legal_parts_after [] entries e l).0
+  legal_before entries e l = (legal_split [] entries (e ∷ []) l).0
 
   pub legal_last : (entries : List (Entry K)) (e : Entry K) → IsLegal policy setup (entries ++ e ∷ []) → IsLegalEntry policy setup (kept entries) e
   unfolding IsLegal
-  legal_last entries e l = (legal_parts_after [] entries e l).1
+  legal_last entries e l = (legal_split [] entries (e ∷ []) l).1.0
 
   due_by : (entries : List (Entry K)) (e : Entry K) → is_out_of_memory e.reply ≡ false → IsLegalEntry policy setup entries e → e.reply ≡ reply_due policy setup entries e.event
   due_by entries e h (inl due) = due

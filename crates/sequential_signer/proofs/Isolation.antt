@@ -1,18 +1,18 @@
 -- Caches stand apart: the entries of one cache are a legal transcript by themselves.
-use Rattle.std.proofs.Common.{◌≡◌, ℕ, ℤ, Bool, true, false, not, cond, ◌&&◌, ◌||◌, ◌==◌, nat_lt, List, [], ◌∷◌, ◌++◌, Option, Some, None, option_and_then, option_map, is_some, refl, sym, ◌∙◌, ap, subst, filter, find, fold, slice_get, if◌then◌else◌, inl, inr}
-use Rattle.std.specs.List.{list_any, list_all}
+use Rattle.std.proofs.Common.{◌≡◌, ℕ, ℤ, Bool, true, false, not, ◌&&◌, ◌||◌, ◌==◌, nat_lt, List, [], ◌∷◌, ◌++◌, Option, Some, None, option_map, is_some, refl, sym, ◌∙◌, ap, subst, filter, find, fold, slice_get, if◌then◌else◌, inl, inr}
+use Rattle.std.specs.List.{list_all}
 use Rattle.std.proofs.lemmas.List.{append-nil, append_assoc}
 use Rattle.wake_lock.specs.declared.CallId.{CallId}
 use Rattle.sequential_signer.specs.Policy.{Policy}
 use Rattle.sequential_signer.specs.SequentialCall.{HoldInput, Progress}
 use Rattle.sequential_signer.specs.Setup.{Setup, cache_of, rule_of, is_of_cache, is_number}
-use Rattle.sequential_signer.specs.Transcript.{same_call, call_of, is_about, entries_of, each_after, kept, is_out_of_memory}
+use Rattle.sequential_signer.specs.Transcript.{call_of, is_about, entries_of, kept, is_out_of_memory}
 use Rattle.sequential_signer.specs.Phase.{is_begun, is_begin_under, is_new_number, phase_of, phase_in, event_fits, is_live, is_loading, is_signing, is_waiting}
 use Rattle.sequential_signer.specs.Turn.{is_fitting_poll, is_poll_at, poll_order, calls_ahead, before_call, hold_is_finished, is_served, has_turn}
-use Rattle.sequential_signer.specs.Hold.{begin_in, begin_of, poll_moment, is_poll_at_turn, turn_moment, answers_of, answers_in, hold_input, input_by}
+use Rattle.sequential_signer.specs.Hold.{begin_in, begin_of, turn_moment, answers_of, answers_in, hold_input, input_by}
 use Rattle.sequential_signer.specs.SequentialCache.{cache_after, served_calls, sequential_cache}
 use Rattle.sequential_signer.specs.Wake.{gets_turn, call_to_wake}
-use Rattle.sequential_signer.specs.ReplyDue.{progress_reply, with_wake, waking, hold_progress, hold_reply, hold_step, done_head, fitting_reply, reply_at, reply_due}
+use Rattle.sequential_signer.specs.ReplyDue.{progress_reply, with_wake, waking, hold_progress, hold_reply, hold_step, done_head, fitting_reply, reply_due}
 use Rattle.sequential_signer.specs.Legal.{IsLegal, IsLegalAfter, IsLegalEntry, is_sign, takes_memory, allocates}
 use Rattle.sequential_signer.specs.LawsOfCaches.{entries_at, CachesAreIsolated}
 use Rattle.sequential_signer.specs.declared.event.Answer.{Answer}
@@ -21,10 +21,10 @@ use Rattle.sequential_signer.specs.declared.event.Entry.{Entry}
 use Rattle.sequential_signer.specs.declared.event.Event.{Event}
 use Rattle.sequential_signer.specs.declared.event.Event.TheVariants.{Begin, Poll, Provided, Signed, Cancel}
 use Rattle.sequential_signer.specs.declared.event.Reply.{Reply}
-use Rattle.sequential_signer.specs.declared.event.Reply.TheVariants.{Pending, NotNow, Done, Cancelled}
+use Rattle.sequential_signer.specs.declared.event.Reply.TheVariants.{Pending, Done, Cancelled}
 use Rattle.sequential_signer.specs.declared.event.Verdict.TheVariants.{Accepted, Failed}
 use Rattle.sequential_signer.proofs.Places.{same_number}
-use Rattle.sequential_signer.proofs.Lists.{and_left, and_right, and_false, filter-more_yes, filter-more_no, filter-within, filter-swap, list_all-filter, list_all-left_out, list_all-by, list_all-same, fold-same, find-same}
+use Rattle.sequential_signer.proofs.Lists.{and_left, and_right, filter-more_yes, filter-more_no, filter-within, filter-swap, list_all-left_out, fold-same}
 use Rattle.sequential_signer.proofs.CallNames.{same_call-eq}
 use Rattle.sequential_signer.proofs.Distinct.{list_all-filter_of}
 use Rattle.sequential_signer.proofs.Run.{legal-more}

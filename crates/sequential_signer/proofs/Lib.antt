@@ -25,3 +25,4 @@ pub mod LeftOut
 pub mod CancelTrace
 pub mod LoadLeavesCache
 pub mod Isolation
+pub mod OneLoad

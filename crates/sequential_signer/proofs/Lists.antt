@@ -33,6 +33,11 @@ pub or_right : (a b : Bool) → (a || b) ≡ false → b ≡ false
 or_right true b h = cc
 or_right false b h = h
 
+-- what cannot be true is false
+pub false_by : (v : Bool) → (v ≡ true → ⊥) → v ≡ false
+false_by true h = absurd (h refl)
+false_by false h = refl
+
 pub not_true : (b : Bool) → not b ≡ true → b ≡ false
 not_true false h = refl
 not_true true h = cc

@@ -1,6 +1,6 @@
 -- While a call loads its cache stays what it was before the call's look; so a cancel of the load leaves it so.
 use Rattle.std.proofs.Common.{◌≡◌, ℕ, ℤ, Bool, true, false, List, [], ◌∷◌, ◌++◌, Option, Some, None, refl, sym, ◌∙◌, ap, subst, inl, inr}
-use Rattle.std.proofs.lemmas.List.{append-nil, append_assoc}
+use Rattle.std.proofs.lemmas.List.{append_assoc}
 use Rattle.wake_lock.specs.declared.CallId.{CallId}
 use Rattle.sequential_signer.specs.Lookup.{HandOut, Refuse}
 use Rattle.sequential_signer.specs.Policy.{Policy}
@@ -27,7 +27,7 @@ use Rattle.sequential_signer.proofs.Stands.{stands, unbegun, waiting_waits, load
 use Rattle.sequential_signer.proofs.CacheRows.{stays_not_now, stays_other, stays_unserved}
 use Rattle.sequential_signer.proofs.LoadLaw.{other_stays}
 use Rattle.sequential_signer.proofs.WokenOnce.{unbegun_unknown}
-use Rattle.sequential_signer.proofs.Due.{legal_before}
+use Rattle.sequential_signer.proofs.Due.{legal_before, legal_split}
 use Rattle.sequential_signer.proofs.CancelTrace.{loading_is, cancel_changes_no_cache}
 
 -- past its look
@@ -156,13 +156,6 @@ module _ {K D : Type 0} (policy : Policy K D) (setup : Setup D) (call : CallId) 
   look_row entries run event reply (accepts c candidate s) poll ask same cache = absurd (cc)
   look_row entries run event reply (fails c x j atj s) poll ask same cache = absurd (cc)
   look_row entries run event reply (cancels c wake l) poll ask same cache = absurd (cc)
-
--- what is legal in one piece is legal piece by piece
-legal_split : {K D : Type 0} (policy : Policy K D) (setup : Setup D) (before xs ys : List (Entry K)) → IsLegalAfter policy setup before (xs ++ ys) → IsLegalAfter policy setup before xs × IsLegalAfter policy setup (before ++ xs) ys
-legal_split policy setup before [] ys l = (tt, subst (λ v. IsLegalAfter policy setup v ys) (sym (append-nil before)) l)
-legal_split policy setup before (x ∷ xs) ys l =
-    let parts = legal_split policy setup (before ++ x ∷ []) xs ys l.1 in
-    ((l.0, parts.0), subst (λ v. IsLegalAfter policy setup v ys) (append_assoc before (x ∷ []) xs) parts.1)
 
 module _ {K D : Type 0} (policy : Policy K D) (setup : Setup D) (before between : List (Entry K)) (call : CallId) (now : ℤ) (i : ℕ) (at : cache_of setup call ≡ Some i) where
   past_look : IsLegalAfter policy setup [] before → IsLegalEntry policy setup (kept before) (record { event = Poll call now; reply = Ask 0 }) → IsPastLook policy setup call i at (sequential_cache policy setup (kept before) i) (kept (before ++ record { event = Poll call now; reply = Ask 0 } ∷ []))

@@ -9,7 +9,7 @@ use Rattle.sequential_signer.specs.Phase.{Phase, Unknown, Fresh, Queued, Loading
 use Rattle.sequential_signer.specs.Turn.{ends_hold, poll_order, hold_is_finished, has_turn}
 use Rattle.sequential_signer.specs.Wake.{gets_turn, call_to_wake}
 use Rattle.sequential_signer.specs.declared.event.Entry.{Entry}
-use Rattle.sequential_signer.proofs.Lists.{or_true}
+use Rattle.sequential_signer.proofs.Lists.{or_true, false_by}
 use Rattle.sequential_signer.proofs.CallNames.{same_call-eq, same_call-refl, same_call-comm, or_left, or_right}
 use Rattle.sequential_signer.proofs.Distinct.{IsOnce, once-filter}
 use Rattle.sequential_signer.proofs.PollOrder.{is_polled, is_polled-more, hold_is_finished-other}
@@ -105,10 +105,6 @@ module _ {K D : Type 0} (policy : Policy K D) (setup : Setup D) (entries : List 
 
   once : IsOnce (queue setup entries i)
   once = once-filter (λ x. not (hold_is_finished entries x)) (poll_order setup entries i) (order_once setup entries i)
-
-  false_by : (v : Bool) → (v ≡ true → ⊥) → v ≡ false
-  false_by true h = absurd (h refl)
-  false_by false h = refl
 
   never_both : (v : Bool) → (v && not v) ≡ false
   never_both true = refl
