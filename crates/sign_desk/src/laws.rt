@@ -3,6 +3,7 @@
 ghost use Rattle.sequential_signer.specs.LawsOfReplies.{OneLegalTranscript};
 ghost use Rattle.sequential_signer.specs.LawsOfHandOver.{QueuedAtTurnWasWokenOnce, OnlyQueuedCallsAreWoken, OneCallLoads, SomebodyHasTheTurn, LoadsExactlyWhereTheLookFails};
 ghost use Rattle.sequential_signer.specs.LawsOfCancel.{CancelledLoadLeavesNoTrace, CancelChangesNoCache, CancelledLoadLeavesTheCache};
+ghost use Rattle.sequential_signer.specs.LawsOfCaches.{CachesAreIsolated, OneLoadServesAll};
 
 /// For a setup, events, and a choice of those that meet want of memory there is at most one legal
 /// transcript.
@@ -51,4 +52,16 @@ pub fn cancel_changes_no_cache<K, D>()
 /// Where the cancelled call was loading, its cache is after the cancel what it was before the call's look.
 pub fn cancelled_load_leaves_the_cache<K, D>()
     ensures { CancelledLoadLeavesTheCache K D }
+{}
+
+/// The entries of one cache are a legal transcript by themselves: nothing of one cache reaches another, but
+/// where memory is wanting.
+pub fn caches_are_isolated<K, D>()
+    ensures { CachesAreIsolated K D }
+{}
+
+/// Once a credential was found and handed out at a cache, no provider of that cache is asked while the
+/// credential serves each look: it is fresh, has a deadline, and lasts to it.
+pub fn one_load_serves_all<K, D>()
+    ensures { OneLoadServesAll K D }
 {}
