@@ -15,7 +15,8 @@ use Rattle.signctl_format.specs.declared.item.Item.{Item}
 use Rattle.signctl_format.specs.declared.item.Item.TheVariants.{Silent, Cache, Handle, Event}
 use Rattle.signctl_format.specs.Words.{is_space, words}
 use Rattle.signctl_format.specs.Grammar.{is_silent, Spells}
-use Rattle.signctl_format.specs.Reading.{cache_of, handle_of, begin_of, poll_of, found_of, missing_of, failed_of, accept_of, reject_of, cancel_of, form_of, words_say, item_of, words_after}
+use Rattle.signctl_format.specs.Reading.{cache_of, handle_of, begin_of, poll_of, found_of, missing_of, failed_of, accept_of, reject_of, cancel_of, form_of, words_say, item_of}
+use Rattle.signctl_format.specs.Readers.{words_after}
 use Rattle.signctl_format.proofs.ReadingSteps.{same_word, some_is, chosen, passed_test}
 use Rattle.signctl_format.proofs.WordList.{words_split}
 use Rattle.signctl_format.proofs.Forms.{Has, chain_of-words, cache_of-some, handle_of-words, handle_of-some, begin_of-words, begin_of-some, poll_of-words, poll_of-some, found_of-words, found_of-some, missing_of-words, missing_of-some, failed_of-words, failed_of-some, accept_of-words, accept_of-some, reject_of-words, reject_of-some, cancel_of-words, cancel_of-some}

@@ -7,16 +7,17 @@ use Rattle.signctl_format.specs.Words.{is_visible, is_target}
 use Rattle.sign_base.specs.declared.head.Field.{Field}
 use Rattle.signctl_format.specs.declared.unread.Unread.{Unread}
 use Rattle.signctl_format.specs.declared.unread.Unread.TheVariants.{NotUnderstood, OutOfMemory}
-use Rattle.signctl_format.specs.Reading.{Fails, fields_of, ◌>>=◌}
-use Rattle.signctl_format.specs.Heads.{field_of, named, is_colon, is_plain, behind, value_of}
+use Rattle.signctl_format.specs.Reading.{fields_of, ◌>>=◌}
+use Rattle.signctl_format.specs.Readers.{Fails}
+use Rattle.signctl_format.specs.Heads.{field_of, named, is_colon, is_plain, led_by, value_of}
 
 -- what was read so far, in front of what the rest says
 abbrev pub with_front : {A : Type 0} → List A → Option (List A) → Option (List A)
 with_front front says = option_map (λ rest. front ++ rest) says
 
-pub front_behind : (front : List ℕ) (b : ℕ) (says : Option (List ℕ)) → with_front front (behind b says) ≡ with_front (front ++ b ∷ []) says
-front_behind front b None = refl
-front_behind front b (Some rest) = ap Some (sym (append_assoc front (b ∷ []) rest))
+pub front_led_by : (front : List ℕ) (b : ℕ) (says : Option (List ℕ)) → with_front front (led_by b says) ≡ with_front (front ++ b ∷ []) says
+front_led_by front b None = refl
+front_led_by front b (Some rest) = ap Some (sym (append_assoc front (b ∷ []) rest))
 
 pub front_end : (front : List ℕ) → with_front front (Some []) ≡ Some front
 front_end front = ap Some (append-nil front)
@@ -26,7 +27,7 @@ regrouped front field None = refl
 regrouped front field (Some rest) = ap Some (sym (append_assoc front (field ∷ []) rest))
 
 -- a plain byte stands for itself, whatever follows
-pub value_of-plain : (b : ℕ) (after : List ℕ) → is_plain b ≡ true → value_of (b ∷ after) ≡ behind b (value_of after)
+pub value_of-plain : (b : ℕ) (after : List ℕ) → is_plain b ≡ true → value_of (b ∷ after) ≡ led_by b (value_of after)
 value_of-plain b [] plain = rw plain refl
 value_of-plain b (c ∷ []) plain = rw plain refl
 value_of-plain b (c ∷ d ∷ after) plain = rw plain refl
@@ -58,8 +59,8 @@ pub target_if : (word : List ℕ) (visible : Bool) → 0 < length word → visib
 target_if word visible some e = rw (lt-ltb 0 (length word) some) e
 
 -- one more byte of a value was read
-pub value_more : (front : List ℕ) (b : ℕ) (after rest : List ℕ) (total : Option (List ℕ)) → value_of rest ≡ behind b (value_of after) → with_front front (value_of rest) ≡ total → with_front (front ++ b ∷ []) (value_of after) ≡ total
-value_more front b after rest total read so_far = sym (ap (with_front front) read ∙ front_behind front b (value_of after)) ∙ so_far
+pub value_more : (front : List ℕ) (b : ℕ) (after rest : List ℕ) (total : Option (List ℕ)) → value_of rest ≡ led_by b (value_of after) → with_front front (value_of rest) ≡ total → with_front (front ++ b ∷ []) (value_of after) ≡ total
+value_more front b after rest total read so_far = sym (ap (with_front front) read ∙ front_led_by front b (value_of after)) ∙ so_far
 
 -- a word with a name before its first colon is a header where its rest is a value
 pub field_found : (word : List ℕ) (colon : ℕ) (name value : List ℕ) → position is_colon word ≡ Some colon → name ≡ take colon word → value ≡ drop (colon + 1) word → is_target name ≡ true → field_of word ≡ named name (value_of value)

@@ -5,7 +5,7 @@ use Rattle.std.specs.List.{list_all}
 use Rattle.std.specs.Fmt.{digit_glyph}
 use Rattle.std.proofs.lemmas.Bool.{cases_Bool, cases_lt, lt-ltb, le-ltb, le-leb, lt-leb, ltb-true, leb-true, eqb-true, and_parts, and_from}
 use Rattle.signctl_format.specs.Words.{is_visible}
-use Rattle.signctl_format.specs.Heads.{is_plain, value_word, hex_digit, escaped, behind, value_of}
+use Rattle.signctl_format.specs.Heads.{is_plain, value_word, hex_digit, escaped, led_by, value_of}
 use Rattle.signctl_format.proofs.ReadingSteps.{some_is, chosen, passed_test}
 use Rattle.signctl_format.proofs.HeadWords.{value_of-plain}
 
@@ -92,12 +92,12 @@ escaped-some high low b e =
 
 -- ---- values
 
-behind_some : (b : ℕ) (o : Option (List ℕ)) (v : List ℕ) → behind b o ≡ Some v → (u : List ℕ) × (o ≡ Some u) × (b ∷ u ≡ v)
-behind_some b (Some u) v e = (u, refl, some_is (b ∷ u) v e)
-behind_some b None v e = absurd cc
+led_by_some : (b : ℕ) (o : Option (List ℕ)) (v : List ℕ) → led_by b o ≡ Some v → (u : List ℕ) × (o ≡ Some u) × (b ∷ u ≡ v)
+led_by_some b (Some u) v e = (u, refl, some_is (b ∷ u) v e)
+led_by_some b None v e = absurd cc
 
 byte_word : (b : ℕ) (v : List ℕ) (plain : Bool) → is_plain b ≡ plain → b < 256 → value_of (value_word v) ≡ Some v → value_of (value_word (b ∷ v)) ≡ Some (b ∷ v)
-byte_word b v true plain small read = rw plain (value_of-plain b (value_word v) plain ∙ ap (behind b) read)
+byte_word b v true plain small read = rw plain (value_of-plain b (value_word v) plain ∙ ap (led_by b) read)
 byte_word b v false plain small read = rw (plain, escaped-digits b small plain, read) refl
 
 -- what is written of a value reads as that value
@@ -120,7 +120,7 @@ plain_is_byte b plain =
 
 plain_first : (b : ℕ) (after v : List ℕ) → is_plain b ≡ true → ((u : List ℕ) → value_of after ≡ Some u → SpellsValue after u) → value_of (b ∷ after) ≡ Some v → SpellsValue (b ∷ after) v
 plain_first b after v plain rest e =
-    let parts = behind_some b (value_of after) v (sym (value_of-plain b after plain) ∙ e) in
+    let parts = led_by_some b (value_of after) v (sym (value_of-plain b after plain) ∙ e) in
     let u = parts.0 in
     let spelled = rest parts.0 parts.1 in
     let written : value_word (b ∷ u) ≡ b ∷ value_word u = rw plain refl in
@@ -134,9 +134,9 @@ escape_made b c d x after u percent escape spelled =
 
 escape_first : (b c d : ℕ) (after v : List ℕ) → is_plain b ≡ false → ((u : List ℕ) → value_of after ≡ Some u → SpellsValue after u) → value_of (b ∷ c ∷ d ∷ after) ≡ Some v → SpellsValue (b ∷ c ∷ d ∷ after) v
 escape_first b c d after v plain rest e =
-    let percent = passed_test (eqb b 37) (option_and_then (λ (x : ℕ). behind x (value_of after)) (escaped c d)) v (rw plain at e) in
-    let x = and_then_some (λ (x : ℕ). behind x (value_of after)) (escaped c d) v percent.1 in
-    let parts = behind_some x.0 (value_of after) v x.2 in
+    let percent = passed_test (eqb b 37) (option_and_then (λ (x : ℕ). led_by x (value_of after)) (escaped c d)) v (rw plain at e) in
+    let x = and_then_some (λ (x : ℕ). led_by x (value_of after)) (escaped c d) v percent.1 in
+    let parts = led_by_some x.0 (value_of after) v x.2 in
     subst (λ (w : List ℕ). SpellsValue (b ∷ c ∷ d ∷ after) w) parts.2
     (escape_made b c d x.0 after parts.0 (eqb-true b 37 percent.0) (escaped-some c d x.0 x.1) (rest parts.0 parts.1))
 
@@ -146,7 +146,7 @@ value_of-some (b ∷ []) v e =
     let plain = (passed_test (is_plain b) (Some (b ∷ [])) v e).0 in
     plain_first b [] v plain (value_of-some []) e
 value_of-some (b ∷ c ∷ []) v e =
-    let plain = (passed_test (is_plain b) (behind b (value_of (c ∷ []))) v e).0 in
+    let plain = (passed_test (is_plain b) (led_by b (value_of (c ∷ []))) v e).0 in
     plain_first b (c ∷ []) v plain (value_of-some (c ∷ [])) e
 value_of-some (b ∷ c ∷ d ∷ after) v e = elim (cases_Bool (is_plain b)) [
   | inl plain ↦ plain_first b (c ∷ d ∷ after) v plain (value_of-some (c ∷ d ∷ after)) e

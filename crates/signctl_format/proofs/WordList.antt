@@ -4,7 +4,7 @@ use Rattle.std.specs.List.{onto_first, position, position_or_len}
 use Rattle.std.proofs.lemmas.Bool.{ltb-false, eqb-true}
 use Rattle.std.proofs.lemmas.List.Sums.{prefix_len-le-length}
 use Rattle.signctl_format.specs.Words.{is_space, words, spaced, line_of}
-use Rattle.signctl_format.specs.Reading.{words_after}
+use Rattle.signctl_format.specs.Readers.{words_after}
 
 abbrev SplitsAt : List ℕ → ℕ → Type 0
 SplitsAt text n = words text ≡ take n text ∷ words_after (drop n text)

@@ -23,16 +23,19 @@ abbrev pub is_silent : List ℕ → Bool
 is_silent [] = true
 is_silent (b ∷ rest) = b == 35
 
+-- a call that a line may name
 pub record IsCall (call : CallId) : Type 0 where
   pub handle : call.handle ≤ greatest_u32
   pub number : call.number ≤ greatest_u64
 
+-- a credential that a line may name
 pub record IsCredential (c : ScriptCredential) : Type 0 where
   pub generation : c.generation ≤ greatest_u64
   pub fresh : IsMoment c.fresh
   pub expires : IsMoment c.expires
   pub required : IsMoment c.required
 
+-- the word of a deadline rule
 abbrev pub rule_word : ScriptRule → List ℕ
 rule_word Now = codes "now"
 rule_word Cred = codes "cred"

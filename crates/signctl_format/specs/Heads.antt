@@ -9,6 +9,7 @@ use Rattle.sign_base.specs.declared.head.Version.{Version}
 use Rattle.sign_base.specs.declared.head.Version.TheVariants.{V09, V10, V11, V2, V3}
 use Rattle.signctl_format.specs.Words.{is_visible, is_target}
 
+-- the word of a version
 abbrev pub version_word : Version → List ℕ
 version_word V09 = codes "0.9"
 version_word V10 = codes "1.0"
@@ -34,6 +35,7 @@ is_plain b = is_visible b && not (b == 37)
 abbrev pub value_byte : ℕ → List ℕ
 value_byte b = if is_plain b then b ∷ [] else 37 ∷ digit_glyph true (b / 16) ∷ digit_glyph true (b % 16) ∷ []
 
+-- the word of a value
 abbrev pub value_word : List ℕ → List ℕ
 value_word value = flat_map value_byte value
 
@@ -44,25 +46,26 @@ hex_digit b =
     else (if nat_le 65 b && nat_le b 70 then Some (b - 55)
     else None)
 
--- the byte that two digits behind `%` stand for, where it doesn't stand for itself
+-- the byte that two digits behind `%` stand for, where it can't stand for itself
 abbrev pub escaped : ℕ → ℕ → Option ℕ
 escaped high low =
     option_and_then (λ h. option_and_then (λ l. if is_plain (16 * h + l) then None else Some (16 * h + l)) (hex_digit low)) (hex_digit high)
 
--- a value with one more byte in front
-abbrev pub behind : ℕ → Option (List ℕ) → Option (List ℕ)
-behind b value = option_map (λ rest. b ∷ rest) value
+-- a value with this byte in front, where there is a value
+abbrev pub led_by : ℕ → Option (List ℕ) → Option (List ℕ)
+led_by b value = option_map (λ rest. b ∷ rest) value
 
 -- the value that a word spells
 abbrev pub value_of : List ℕ → Option (List ℕ)
 value_of [] = Some []
 value_of (b ∷ []) = if is_plain b then Some (b ∷ []) else None
-value_of (b ∷ c ∷ []) = if is_plain b then behind b (value_of (c ∷ [])) else None
+value_of (b ∷ c ∷ []) = if is_plain b then led_by b (value_of (c ∷ [])) else None
 value_of (b ∷ c ∷ d ∷ rest) =
-    if is_plain b then behind b (value_of (c ∷ d ∷ rest))
-    else (if b == 37 then option_and_then (λ e. behind e (value_of rest)) (escaped c d)
+    if is_plain b then led_by b (value_of (c ∷ d ∷ rest))
+    else (if b == 37 then option_and_then (λ e. led_by e (value_of rest)) (escaped c d)
     else None)
 
+-- the byte between a name and its value
 abbrev pub is_colon : ℕ → Bool
 is_colon b = b == 58
 
@@ -70,6 +73,7 @@ is_colon b = b == 58
 abbrev pub is_name : List ℕ → Bool
 is_name name = is_target name && not (list_any is_colon name)
 
+-- the word of a header
 abbrev pub field_word : Field → List ℕ
 field_word f = f.name ++ 58 ∷ value_word f.value
 

@@ -13,9 +13,11 @@ use Rattle.signctl_format.specs.Words.{line_of}
 use Rattle.signctl_format.specs.Moments.{second_word}
 use Rattle.signctl_format.specs.Heads.{head_words}
 
+-- a call by its handle and its number
 abbrev pub call_words : CallId → List (List ℕ)
 call_words call = decimal call.handle ∷ decimal call.number ∷ []
 
+-- a credential by its number and its moments
 abbrev pub credential_words : ScriptCredential → List (List ℕ)
 credential_words c = decimal c.generation ∷ second_word c.fresh ∷ second_word c.expires ∷ second_word c.required ∷ []
 
@@ -24,6 +26,7 @@ abbrev pub wake_words : Option CallId → List (List ℕ)
 wake_words None = []
 wake_words (Some call) = codes "wake" ∷ call_words call
 
+-- why a call was refused
 abbrev pub why_words : Why → List (List ℕ)
 why_words Missing = codes "missing" ∷ []
 why_words (Short deadline) = codes "short" ∷ []
@@ -31,6 +34,7 @@ why_words Range = codes "range" ∷ []
 why_words (Loader error) = codes "loader" ∷ decimal error ∷ []
 why_words (Service error) = codes "service" ∷ decimal error ∷ []
 
+-- the words of a reply
 abbrev pub reply_words : Reply ScriptCredential → List (List ℕ)
 reply_words Begun = codes "begun" ∷ []
 reply_words Pending = codes "pending" ∷ []
@@ -46,13 +50,15 @@ reply_words (Cancelled wake) = codes "cancelled" ∷ wake_words wake
 abbrev pub reply_line : Reply ScriptCredential → List ℕ
 reply_line reply = line_of (reply_words reply)
 
--- the line of a new cache, and of a new handle
+-- the line of a new cache
 abbrev pub cache_line : ℕ → List ℕ
 cache_line number = line_of (codes "cache" ∷ decimal number ∷ [])
 
+-- the line of a new handle
 abbrev pub handle_line : ℕ → List ℕ
 handle_line number = line_of (codes "handle" ∷ decimal number ∷ [])
 
+-- what a cache holds
 abbrev pub cached_words : Option ScriptCredential → List (List ℕ)
 cached_words None = codes "empty" ∷ []
 cached_words (Some credential) = credential_words credential
@@ -61,6 +67,7 @@ cached_words (Some credential) = credential_words credential
 abbrev pub final_line : ℕ → Option ScriptCredential → List ℕ
 final_line cache cached = line_of (codes "final" ∷ decimal cache ∷ cached_words cached)
 
+-- why a line ended the script
 abbrev pub cause_text : Cause → List ℕ
 cause_text NotUnderstood = codes "not understood"
 cause_text NotBuilt = codes "not built"

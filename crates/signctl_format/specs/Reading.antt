@@ -1,5 +1,5 @@
 -- What a line says: the grammar as a function.
-use Rattle.std.specs.Prelude.{◌≡◌, ℕ, ℤ, List, [], ◌∷◌, Option, Some, None, Result, Ok, Err, if◌then◌else◌, codes}
+use Rattle.std.specs.Prelude.{◌≡◌, ℕ, ℤ, List, [], ◌∷◌, Option, Some, None, if◌then◌else◌, codes}
 use Rattle.std.specs.Str.{bytes_eq}
 use Rattle.sign_base.specs.declared.head.Field.{Field}
 use Rattle.sign_base.specs.declared.head.Head.{Head}
@@ -15,13 +15,12 @@ use Rattle.signctl_format.specs.declared.credential.ScriptRule.{ScriptRule}
 use Rattle.signctl_format.specs.declared.credential.ScriptRule.TheVariants.{Now, Cred}
 use Rattle.signctl_format.specs.declared.item.Item.{Item}
 use Rattle.signctl_format.specs.declared.item.Item.TheVariants.{Silent, Cache, Handle, Event}
-use Rattle.signctl_format.specs.declared.unread.Unread.{Unread}
-use Rattle.signctl_format.specs.declared.unread.Unread.TheVariants.{NotUnderstood, OutOfMemory}
 use Rattle.signctl_format.specs.Words.{words, number_of, is_target, greatest_u32, greatest_u64}
 use Rattle.signctl_format.specs.Moments.{moment_of, duration_of}
 use Rattle.signctl_format.specs.Heads.{version_of, field_of}
 use Rattle.signctl_format.specs.Grammar.{is_silent}
 
+-- what follows where something was read
 infixl 10 ◌>>=◌
 abbrev pub ◌>>=◌ : {A B : Type 0} → Option A → (A → Option B) → Option B
 (Some x) >>= f = f x
@@ -34,21 +33,26 @@ first_word says (word ∷ rest) = do
   x ← says word
   Some (x, rest)
 
+-- the method or URI that a word spells
 abbrev pub target_of : List ℕ → Option (List ℕ)
 target_of word = if is_target word then Some word else None
 
+-- the rule that a word spells
 abbrev pub rule_of : List ℕ → Option ScriptRule
 rule_of word =
     if bytes_eq word (codes "now") then Some Now
     else (if bytes_eq word (codes "cred") then Some Cred
     else None)
 
+-- a number up to a limit, and the words after it
 unfoldable pub number_at : ℕ → List (List ℕ) → Option (ℕ × List (List ℕ))
 number_at limit words = first_word (number_of limit) words
 
+-- a moment, and the words after it
 unfoldable pub moment_at : List (List ℕ) → Option (ℤ × List (List ℕ))
 moment_at words = first_word moment_of words
 
+-- a call, and the words after it
 unfoldable pub call_at : List (List ℕ) → Option (CallId × List (List ℕ))
 call_at words = do
   handle ← number_at greatest_u32 words
@@ -86,11 +90,13 @@ head_of words = do
   headers ← fields_of version.1
   Some (record { method = method.0; uri = uri.0; version = version.0; headers = headers })
 
+-- `cache chain N`
 unfoldable pub chain_of : List (List ℕ) → Option Item
 chain_of words = do
   providers ← number_at greatest_u32 words
   ended (Cache (Chain providers.0)) providers.1
 
+-- `cache single`, or a chain
 unfoldable pub cache_of : List (List ℕ) → Option Item
 cache_of [] = None
 cache_of (kind ∷ rest) =
@@ -98,12 +104,14 @@ cache_of (kind ∷ rest) =
     else (if bytes_eq kind (codes "chain") then chain_of rest
     else None)
 
+-- `handle C RULE`
 unfoldable pub handle_of : List (List ℕ) → Option Item
 handle_of words = do
   cache ← number_at greatest_u32 words
   rule ← first_word rule_of cache.1
   ended (Handle cache.0 rule.0) rule.1
 
+-- `begin H N D HEAD`
 unfoldable pub begin_of : List (List ℕ) → Option Item
 begin_of words = do
   call ← call_at words
@@ -111,12 +119,14 @@ begin_of words = do
   head ← head_of expires_in.1
   Some (Event (Begin call.0 head expires_in.0))
 
+-- `poll H N T`
 unfoldable pub poll_of : List (List ℕ) → Option Item
 poll_of words = do
   call ← call_at words
   now ← moment_at call.1
   ended (Event (Poll call.0 now.0)) now.1
 
+-- `found H N T CREDENTIAL`
 unfoldable pub found_of : List (List ℕ) → Option Item
 found_of words = do
   call ← call_at words
@@ -124,12 +134,14 @@ found_of words = do
   credential ← credential_of now.1
   Some (Event (Provided call.0 now.0 (Found credential)))
 
+-- `missing H N T`
 unfoldable pub missing_of : List (List ℕ) → Option Item
 missing_of words = do
   call ← call_at words
   now ← moment_at call.1
   ended (Event (Provided call.0 now.0 Missing)) now.1
 
+-- `failed H N T E`
 unfoldable pub failed_of : List (List ℕ) → Option Item
 failed_of words = do
   call ← call_at words
@@ -137,18 +149,21 @@ failed_of words = do
   error ← number_at greatest_u64 now.1
   ended (Event (Provided call.0 now.0 (answer.Failed error.0))) error.1
 
+-- `accept H N HEAD`
 unfoldable pub accept_of : List (List ℕ) → Option Item
 accept_of words = do
   call ← call_at words
   candidate ← head_of call.1
   Some (Event (Signed call.0 (Accepted candidate)))
 
+-- `reject H N E`
 unfoldable pub reject_of : List (List ℕ) → Option Item
 reject_of words = do
   call ← call_at words
   error ← number_at greatest_u64 call.1
   ended (Event (Signed call.0 (verdict.Failed error.0))) error.1
 
+-- `cancel H N`
 unfoldable pub cancel_of : List (List ℕ) → Option Item
 cancel_of words = do
   call ← call_at words
@@ -169,6 +184,7 @@ form_of name words =
     else (if bytes_eq name (codes "cancel") then cancel_of words
     else None)))))))))
 
+-- the item that the words of a line spell
 unfoldable pub words_say : List (List ℕ) → Option Item
 words_say [] = None
 words_say (name ∷ rest) = form_of name rest
@@ -176,18 +192,3 @@ words_say (name ∷ rest) = form_of name rest
 -- the item that a line spells, if it spells one
 unfoldable pub item_of : List ℕ → Option Item
 item_of line = if is_silent line then Some Silent else words_say (words line)
-
--- the words of what stands behind a word of its line: nothing, or a space and more words
-abbrev pub words_after : List ℕ → List (List ℕ)
-words_after [] = []
-words_after (space ∷ rest) = words rest
-
--- why a reader gave nothing, against what the words say
-abbrev pub Fails : {Y : Type 0} → Unread → Option Y → Type 0
-Fails NotUnderstood says = says ≡ None
-Fails OutOfMemory says = Unit {0}
-
--- what a reader gave, seen by view, is what the words say, unless memory ran out
-abbrev pub Gives : {X Y : Type 0} → (X → Y) → Result X Unread → Option Y → Type 0
-Gives view (Ok x) says = says ≡ Some (view x)
-Gives view (Err e) says = Fails e says

@@ -5,6 +5,7 @@ use Rattle.std.specs.Str.{bytes_eq}
 use Rattle.std.specs.Str.Parse.{digits_value}
 use Rattle.std.specs.Fmt.{decimal}
 
+-- the byte between words
 abbrev pub is_space : ℕ → Bool
 is_space b = b == 32
 
@@ -21,10 +22,11 @@ abbrev pub line_of : List (List ℕ) → List ℕ
 line_of [] = []
 line_of (word ∷ rest) = word ++ spaced rest
 
--- the greatest numbers of 32 and of 64 bits
+-- the greatest number of 32 bits
 abbrev pub greatest_u32 : ℕ
 greatest_u32 = 4_294_967_295
 
+-- the greatest number of 64 bits
 abbrev pub greatest_u64 : ℕ
 greatest_u64 = 18_446_744_073_709_551_615
 
@@ -34,8 +36,9 @@ number_of limit word =
     let n = digits_value 10 word in
     if bytes_eq word (decimal n) && nat_le n limit then Some n else None
 
+-- a byte that prints and is no space
 abbrev pub is_visible : ℕ → Bool
-is_visible b = nat_le 33 b && nat_le b 126
+is_visible b = nat_le 0x21 b && nat_le b 0x7e
 
 -- a method or a URI: one or more visible bytes, taken as they are
 abbrev pub is_target : List ℕ → Bool

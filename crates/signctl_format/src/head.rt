@@ -2,10 +2,11 @@
 ghost use Rattle.std.specs.Prelude.{◌≡◌, ◌<◌, [], Some, None, length, IfSome, MatchOption, MatchResult};
 ghost use Rattle.std.specs.List.{list_all, position};
 ghost use Rattle.signctl_format.specs.Words.{is_visible, is_target};
-ghost use Rattle.signctl_format.specs.Heads.{version_of, value_of, behind, escaped, hex_digit, named, field_of, is_colon};
-ghost use Rattle.signctl_format.specs.Reading.{words_after, first_word, target_of, fields_of, head_of, Fails, Gives};
+ghost use Rattle.signctl_format.specs.Heads.{version_of, value_of, led_by, escaped, hex_digit, named, field_of, is_colon};
+ghost use Rattle.signctl_format.specs.Reading.{first_word, target_of, fields_of, head_of};
+ghost use Rattle.signctl_format.specs.Readers.{words_after, Fails, Gives};
 
-use crate::text::{is_plain, is_visible};
+use crate::byte::{is_plain, is_visible};
 use crate::unread::Unread;
 use crate::word::{next_word, word_at};
 use sign_base::{Field, Fields, Head, Octets, Version};
@@ -134,7 +135,7 @@ fn value(alloc: Global, word: &[u8]) -> Result<Octets, Unread>
 fn next_byte(rest: &[u8]) -> Result<Option<(u8, &[u8])>, Unread>
     ensures { MatchResult result
         (λ o. MatchOption o (value_of rest.now ≡ Some [])
-        (λ x. (value_of rest.now ≡ behind x.0 (value_of x.1.now)) × (length x.1.now < length rest.now)))
+        (λ x. (value_of rest.now ≡ led_by x.0 (value_of x.1.now)) × (length x.1.now < length rest.now)))
         (λ e. Fails e (value_of rest.now)) }
 {
     match rest {

@@ -3,6 +3,7 @@
 //! The grammar stands in specs/: `Spells` says which lines spell an item, `item_of` decides it.
 #![tactic(auto)]
 
+mod byte;
 pub mod credential;
 mod head;
 pub mod item;
@@ -10,7 +11,6 @@ pub mod laws;
 mod moment;
 pub mod print;
 mod read;
-mod text;
 mod unread;
 mod word;
 

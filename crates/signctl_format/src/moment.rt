@@ -1,7 +1,7 @@
 //! Moments and durations, read from words of whole seconds.
 ghost use Rattle.std.specs.Prelude.{◌≡◌, ◌≤◌, Some};
 ghost use Rattle.signctl_format.specs.Moments.{moment_of, duration_of, at_second, in_seconds, last_second};
-ghost use Rattle.signctl_format.specs.Reading.{Gives};
+ghost use Rattle.signctl_format.specs.Readers.{Gives};
 
 use crate::unread::Unread;
 use crate::word::number;

@@ -11,7 +11,7 @@ ghost use Rattle.signctl_format.specs.Heads.{value_byte, value_word, field_word,
 ghost use Rattle.signctl_format.specs.Lines.{Grows, call_words, credential_words, wake_words, why_words, reply_line, cache_line, handle_line, final_line, fault_line, cause_text, too_much_line};
 
 use crate::ScriptCredential;
-use crate::text::{is_plain, upper_hex};
+use crate::byte::{is_plain, upper_hex};
 use itoa::Buffer;
 use sequential_signer::{Reply, Why};
 use sign_base::{Field, Head, NoMemory, Timestamp, Version};

@@ -1,7 +1,8 @@
 //! Reading a line: one function for each form, by the name that begins it.
 ghost use Rattle.std.specs.Prelude.{◌≡◌, IfOk};
 ghost use Rattle.signctl_format.specs.Grammar.{is_silent};
-ghost use Rattle.signctl_format.specs.Reading.{words_after, first_word, rule_of, call_at, credential_of, ended, chain_of, cache_of, handle_of, begin_of, poll_of, found_of, missing_of, failed_of, accept_of, reject_of, cancel_of, form_of, item_of, Gives};
+ghost use Rattle.signctl_format.specs.Reading.{first_word, rule_of, call_at, credential_of, ended, chain_of, cache_of, handle_of, begin_of, poll_of, found_of, missing_of, failed_of, accept_of, reject_of, cancel_of, form_of, item_of};
+ghost use Rattle.signctl_format.specs.Readers.{words_after, Gives};
 
 use crate::head::head;
 use crate::moment::{duration, moment};

@@ -5,7 +5,8 @@ ghost use Rattle.std.specs.Prelude.{◌≡◌, ◌≤◌, ◌<◌, [], ◌∷◌
 ghost use Rattle.std.specs.List.{position, position_or_len};
 ghost use Rattle.signctl_format.specs.declared.unread.Unread.TheVariants.{NotUnderstood};
 ghost use Rattle.signctl_format.specs.Words.{is_space, words, number_of, greatest_u32};
-ghost use Rattle.signctl_format.specs.Reading.{words_after, first_word, number_at, Gives};
+ghost use Rattle.signctl_format.specs.Reading.{first_word, number_at};
+ghost use Rattle.signctl_format.specs.Readers.{words_after, Gives};
 
 use crate::unread::Unread;
 use itoa::Buffer;

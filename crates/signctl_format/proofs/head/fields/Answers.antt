@@ -1,5 +1,6 @@
 use Rattle.std.proofs.lemmas.Result.{err_from_is_err_and}
-use Rattle.signctl_format.specs.Reading.{words_after, fields_of}
+use Rattle.signctl_format.specs.Reading.{fields_of}
+use Rattle.signctl_format.specs.Readers.{words_after}
 use Rattle.signctl_format.proofs.HeadWords.{fields_more, fields_stop, fields_done}
 use Rattle.signctl_format.proofs.head.fields.Goals as goal
 

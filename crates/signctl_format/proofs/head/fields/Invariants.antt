@@ -1,5 +1,6 @@
 use Rattle.std.proofs.Common.{◌≡◌, length}
-use Rattle.signctl_format.specs.Reading.{fields_of, words_after}
+use Rattle.signctl_format.specs.Reading.{fields_of}
+use Rattle.signctl_format.specs.Readers.{words_after}
 use Rattle.signctl_format.proofs.HeadWords.{with_front}
 use Rattle.signctl_format.proofs.head.fields.Given as goal
 
