@@ -128,7 +128,7 @@ fn value(alloc: Global, word: &[u8]) -> Result<Octets, Unread>
         value.push(b)?;
         rest = after;
     }
-    Ok(Octets::from_slice(alloc, value.as_slice())?)
+    Ok(Octets::from_vec(value))
 }
 
 /// The next byte of a value, and what stands behind it.
