@@ -13,7 +13,7 @@ use Rattle.sequential_signer.specs.Turn.{before_call, poll_order, is_fitting_pol
 use Rattle.sequential_signer.specs.Hold.{begin_in, begin_of, answers_of, answers_in, turn_moment, hold_input}
 use Rattle.sequential_signer.specs.SequentialCache.{cache_after, served_calls, sequential_cache}
 use Rattle.sequential_signer.specs.declared.event.Entry.{Entry}
-use Rattle.sequential_signer.proofs.Lists.{filter-more_no, filter-same, list_all-by, list_all-filter, fold-same, or_true}
+use Rattle.sequential_signer.proofs.Lists.{filter-more_no, filter-same, list_all-by, list_all-filter, fold-same, or_true, filter-same_on}
 use Rattle.sequential_signer.proofs.CallNames.{same_call-eq, same_call-refl, same_call-comm, and_left, and_right}
 use Rattle.sequential_signer.proofs.Distinct.{IsOnce, first_of_each-once, list_all-filter_of, list_all-first_of_each, list_all-map, filter-newly}
 use Rattle.sequential_signer.proofs.OwnEntries.{entries_of-other}
@@ -29,13 +29,6 @@ list_all-member q b (x ∷ xs) h m = member_by (same_call b x) refl m (λ k. lis
     member_by : (s : Bool) → same_call b x ≡ s → (s || list_any (same_call b) xs) ≡ true → (list_any (same_call b) xs ≡ true → q b ≡ true) → q b ≡ true
     member_by true s m rest = ap q (same_call-eq b x s) ∙ and_left _ _ h
     member_by false s m rest = rest m
-
-pub filter-same_on : (p q r : CallId → Bool) → ((x : CallId) → r x ≡ true → p x ≡ q x) → (xs : List CallId) → list_all r xs ≡ true → filter p xs ≡ filter q xs
-filter-same_on p q r f [] h = refl
-filter-same_on p q r f (x ∷ xs) h =
-    let here : p x ≡ q x = f x (and_left _ _ h) in
-    let later : filter p xs ≡ filter q xs = filter-same_on p q r f xs (and_right _ _ h) in
-    rw (here, later) refl
 
 pub number_of : (i : ℕ) (o : Option ℕ) → is_number i o ≡ true → o ≡ Some i
 number_of i None h = cc

@@ -1,6 +1,6 @@
 -- Transcripts in which each reply is the one that is due: how they grow, that they count whole, and that they are the
 -- legal ones in which memory never wants.
-use Rattle.std.proofs.Common.{◌≡◌, true, false, List, [], ◌∷◌, ◌++◌, sym, ◌∙◌, ap, subst, fold, map, inl, inr}
+use Rattle.std.proofs.Common.{refl, ◌≡◌, true, false, List, [], ◌∷◌, ◌++◌, sym, ◌∙◌, ap, subst, fold, map, inl, inr}
 use Rattle.std.proofs.lemmas.List.{append-nil, append_assoc, map-append}
 use Rattle.std.proofs.lemmas.List.Sums.{fold-append}
 use Rattle.sequential_signer.specs.Policy.{Policy}
@@ -10,7 +10,7 @@ use Rattle.sequential_signer.specs.ReplyDue.{reply_due}
 use Rattle.sequential_signer.specs.Legal.{IsLegal, IsLegalAfter, IsLegalEntry, with_reply_due, entries_due, replies_due}
 use Rattle.sequential_signer.specs.declared.event.Entry.{Entry}
 use Rattle.sequential_signer.specs.declared.event.Event.{Event}
-use Rattle.sequential_signer.proofs.Run.{due_in_memory, kept-none, kept-more, legal-more}
+use Rattle.sequential_signer.proofs.Run.{due_in_memory, kept-none, kept-more, legal-more, legal_keeps}
 
 fold-keeps : {B X : Type 0} (f : B → X → B) (P : B → Type 0) → ((b : B) (x : X) → P b → P (f b x)) → (xs : List X) (b : B) → P b → P (fold f b xs)
 fold-keeps f P step [] b h = h
@@ -33,6 +33,10 @@ module _ {K D : Type 0} (policy : Policy K D) (setup : Setup D) where
       → P [] → (events : List (Event K)) → P (entries_due policy setup events)
   unfolding entries_due
   entries_due-keeps P step start events = fold-keeps (with_reply_due policy setup) P step events [] start
+
+  none_due : [] ≡ entries_due policy setup []
+  unfolding entries_due
+  none_due = refl
 
   -- its events are these
   events_from : (events : List (Event K)) (entries : List (Entry K)) → map (λ (e : Entry K). e.event) (fold (with_reply_due policy setup) entries events) ≡ map (λ (e : Entry K). e.event) entries ++ events
@@ -92,3 +96,14 @@ module _ {K D : Type 0} (policy : Policy K D) (setup : Setup D) where
   -- the last reply of a legal transcript is the one that is due, unless memory was wanting
   pub last_is_due : (entries : List (Entry K)) (e : Entry K) → is_out_of_memory e.reply ≡ false → IsLegal policy setup (entries ++ e ∷ []) → e.reply ≡ reply_due policy setup (kept entries) e.event
   last_is_due entries e h l = due_by (kept entries) e h (legal_last entries e l)
+
+  -- what counts of a legal transcript is what is due to its events
+  pub counts_is_due : (entries : List (Entry K)) → IsLegal policy setup entries → kept entries ≡ entries_due policy setup (map (λ (e : Entry K). e.event) (kept entries))
+  counts_is_due entries l =
+      legal_keeps policy setup (λ before. before ≡ entries_due policy setup (map (λ (e : Entry K). e.event) before))
+      (λ before event h.
+      let e : Entry K = record { event = event; reply = reply_due policy setup before event } in
+      ap (λ (v : List (Entry K)). v ++ record { event = event; reply = reply_due policy setup v event } ∷ []) h
+      ∙ sym (entries_due-more (map (λ (x : Entry K). x.event) before) event)
+      ∙ ap (entries_due policy setup) (sym (map-append (λ (x : Entry K). x.event) before (e ∷ []))))
+      none_due entries l

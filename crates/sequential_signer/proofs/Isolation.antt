@@ -24,13 +24,13 @@ use Rattle.sequential_signer.specs.declared.event.Reply.{Reply}
 use Rattle.sequential_signer.specs.declared.event.Reply.TheVariants.{Pending, Done, Cancelled}
 use Rattle.sequential_signer.specs.declared.event.Verdict.TheVariants.{Accepted, Failed}
 use Rattle.sequential_signer.proofs.Places.{same_number}
-use Rattle.sequential_signer.proofs.Lists.{and_left, and_right, filter-more_yes, filter-more_no, filter-within, filter-swap, list_all-left_out, fold-same}
+use Rattle.sequential_signer.proofs.Lists.{and_right, filter-more_yes, filter-more_no, filter-within, filter-swap, list_all-left_out, fold-same, filter-same_on, list_all-same_on, find-same_on}
 use Rattle.sequential_signer.proofs.CallNames.{same_call-eq}
 use Rattle.sequential_signer.proofs.Distinct.{list_all-filter_of}
 use Rattle.sequential_signer.proofs.Run.{legal-more}
-use Rattle.sequential_signer.proofs.CacheLaw.{order_of_cache, number_of, filter-same_on}
+use Rattle.sequential_signer.proofs.CacheLaw.{order_of_cache, number_of}
 use Rattle.sequential_signer.proofs.LeftOut.{turn_moment-kept}
-use Rattle.sequential_signer.proofs.Wakings.{list_all-same_on, list_all-before}
+use Rattle.sequential_signer.proofs.Wakings.{list_all-before}
 
 module _ {K D : Type 0} (setup : Setup D) (i : ℕ) where
   -- whether an entry is of the cache
@@ -144,13 +144,6 @@ module _ {K D : Type 0} (policy : Policy K D) (setup : Setup D) (i : ℕ) (entri
         ap (find (gets_turn setup (entries_at setup i entries) i (record { event = event; reply = r }))) (poll_order-here setup i entries)
         ∙ find-same_on (gets_turn setup (entries_at setup i entries) i (record { event = event; reply = r })) (gets_turn setup entries i (record { event = event; reply = r })) (is_of_cache setup i) gets_here (poll_order setup entries i) (order_of_cache setup entries i)
       where
-        find-same_on : (p q t : CallId → Bool) → ((x : CallId) → t x ≡ true → p x ≡ q x) → (xs : List CallId) → list_all t xs ≡ true → find p xs ≡ find q xs
-        find-same_on p q t f [] h = refl
-        find-same_on p q t f (x ∷ xs) h =
-            let first : p x ≡ q x = f x (and_left _ _ h) in
-            let later : find p xs ≡ find q xs = find-same_on p q t f xs (and_right _ _ h) in
-            rw (first, later) refl
-
         gets_here : (b : CallId) → is_of_cache setup i b ≡ true → gets_turn setup (entries_at setup i entries) i (record { event = event; reply = r }) b ≡ gets_turn setup entries i (record { event = event; reply = r }) b
         gets_here b own =
             let e : Entry K = record { event = event; reply = r } in

@@ -66,6 +66,28 @@ module _ {X : Type 0} where
   find-same p q f [] = refl
   find-same p q f (x ∷ xs) = rw (f x, find-same p q f xs) refl
 
+  -- where two tests agree on what the list holds, they find, keep and require the same
+  pub list_all-same_on : (p q r : X → Bool) → ((x : X) → r x ≡ true → p x ≡ q x) → (xs : List X) → list_all r xs ≡ true → list_all p xs ≡ list_all q xs
+  list_all-same_on p q r f [] h = refl
+  list_all-same_on p q r f (x ∷ xs) h =
+      let here : p x ≡ q x = f x (and_left _ _ h) in
+      let later : list_all p xs ≡ list_all q xs = list_all-same_on p q r f xs (and_right _ _ h) in
+      rw (here, later) refl
+
+  pub filter-same_on : (p q r : X → Bool) → ((x : X) → r x ≡ true → p x ≡ q x) → (xs : List X) → list_all r xs ≡ true → filter p xs ≡ filter q xs
+  filter-same_on p q r f [] h = refl
+  filter-same_on p q r f (x ∷ xs) h =
+      let here : p x ≡ q x = f x (and_left _ _ h) in
+      let later : filter p xs ≡ filter q xs = filter-same_on p q r f xs (and_right _ _ h) in
+      rw (here, later) refl
+
+  pub find-same_on : (p q r : X → Bool) → ((x : X) → r x ≡ true → p x ≡ q x) → (xs : List X) → list_all r xs ≡ true → find p xs ≡ find q xs
+  find-same_on p q r f [] h = refl
+  find-same_on p q r f (x ∷ xs) h =
+      let here : p x ≡ q x = f x (and_left _ _ h) in
+      let later : find p xs ≡ find q xs = find-same_on p q r f xs (and_right _ _ h) in
+      rw (here, later) refl
+
   pub list_all-filter : (p : X → Bool) (xs : List X) → list_all p (filter p xs) ≡ true
   list_all-filter p [] = refl
   list_all-filter p (x ∷ xs) =

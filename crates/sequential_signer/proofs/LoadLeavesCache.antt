@@ -49,14 +49,6 @@ past_not_waiting Unknown h w = cc
 past_not_waiting Fresh h w = cc
 past_not_waiting Queued h w = cc
 
-busy_past : (p : Phase) → is_busy p ≡ true → is_past (to_queued p) ≡ true
-busy_past Loading h = refl
-busy_past Signing h = refl
-busy_past Unknown h = cc
-busy_past Fresh h = cc
-busy_past Queued h = cc
-busy_past Ended h = cc
-
 busy_same : (p : Phase) → is_busy p ≡ true → to_queued p ≡ p
 busy_same Loading h = refl
 busy_same Signing h = refl

@@ -22,7 +22,7 @@ use Rattle.sequential_signer.specs.declared.event.Reply.TheVariants.{Begun, Pend
 use Rattle.sequential_signer.specs.declared.event.Verdict.TheVariants.{Accepted, Failed}
 use Rattle.sequential_signer.specs.declared.event.Why.{Why}
 use Rattle.sequential_signer.specs.declared.event.Why.TheVariants.{Service}
-use Rattle.sequential_signer.proofs.Lists.{or_true, and_false, not_true, list_all-same}
+use Rattle.sequential_signer.proofs.Lists.{or_true, and_false, not_true, list_all-same, list_all-same_on}
 use Rattle.sequential_signer.proofs.CallNames.{same_call-eq, same_call-refl, same_call-comm, and_left, and_right}
 use Rattle.sequential_signer.proofs.Places.{same_number, other_number}
 use Rattle.sequential_signer.proofs.PollOrder.{is_polled, is_polled-more, poll_order-same, poll_order-poll, calls_ahead-more, hold_is_finished-own, hold_is_finished-other}
@@ -79,13 +79,6 @@ never_both false = refl
 zero_middle : (v w : Bool) → ((v && false) && w) ≡ false
 zero_middle true w = refl
 zero_middle false w = refl
-
-pub list_all-same_on : (p q r : CallId → Bool) → ((x : CallId) → r x ≡ true → p x ≡ q x) → (xs : List CallId) → list_all r xs ≡ true → list_all p xs ≡ list_all q xs
-list_all-same_on p q r f [] h = refl
-list_all-same_on p q r f (x ∷ xs) h =
-    let here : p x ≡ q x = f x (and_left _ _ h) in
-    let later : list_all p xs ≡ list_all q xs = list_all-same_on p q r f xs (and_right _ _ h) in
-    rw (here, later) refl
 
 -- what holds of all calls of a list holds of those before one of them
 pub list_all-before : (r : CallId → Bool) (call : CallId) (xs : List CallId) → list_all r xs ≡ true → list_all r (before_call call xs) ≡ true
