@@ -107,3 +107,7 @@ module _ {K D : Type 0} (policy : Policy K D) (setup : Setup D) where
       ∙ sym (entries_due-more (map (λ (x : Entry K). x.event) before) event)
       ∙ ap (entries_due policy setup) (sym (map-append (λ (x : Entry K). x.event) before (e ∷ []))))
       none_due entries l
+
+  -- so it is legal itself
+  pub kept_is_legal : (entries : List (Entry K)) → IsLegal policy setup entries → IsLegal policy setup (kept entries)
+  kept_is_legal entries l = subst (λ v. IsLegal policy setup v) (sym (counts_is_due entries l)) (due_is_legal (map (λ (e : Entry K). e.event) (kept entries)))

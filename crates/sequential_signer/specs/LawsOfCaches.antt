@@ -54,11 +54,14 @@ abbrev pub is_ask : {K : Type 0} → Reply K → Bool
 is_ask (Ask provider) = true
 is_ask _ = false
 
+-- a credential is found, and one is handed out
+abbrev pub found_entry : {K : Type 0} → CallId → ℤ → K → K → Option CallId → Entry K
+found_entry call now c handed wake = record { event = Provided call now (Found c); reply = Sign handed wake }
+
 -- once a credential was found and handed out at a cache, no provider of that cache is asked while it serves each look
 abbrev pub OneLoadServesAll : Type 0 → Type 0 → Type 0
 OneLoadServesAll K D =
     (policy : Policy K D) (setup : Setup D) (before after : List (Entry K)) (call : CallId) (now : ℤ) (c handed : K) (wake : Option CallId) (i : ℕ)
-    → (let found : Entry K = record { event = Provided call now (Found c); reply = Sign handed wake } in
-    IsLegal policy setup (before ++ found ∷ after) → cache_of setup call ≡ Some i
-    → ServesLooks policy setup i c (before ++ found ∷ []) after
-    → IsTrue (list_all (λ e. not (is_of_cache setup i (call_of e.event) && is_ask e.reply)) after))
+    → IsLegal policy setup (before ++ found_entry call now c handed wake ∷ after) → cache_of setup call ≡ Some i
+    → ServesLooks policy setup i c (before ++ found_entry call now c handed wake ∷ []) after
+    → IsTrue (list_all (λ e. not (is_of_cache setup i (call_of e.event) && is_ask e.reply)) after)

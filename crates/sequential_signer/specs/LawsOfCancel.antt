@@ -37,20 +37,27 @@ CancelledLoadLeavesNoTrace K D =
     → IsLegal policy setup (without_answers call entries)
     × SameCaches policy setup (without_answers call entries) entries
 
+-- a look that asks the first provider
+abbrev pub look_entry : {K : Type 0} → CallId → ℤ → Entry K
+look_entry call now = record { event = Poll call now; reply = Ask 0 }
+
+-- a cancel that fits
+abbrev pub cancel_entry : {K : Type 0} → CallId → Option CallId → Entry K
+cancel_entry call wake = record { event = Cancel call; reply = Cancelled wake }
+
 -- a cancel changes no cache
 abbrev pub CancelChangesNoCache : Type 0 → Type 0 → Type 0
 CancelChangesNoCache K D =
     (policy : Policy K D) (setup : Setup D) (before : List (Entry K)) (call : CallId) (wake : Option CallId)
-    → IsLegal policy setup (before ++ record { event = Cancel call; reply = Cancelled wake } ∷ [])
-    → SameCaches policy setup (before ++ record { event = Cancel call; reply = Cancelled wake } ∷ []) before
+    → IsLegal policy setup (before ++ cancel_entry call wake ∷ [])
+    → SameCaches policy setup (before ++ cancel_entry call wake ∷ []) before
 
 -- where the cancelled call was loading, its cache is after the cancel what it was before the call's look
 abbrev pub CancelledLoadLeavesTheCache : Type 0 → Type 0 → Type 0
 CancelledLoadLeavesTheCache K D =
     (policy : Policy K D) (setup : Setup D) (before between : List (Entry K)) (call : CallId) (now : ℤ) (wake : Option CallId) (i : ℕ)
-    → (let look : Entry K = record { event = Poll call now; reply = Ask 0 } in
-    let cancel : Entry K = record { event = Cancel call; reply = Cancelled wake } in
-    IsLegal policy setup (before ++ look ∷ (between ++ cancel ∷ []))
+    → IsLegal policy setup (before ++ look_entry call now ∷ (between ++ cancel_entry call wake ∷ []))
     → cache_of setup call ≡ Some i
-    → IsTrue (is_loading (phase_of (kept (before ++ look ∷ between)) call))
-    → sequential_cache policy setup (kept (before ++ look ∷ (between ++ cancel ∷ []))) i ≡ sequential_cache policy setup (kept before) i)
+    → IsTrue (is_loading (phase_of (kept (before ++ look_entry call now ∷ between)) call))
+    → sequential_cache policy setup (kept (before ++ look_entry call now ∷ (between ++ cancel_entry call wake ∷ []))) i
+    ≡ sequential_cache policy setup (kept before) i

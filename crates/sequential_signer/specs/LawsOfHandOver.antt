@@ -61,7 +61,8 @@ OneCallLoads K D =
 abbrev pub first_open : {K D : Type 0} → Setup D → List (Entry K) → ℕ → Option CallId
 first_open setup entries i = find (λ call. not (hold_is_finished entries call)) (poll_order setup entries i)
 
--- where a call of a cache is queued, the first one whose hold is open has its turn: nobody waits for nobody
+-- where a call of a cache is queued, the first one whose hold is open has its turn. So while no hold is open
+-- nobody waits
 abbrev pub SomebodyHasTheTurn : Type 0 → Type 0 → Type 0
 SomebodyHasTheTurn K D =
     (policy : Policy K D) (setup : Setup D) (entries : List (Entry K)) (call : CallId) (i : ℕ)
