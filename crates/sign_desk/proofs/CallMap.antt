@@ -1,5 +1,5 @@
 -- The map of the live calls, read by the names of calls.
-use Rattle.std.proofs.Common.{◌≡◌, ℕ, Bool, true, false, cond, ◌&&◌, ◌==◌, List, [], ◌∷◌, Option, is_some, refl, sym, ◌∙◌, ap, nat_cmp, arith}
+use Rattle.std.proofs.Common.{◌≡◌, ℕ, false, cond, ◌&&◌, ◌==◌, List, [], ◌∷◌, Option, Some, None, option_map, if◌then◌else◌, ◌+◌, add-zero, is_some, refl, sym, ◌∙◌, ap, nat_cmp, arith}
 use Rattle.std.proofs.lemmas.Bool.Decides.{nat_tests}
 use Rattle.std.specs.declared.cmp.Ordering.{Ordering}
 use Rattle.std.specs.declared.cmp.Ordering.TheVariants.{Less, Equal, Greater}
@@ -8,9 +8,10 @@ use Rattle.std.specs.BTreeMap.{BTreeMap, get, is_at}
 use Rattle.std.specs.Map.{lookup}
 use Rattle.wake_lock.specs.declared.CallId.{CallId}
 use Rattle.sequential_signer.specs.Transcript.{same_call}
-use Rattle.sign_desk.specs.Kept.{find_call, AtMostOne}
+use Rattle.sign_desk.specs.Kept.{find_call}
+use Rattle.sign_desk.specs.Moves.{one_if}
 use Rattle.sign_desk.specs.declared.calls.CallRecord.{CallRecord}
-use Rattle.sequential_signer.proofs.CallNames.{same_call-eq, same_call-refl}
+use Rattle.sequential_signer.proofs.CallNames.{same_call-refl}
 
 module _ (cmp : CallId → CallId → Ordering) (same : (a b : CallId) → is_eq (cmp a b) ≡ same_call a b) where
   lookup_is : (q : CallId) (es : List (CallId × CallRecord)) → lookup (is_at (cmp q)) es ≡ find_call q es
@@ -45,13 +46,15 @@ call_order a b =
     ∙ ap (λ v. v && is_eq (nat_cmp a.number b.number)) (number_eq a.handle b.handle)
     ∙ ap (λ v. (a.handle == b.handle) && v) (number_eq a.number b.number)
 
--- a change at a call that was kept, or that keeps nothing of it, leaves one call at most
-pub at_most_one-after : (m n : List (CallId × CallRecord)) (k : CallId) (w : Option CallRecord) → ((q : CallId) → find_call q n ≡ cond (same_call k q) w (find_call q m)) → (is_some w ≡ true → is_some (find_call k m) ≡ true) → AtMostOne m → AtMostOne n
-at_most_one-after m n k w h kept one a b sa sb = one a b (before a sa) (before b sb)
-  where
-    before_by : (q : CallId) (s : Bool) → same_call k q ≡ s → is_some (cond s w (find_call q m)) ≡ true → is_some (find_call q m) ≡ true
-    before_by q true s t = ap (λ x. is_some (find_call x m)) (sym (same_call-eq k q s)) ∙ kept t
-    before_by q false s t = t
+-- the number of records after a change at one call
+pub count-removed : {X : Type 0} (n m : ℕ) (result kept : Option X) → result ≡ kept → n + (if is_some result then 1 else 0) ≡ m → n + one_if kept ≡ m + 0
+count-removed n m None kept e h = rw (← e) (h ∙ sym (add-zero m))
+count-removed n m (Some x) kept e h = rw (← e) (h ∙ sym (add-zero m))
 
-    before : (q : CallId) → is_some (find_call q n) ≡ true → is_some (find_call q m) ≡ true
-    before q t = before_by q (same_call k q) refl (ap is_some (sym (h q)) ∙ t)
+pub count-kept : {X : Type 0} (n m : ℕ) (f : X → X) (kept : Option X) → n ≡ m → n + one_if kept ≡ m + one_if (option_map f kept)
+count-kept n m f None e = ap (λ k. k + 0) e
+count-kept n m f (Some x) e = ap (λ k. k + 1) e
+
+pub count-added : {X : Type 0} (n m : ℕ) (old kept : Option X) → old ≡ kept → n ≡ m + (if is_some old then 0 else 1) → n + one_if kept ≡ m + 1
+count-added n m None kept e h = rw (← e) (ap (λ k. k + 0) h ∙ add-zero (m + 1))
+count-added n m (Some x) kept e h = rw (← e) (ap (λ k. k + 1) h ∙ ap (λ k. k + 1) (add-zero m))

@@ -1,6 +1,5 @@
 -- What the calls do that set up a desk.
-use Rattle.std.specs.Prelude.{◌≡◌, ℕ, Bool, not, nat_lt, List, [], ◌∷◌, ◌++◌, Option, Some, None, Result, Ok, Err, length, if◌then◌else◌}
-use Rattle.sequential_signer.specs.Setup.{Handle}
+use Rattle.std.specs.Prelude.{◌≡◌, ℕ, nat_lt, [], ◌∷◌, ◌++◌, Option, Some, None, Result, Ok, Err, length, if◌then◌else◌}
 use Rattle.sequential_signer.specs.declared.event.Loader.{Loader}
 use Rattle.sign_desk.specs.Kept.{Kept}
 use Rattle.sign_desk.specs.declared.adding.AddError.{AddError}
@@ -9,7 +8,7 @@ use Rattle.sign_desk.specs.declared.adding.AddError.TheVariants.{Late, NoCache, 
 
 -- the desk with one more empty cache
 abbrev pub with_cache : {K D : Type 0} → Loader → Kept K D → Kept K D
-with_cache loader desk = record desk { loaders = desk.loaders ++ loader ∷ []; caches = desk.caches ++ None ∷ [] }
+with_cache loader desk = record desk { loaders = desk.loaders ++ loader ∷ []; caches = desk.caches ++ None ∷ []; queues = desk.queues ++ record { line = []; unpolled = 0 } ∷ [] }
 
 -- the desk with one more rule
 abbrev pub with_rule : {K D : Type 0} → D → Kept K D → Kept K D

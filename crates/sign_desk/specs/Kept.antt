@@ -1,15 +1,17 @@
 -- What a desk keeps, and the transcripts that it stands for.
-use Rattle.std.specs.Prelude.{◌≡◌, ℕ, List, [], ◌∷◌, Option, Some, None, slice_get, option_map, is_some, Bool, true, if◌then◌else◌, length, max}
+use Rattle.std.specs.Prelude.{◌≡◌, ℕ, List, [], ◌∷◌, Option, Some, None, slice_get, option_map, Bool, if◌then◌else◌, length}
 use Rattle.std.specs.List.{list_any}
 use Rattle.wake_lock.specs.declared.CallId.{CallId}
 use Rattle.sequential_signer.specs.Policy.{Policy}
 use Rattle.sequential_signer.specs.Setup.{Setup, Handle}
-use Rattle.sequential_signer.specs.Transcript.{same_call, call_of, kept}
-use Rattle.sequential_signer.specs.Phase.{Phase, Unknown, Fresh, Queued, Loading, Signing, Ended, is_begun, phase_of}
+use Rattle.sequential_signer.specs.Transcript.{same_call, kept}
+use Rattle.sequential_signer.specs.Phase.{Phase, Fresh, Queued, Loading, Signing, is_begun}
 use Rattle.sequential_signer.specs.LiveCall.{LiveCall, live_call, greatest_begun}
 use Rattle.sequential_signer.specs.SequentialCache.{sequential_cache}
 use Rattle.sequential_signer.specs.Legal.{IsLegal}
 use Rattle.std.specs.Duration.{as_nanos}
+use Rattle.sign_desk.specs.Queue.{Queue}
+use Rattle.sign_desk.specs.QueueDue.{queue_due, live_calls}
 use Rattle.sign_desk.specs.declared.calls.CallRecord.{CallRecord}
 use Rattle.sign_desk.specs.declared.calls.Stage.{Stage}
 use Rattle.sign_desk.specs.declared.calls.Stage.TheVariants as stage
@@ -30,12 +32,13 @@ live_view r = record {
   answers = r.answers;
 }
 
--- what a desk keeps: its setup, each cache, the greatest number begun under each handle, whether a begin was accepted, and the live calls
+-- what a desk keeps: its setup, the credential and the queue of each cache, the greatest number begun under each handle, whether a begin was accepted, and the live calls
 pub record Kept (K D : Type 0) : Type 0 where
   pub loaders : List Loader
   pub rules : List D
   pub handles : List Handle
   pub caches : List (Option K)
+  pub queues : List Queue
   pub greatest : List (Option ℕ)
   pub started : Bool
   pub calls : List (CallId × CallRecord)
@@ -48,10 +51,6 @@ abbrev pub find_call : CallId → List (CallId × CallRecord) → Option CallRec
 find_call call [] = None
 find_call call ((id, live) ∷ rest) = if same_call call id then Some live else find_call call rest
 
--- the records are of one call at most
-abbrev pub AtMostOne : List (CallId × CallRecord) → Type 0
-AtMostOne calls = (a b : CallId) → is_some (find_call a calls) ≡ true → is_some (find_call b calls) ≡ true → same_call a b ≡ true
-
 -- whether a begin was accepted
 abbrev pub was_begun : {K : Type 0} → List (Entry K) → Bool
 was_begun entries = list_any (λ e. is_begun e.reply) entries
@@ -60,6 +59,8 @@ was_begun entries = list_any (λ e. is_begun e.reply) entries
 pub record Represents {K D : Type 0} (policy : Policy K D) (desk : Kept K D) (entries : List (Entry K)) : Type 0 where
   pub legal : IsLegal policy (setup_of desk) entries
   pub caches : (i : ℕ) → slice_get desk.caches i ≡ option_map (λ _. sequential_cache policy (setup_of desk) (kept entries) i) (slice_get desk.loaders i)
+  pub queues : (i : ℕ) → slice_get desk.queues i ≡ option_map (λ _. queue_due (setup_of desk) (kept entries) i) (slice_get desk.loaders i)
   pub greatest : (h : ℕ) → slice_get desk.greatest h ≡ option_map (λ _. greatest_begun h (kept entries)) (slice_get desk.handles h)
   pub started : desk.started ≡ was_begun (kept entries)
   pub calls : (call : CallId) → option_map live_view (find_call call desk.calls) ≡ live_call (kept entries) call
+  pub live : length desk.calls ≡ length (live_calls (kept entries))

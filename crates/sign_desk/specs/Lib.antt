@@ -1,7 +1,11 @@
+pub mod Queue
+pub mod QueueView
+pub mod QueueDue
 pub mod Kept
 pub mod StateView
 pub mod Adding
 pub mod IsDesk
+pub mod Sound
 pub mod Moves
 pub mod LookSays
 pub mod JudgeSays

@@ -1,6 +1,6 @@
 -- What contracts see of the state of a desk.
 use Rattle.std.specs.Prelude.{map}
-use Rattle.sign_desk.specs.Kept.{Kept, AtMostOne}
+use Rattle.sign_desk.specs.Kept.{Kept}
 use Rattle.sequential_signer.specs.Setup.{Handle}
 use Rattle.sign_desk.specs.declared.state.HandleRecord.{HandleRecord}
 use Rattle.sign_desk.specs.declared.state.State.TheInside.{Inside}
@@ -14,11 +14,8 @@ state_view desk = record {
   rules = desk.rules.items;
   handles = map handle_view desk.handles.items;
   caches = desk.caches.items;
+  queues = desk.queues.items;
   greatest = desk.greatest.items;
   started = desk.started;
   calls = desk.calls.entries;
 }
-
--- there is one live call at most
-abbrev pub IsSound : {K D : Type 0} → Inside K D → Type 0
-IsSound desk = AtMostOne desk.calls.entries

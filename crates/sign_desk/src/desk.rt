@@ -30,7 +30,7 @@ impl<K: SigningCredential, D: DeadlineRule<Credential = K>> Model for Desk<K, D>
 impl<K: SigningCredential, D: DeadlineRule<Credential = K>> Desk<K, D> {
     ghost use Rattle.sign_desk.specs.Kept.{Represents, setup_of, was_begun};
     ghost use Rattle.sign_desk.specs.Adding.{late, handle_refusal, AddAnswer, AddAnswerBack, with_cache, with_rule, with_handle};
-    ghost use Rattle.sign_desk.specs.Moves.{IsBuilt, UnchangedBy};
+    ghost use Rattle.sign_desk.specs.Moves.{UnchangedBy};
     ghost use Rattle.sequential_signer.specs.declared.event.Entry.{Entry};
     ghost use Rattle.sequential_signer.specs.Policy.{policy_of};
     ghost use Rattle.sequential_signer.specs.Transcript.{kept};
@@ -179,7 +179,6 @@ impl<K: SigningCredential, D: DeadlineRule<Credential = K>> Desk<K, D> {
     /// One step: whatever transcript the desk stands for, it then stands for that with this entry.
     /// The setup stays. `NotNow` and `OutOfMemory` change nothing.
     pub fn step(&mut self, event: &Event<K>) -> Reply<K>
-        requires { IsBuilt self.old event.now }
         ensures represents { (entries : List (Entry K)) → Represents (policy_of K.valid K.valid_at D.deadline) self.old entries
             → Represents (policy_of K.valid K.valid_at D.deadline) self.new (entries ++ record { event = event.now; reply = result } ∷ []) }
         ensures due { (entries : List (Entry K)) → Represents (policy_of K.valid K.valid_at D.deadline) self.old entries

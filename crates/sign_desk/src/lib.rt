@@ -1,11 +1,16 @@
 //! The core of the request signer: events in, one reply each.
 #![tactic(auto)]
 
-pub mod adding;
-pub mod calls;
-pub mod desk;
+mod adding;
+mod calls;
+mod desk;
 pub mod laws;
-pub mod state;
+mod load;
+mod lookup;
+mod poll;
+mod queue;
+mod state;
+mod step;
 
 pub use adding::{AddError, AddRefused};
 pub use desk::Desk;

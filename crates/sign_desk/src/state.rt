@@ -1,10 +1,13 @@
-//! What a desk keeps, and what each event does to it.
-ghost use Rattle.std.specs.Prelude.{◌≡◌, IfOk};
+//! What a desk keeps, and the small changes of which each step is made. There is one table for each
+//! kind of place: a cache has its row in `loaders`, `caches` and `queues`, a handle in `handles` and
+//! `greatest`. Live calls are found by their names, so no change goes over all of them.
+ghost use Rattle.std.specs.Prelude.{◌≡◌, [], true, false, Some, None, option_map, option_and_then, option_copied, IsSome, OnOk, OnErr, IfErr, IfOk, length, slice_get, slice_set, ◌<◌, ◌≤◌, ◌+◌, ◌^◌, IfSome};
 
 use crate::calls::{CallRecord, Stage};
+use crate::queue::CallQueue;
 use credentials::{DeadlineRule, SigningCredential};
-use sequential_signer::{Answer, Event, Loader, Reply, Verdict, Why};
-use sign_base::{Head, NoMemory, Timestamp};
+use sequential_signer::Loader;
+use sign_base::NoMemory;
 use std::alloc::{AllocError, Global};
 use std::collections::BTreeMap;
 use std::marker::Model;
@@ -18,35 +21,28 @@ pub struct HandleRecord {
     pub rule: u32,
 }
 
-/// What a look at a cache gives.
-#[derive(Drop)]
-pub enum Look<K> {
-    Absent,
-    Starved,
-    Asks,
-    Hands(K),
-    Refuses(Why),
+/// A live call, as an event finds it: its places, and what is kept of it beside its head.
+#[derive(Clone, Copy, Debug)]
+pub struct Caller {
+    pub cache: u32,
+    pub rule: u32,
+    pub stage: Stage,
+    pub expires_in: Option<Duration>,
+    pub answers: u32,
 }
 
-/// What a credential that was found is good for.
-#[derive(Drop)]
-pub enum Judged {
-    Absent,
-    Serves,
-    Fails(Why),
-}
-
-/// What a desk keeps. Each table has one row for each cache, rule or handle.
+/// What a desk keeps.
 #[derive(Drop)]
 pub struct State<K, D> {
-    alloc: Global,
-    loaders: Vec<Loader>,
-    rules: Vec<D>,
+    pub(crate) alloc: Global,
+    pub(crate) loaders: Vec<Loader>,
+    pub(crate) rules: Vec<D>,
     handles: Vec<HandleRecord>,
-    caches: Vec<Option<K>>,
-    greatest: Vec<Option<u64>>,
-    started: bool,
-    calls: BTreeMap<CallId, CallRecord>,
+    pub(crate) caches: Vec<Option<K>>,
+    queues: Vec<CallQueue>,
+    pub(crate) greatest: Vec<Option<u64>>,
+    pub(crate) started: bool,
+    pub(crate) calls: BTreeMap<CallId, CallRecord>,
 }
 
 impl<K, D> Model for State<K, D> {
@@ -54,27 +50,22 @@ impl<K, D> Model for State<K, D> {
 
     ghost Value = { Kept K D };
 
-    ghost use Rattle.sign_desk.specs.StateView.{state_view, IsSound};
+    ghost use Rattle.sign_desk.specs.StateView.{state_view};
 
     ghost view = { state_view };
-
-    ghost invariant = { IsSound };
 }
 
 impl<K: SigningCredential, D: DeadlineRule<Credential = K>> State<K, D> {
-    ghost use Rattle.std.specs.Prelude.{◌≡◌, [], false, option_map, option_and_then, option_copied, IsSome, OnOk, OnErr, IfErr, length, slice_get, slice_set, ◌<◌, ◌+◌, ◌^◌, IfSome};
-    ghost use Rattle.sign_desk.specs.Kept.{find_call, setup_of, AtMostOne};
+    ghost use Rattle.sign_desk.specs.Queue.{is_first, is_held_line, line_at, entered, passed, left, woken, expected, changed_at};
+    ghost use Rattle.sign_desk.specs.Kept.{find_call};
     ghost use Rattle.sign_desk.specs.StateView.{handle_view};
     ghost use Rattle.sign_desk.specs.Adding.{with_cache, with_rule, with_handle};
-    ghost use Rattle.sequential_signer.specs.Policy.{policy_of};
-    ghost use Rattle.sign_desk.specs.Moves.{BeginMoves, StartsAlone, begin_fits_kept, Keeps, at_stage, look_of, PollMoves, AcceptMoves, IsBuilt, Moves, UnchangedBy, found_of, answered, cache_at, FoundMoves};
-    ghost use Rattle.sign_desk.specs.JudgeSays.{JudgeSays};
-    ghost use Rattle.sign_desk.specs.LookSays.{LookSays};
-    ghost use Rattle.std.specs.Duration.{as_nanos};
+    ghost use Rattle.sign_desk.specs.Sound.{IsSound, MayEnter, FindSays};
+    ghost use Rattle.sign_desk.specs.Moves.{begin_fits_kept, Keeps, at_stage, answered, with_queue, with_begin, cache_at};
 
     /// No caches, rules, handles or calls.
     pub fn new(alloc: Global) -> State<K, D>
-        ensures { result ≡ record { loaders = []; rules = []; handles = []; caches = []; greatest = []; started = false; calls = [] } }
+        ensures { result ≡ record { loaders = []; rules = []; handles = []; caches = []; queues = []; greatest = []; started = false; calls = [] } }
     {
         State {
             alloc,
@@ -82,6 +73,7 @@ impl<K: SigningCredential, D: DeadlineRule<Credential = K>> State<K, D> {
             rules: Vec::new(alloc),
             handles: Vec::new(alloc),
             caches: Vec::new(alloc),
+            queues: Vec::new(alloc),
             greatest: Vec::new(alloc),
             started: false,
             calls: BTreeMap::new(alloc),
@@ -95,8 +87,10 @@ impl<K: SigningCredential, D: DeadlineRule<Credential = K>> State<K, D> {
     {
         self.loaders.reserve(1)?;
         self.caches.reserve(1)?;
+        self.queues.reserve(1)?;
         self.loaders.push_reserved(loader);
         self.caches.push_reserved(None);
+        self.queues.push_reserved(CallQueue::new(self.alloc));
         Ok(())
     }
 
@@ -154,7 +148,8 @@ impl<K: SigningCredential, D: DeadlineRule<Credential = K>> State<K, D> {
 
     /// The number of live calls.
     pub fn live(&self) -> usize
-        ensures { result ≡ length self.now.calls }
+        ensures live { result ≡ length self.now.calls }
+        ensures small { result < 2 ^ 63 }
     {
         self.calls.len()
     }
@@ -185,7 +180,7 @@ impl<K: SigningCredential, D: DeadlineRule<Credential = K>> State<K, D> {
     }
 
     /// Whether a begin of the call fits.
-    fn begin_fits(&self, call: CallId) -> bool
+    pub fn begin_fits(&self, call: CallId) -> bool
         ensures { result ≡ begin_fits_kept self.now call }
     {
         let place = call.handle as usize;
@@ -198,42 +193,37 @@ impl<K: SigningCredential, D: DeadlineRule<Credential = K>> State<K, D> {
         }
     }
 
-    /// A begin: the call's record, its head and its number are taken at once, or nothing is.
-    fn begin(&mut self, call: CallId, head: &Head, expires_in: Option<Duration>) -> Reply<K>
-        requires { StartsAlone self.old call }
-        ensures { BeginMoves self.old call head.now expires_in result self.new }
-    {
-        if !self.begin_fits(call) {
-            return Reply::NotNow;
-        }
-        let head = match head.try_clone(self.alloc) {
-            Ok(head) => head,
-            Err(_) => return Reply::OutOfMemory,
-        };
-        let record = CallRecord {
-            stage: Stage::Fresh,
-            head,
-            expires_in,
-            answers: 0,
-        };
-        match self.calls.insert(call, record) {
-            Ok(_) => {}
-            Err(_) => return Reply::OutOfMemory,
-        }
-        self.greatest[call.handle as usize] = Some(call.number);
-        self.started = true;
-        Reply::Begun
-    }
-
     /// The record of a call.
-    fn record_of(&self, call: CallId) -> Option<&CallRecord>
+    pub fn record_of(&self, call: CallId) -> Option<&CallRecord>
         ensures { option_copied result ≡ find_call call self.now.calls }
     {
         self.calls.get(&call)
     }
 
+    /// A live call, with its places.
+    pub fn find(&self, call: CallId) -> Option<Caller>
+        requires { IsSound self.now }
+        ensures { FindSays self.now call result }
+    {
+        let record = match self.record_of(call) {
+            None => return None,
+            Some(record) => record,
+        };
+        let handle = match self.handle_at(call.handle) {
+            None => return None,
+            Some(handle) => handle,
+        };
+        Some(Caller {
+            cache: handle.cache,
+            rule: handle.rule,
+            stage: record.stage,
+            expires_in: record.expires_in,
+            answers: record.answers,
+        })
+    }
+
     /// Sets the stage of a call that is kept.
-    fn set_stage(&mut self, call: CallId, stage: Stage)
+    pub fn set_stage(&mut self, call: CallId, stage: Stage)
         requires { IsSome (find_call call self.old.calls) }
         ensures { Keeps self.old call (option_map (at_stage stage) (find_call call self.old.calls)) self.new }
     {
@@ -241,255 +231,140 @@ impl<K: SigningCredential, D: DeadlineRule<Credential = K>> State<K, D> {
         record.stage = stage;
     }
 
+    /// Counts one more answer, by which the call comes to this stage.
+    pub fn answer(&mut self, call: CallId, stage: Stage)
+        requires kept { IfSome (find_call call self.old.calls) (λ r. r.answers + 1 < 2 ^ 32) }
+        requires there { IsSome (find_call call self.old.calls) }
+        ensures { Keeps self.old call (option_map (answered stage) (find_call call self.old.calls)) self.new }
+    {
+        let record = self.calls.get_mut(&call).unwrap();
+        record.stage = stage;
+        record.answers += 1;
+    }
+
+    /// The cache of a handle that is there.
+    fn cache_under(&self, handle: u32) -> u32
+        requires { IsSome (slice_get self.now.handles handle) }
+        ensures { result ≡ cache_at (slice_get self.now.handles handle) }
+    {
+        match self.handles.get(handle as usize) {
+            Some(found) => found.cache,
+            None => unreachable!(),
+        }
+    }
+
+    /// Takes the room of one more call in the queue of a cache, or changes nothing.
+    fn expect(&mut self, cache: u32) -> Result<(), NoMemory<()>>
+        requires there { cache < length self.old.queues }
+        requires few { IfSome (slice_get self.old.queues cache) (λ queue. queue.unpolled ≤ length self.old.calls) }
+        ensures ok { OnOk result (self.new ≡ with_queue expected cache self.old) }
+        ensures err { OnErr result (self.new ≡ self.old) }
+    {
+        let _live = self.calls.len();
+        self.queues[cache as usize].expect()
+    }
+
+    /// Gives the room of a call back that was not begun after all.
+    fn unexpect(&mut self, cache: u32)
+        requires there { cache < length self.old.queues }
+        requires counted { IfSome (slice_get self.old.queues cache) (λ queue. 0 < queue.unpolled) }
+        ensures { self.new ≡ with_queue passed cache self.old }
+    {
+        self.queues[cache as usize].pass();
+    }
+
+    /// Keeps the record of a call, or answers false and changes nothing.
+    fn keep(&mut self, call: CallId, kept: CallRecord) -> bool
+        ensures kept { result ≡ true → Keeps self.old call (Some kept) self.new }
+        ensures unchanged { result ≡ false → self.new ≡ self.old }
+    {
+        match self.calls.insert(call, kept) {
+            Ok(_) => true,
+            Err(_) => false,
+        }
+    }
+
+    /// Notes that a begin was accepted, with its number.
+    fn note_begin(&mut self, call: CallId)
+        requires { call.handle < length self.old.greatest }
+        ensures { self.new ≡ record self.old { greatest = slice_set self.old.greatest call.handle (Some call.number); started = true } }
+    {
+        self.greatest[call.handle as usize] = Some(call.number);
+        self.started = true;
+    }
+
+    /// Takes a call in under its handle, with its room in the queue and its record, or changes nothing.
+    pub fn admit(&mut self, call: CallId, kept: CallRecord) -> Result<(), NoMemory<()>>
+        requires sound { IsSound self.old }
+        requires fits { begin_fits_kept self.old call ≡ true }
+        ensures ok { OnOk result (Keeps (with_begin call self.old) call (Some kept) self.new) }
+        ensures err { OnErr result (self.new ≡ self.old) }
+    {
+        let cache = self.cache_under(call.handle);
+        self.expect(cache)?;
+        if !self.keep(call, kept) {
+            self.unexpect(cache);
+            return Err(NoMemory { back: () });
+        }
+        self.note_begin(call);
+        Ok(())
+    }
+
     /// Keeps nothing of a call any more.
-    fn end_call(&mut self, call: CallId)
+    pub fn end_call(&mut self, call: CallId)
         ensures { Keeps self.old call None self.new }
     {
         let _ended = self.calls.remove(&call);
     }
 
-    /// What the cache of a handle holds for a call of this duration now.
-    fn look(&self, place: usize, expires_in: Option<Duration>, now: Timestamp) -> Look<K>
-        requires { place < length self.now.handles }
-        ensures { LookSays (look_of (policy_of K.valid K.valid_at D.deadline) self.now
-            (slice_get self.now.handles place) (option_map as_nanos expires_in) now) result }
+    /// Keeps a credential in a cache.
+    pub fn store(&mut self, cache: u32, credential: K)
+        requires { cache < length self.old.caches }
+        ensures { self.new ≡ record self.old { caches = slice_set self.old.caches cache (Some credential) } }
     {
-        let handle = self.handles[place];
-        let cache = handle.cache as usize;
-        let rule = handle.rule as usize;
-        if cache >= self.loaders.len() || cache >= self.caches.len() || rule >= self.rules.len() {
-            return Look::Absent;
-        }
-        let rule = &self.rules[rule];
-        if let Some(credential) = &self.caches[cache] {
-            if credential.is_valid(now) {
-                match rule.required_valid_until(credential, expires_in, now) {
-                    None => return Look::Refuses(Why::Range),
-                    Some(deadline) => {
-                        if credential.is_valid_at(deadline, now) {
-                            return match credential.try_clone(self.alloc) {
-                                Ok(credential) => Look::Hands(credential),
-                                Err(_) => Look::Starved,
-                            };
-                        }
-                    }
-                }
-            }
-        }
-        match self.loaders[cache] {
-            Loader::Single => Look::Asks,
-            Loader::Chain(n) => {
-                if n > 0 {
-                    Look::Asks
-                } else {
-                    Look::Refuses(Why::Missing)
-                }
-            }
-        }
+        self.caches[cache as usize] = Some(credential);
     }
 
-    /// A poll: the call looks at its cache, where it still waits.
-    fn poll(&mut self, call: CallId, now: Timestamp) -> Reply<K>
-        ensures moves { PollMoves (policy_of K.valid K.valid_at D.deadline) self.old call now result self.new }
-        ensures setup { setup_of self.new ≡ setup_of self.old }
+    /// Whether the lock of a cache is held.
+    pub fn is_held(&self, cache: u32) -> bool
+        requires { cache < length self.now.queues }
+        ensures { result ≡ is_held_line (line_at cache self.now.queues) }
     {
-        let place = call.handle as usize;
-        if place >= self.handles.len() {
-            return Reply::NotNow;
-        }
-        let (stage, expires_in) = match self.record_of(call) {
-            None => return Reply::NotNow,
-            Some(record) => (record.stage, record.expires_in),
-        };
-        match stage {
-            Stage::Loading => return Reply::Pending,
-            Stage::Signing => return Reply::Pending,
-            Stage::Fresh => {}
-            Stage::Queued => {}
-        }
-        match self.look(place, expires_in, now) {
-            Look::Absent => Reply::NotNow,
-            Look::Starved => Reply::OutOfMemory,
-            Look::Asks => {
-                self.set_stage(call, Stage::Loading);
-                Reply::Ask { provider: 0 }
-            }
-            Look::Hands(credential) => {
-                self.set_stage(call, Stage::Signing);
-                Reply::Sign {
-                    credential,
-                    wake: None,
-                }
-            }
-            Look::Refuses(why) => {
-                self.end_call(call);
-                Reply::Refused { why, wake: None }
-            }
-        }
+        self.queues[cache as usize].is_held()
     }
 
-    /// An accepted head: the call is done.
-    fn accept(&mut self, call: CallId, candidate: &Head) -> Reply<K>
-        ensures { AcceptMoves self.old call candidate.now result self.new }
+    /// Whether the call holds the lock of a cache.
+    pub fn is_held_by(&self, cache: u32, call: CallId) -> bool
+        requires { cache < length self.now.queues }
+        ensures { result ≡ is_first call (line_at cache self.now.queues) }
     {
-        let place = call.handle as usize;
-        if place >= self.handles.len() {
-            return Reply::NotNow;
-        }
-        let alloc = self.alloc;
-        let head = match self.record_of(call) {
-            None => return Reply::NotNow,
-            Some(record) => match record.stage {
-                Stage::Signing => done_head(alloc, &record.head, candidate),
-                Stage::Fresh => return Reply::NotNow,
-                Stage::Queued => return Reply::NotNow,
-                Stage::Loading => return Reply::NotNow,
-            },
-        };
-        match head {
-            Err(_) => Reply::OutOfMemory,
-            Ok(head) => {
-                self.end_call(call);
-                Reply::Done { head }
-            }
-        }
+        self.queues[cache as usize].is_held_by(call)
     }
 
-    /// What a credential that was found is good for, for a call of this duration now.
-    fn judge(&self, place: usize, found: &K, expires_in: Option<Duration>, now: Timestamp) -> Judged
-        requires { place < length self.now.handles }
-        ensures { JudgeSays (found_of (policy_of K.valid K.valid_at D.deadline) self.now
-            (slice_get self.now.handles place) found.now (option_map as_nanos expires_in) now) found.now result }
+    /// Puts a call that is first polled into the line of its cache.
+    pub fn enter(&mut self, cache: u32, call: CallId)
+        requires there { cache < length self.old.queues }
+        requires may { IfSome (slice_get self.old.queues cache) (MayEnter call) }
+        ensures { self.new ≡ with_queue (entered call) cache self.old }
     {
-        let handle = self.handles[place];
-        let cache = handle.cache as usize;
-        let rule = handle.rule as usize;
-        if cache >= self.loaders.len() || cache >= self.caches.len() || rule >= self.rules.len() {
-            return Judged::Absent;
-        }
-        let rule = &self.rules[rule];
-        match rule.required_valid_until(found, expires_in, now) {
-            None => Judged::Fails(Why::Range),
-            Some(deadline) => {
-                if found.is_valid_at(deadline, now) {
-                    Judged::Serves
-                } else {
-                    Judged::Fails(Why::Short(deadline))
-                }
-            }
-        }
+        self.queues[cache as usize].enter(call);
     }
 
-    /// Keeps a credential in the cache of a handle.
-    fn store(&mut self, place: usize, credential: K)
-        requires handle { place < length self.old.handles }
-        requires cache { IsSome (slice_get self.old.caches (cache_at (slice_get self.old.handles place))) }
-        ensures { self.new ≡ record self.old { caches = slice_set self.old.caches (cache_at (slice_get self.old.handles place)) (Some credential) } }
+    /// Counts a call as polled that takes no place in the line of its cache.
+    pub fn pass(&mut self, cache: u32, call: CallId)
+        requires there { cache < length self.old.queues }
+        requires may { IfSome (slice_get self.old.queues cache) (MayEnter call) }
+        ensures { self.new ≡ with_queue passed cache self.old }
     {
-        let cache = self.handles[place].cache as usize;
-        self.caches[cache] = Some(credential);
+        self.queues[cache as usize].pass();
     }
 
-    /// One more answer, by which the call signs.
-    fn answer(&mut self, call: CallId)
-        requires kept { IfSome (find_call call self.old.calls) (λ r. r.answers + 1 < 2 ^ 32) }
-        requires there { IsSome (find_call call self.old.calls) }
-        ensures { Keeps self.old call (option_map answered (find_call call self.old.calls)) self.new }
+    /// Takes a call out of the line of its cache, and names the call that gets its turn by this.
+    pub fn leave(&mut self, cache: u32, call: CallId) -> Option<CallId>
+        requires { cache < length self.old.queues }
+        ensures woken { result ≡ woken call (line_at cache self.old.queues) }
+        ensures left { self.new ≡ with_queue (left call) cache self.old }
     {
-        let record = self.calls.get_mut(&call).unwrap();
-        record.stage = Stage::Signing;
-        record.answers += 1;
+        self.queues[cache as usize].leave(call)
     }
-
-    /// A credential that was found: it is cached, and then handed out or refused.
-    fn found(&mut self, call: CallId, now: Timestamp, found: &K) -> Reply<K>
-        ensures { FoundMoves (policy_of K.valid K.valid_at D.deadline) self.old call now found.now result self.new }
-    {
-        let place = call.handle as usize;
-        if place >= self.handles.len() {
-            return Reply::NotNow;
-        }
-        let (stage, expires_in, answers) = match self.record_of(call) {
-            None => return Reply::NotNow,
-            Some(record) => (record.stage, record.expires_in, record.answers),
-        };
-        match stage {
-            Stage::Loading => {}
-            Stage::Signing => return Reply::NotNow,
-            Stage::Fresh => return Reply::NotNow,
-            Stage::Queued => return Reply::NotNow,
-        }
-        match self.judge(place, found, expires_in, now) {
-            Judged::Absent => Reply::NotNow,
-            Judged::Serves => {
-                if answers >= u32::MAX {
-                    return Reply::OutOfMemory;
-                }
-                let kept = match found.try_clone(self.alloc) {
-                    Ok(kept) => kept,
-                    Err(_) => return Reply::OutOfMemory,
-                };
-                let given = match found.try_clone(self.alloc) {
-                    Ok(given) => given,
-                    Err(_) => return Reply::OutOfMemory,
-                };
-                self.store(place, kept);
-                self.answer(call);
-                Reply::Sign {
-                    credential: given,
-                    wake: None,
-                }
-            }
-            Judged::Fails(why) => {
-                let kept = match found.try_clone(self.alloc) {
-                    Ok(kept) => kept,
-                    Err(_) => return Reply::OutOfMemory,
-                };
-                self.store(place, kept);
-                self.end_call(call);
-                Reply::Refused { why, wake: None }
-            }
-        }
-    }
-
-    /// One event.
-    pub fn step(&mut self, event: &Event<K>) -> Reply<K>
-        requires { IsBuilt self.old event.now }
-        ensures moves { Moves (policy_of K.valid K.valid_at D.deadline) self.old event.now result self.new }
-        ensures setup { setup_of self.new ≡ setup_of self.old }
-        ensures unchanged { UnchangedBy result self.old self.new }
-        ensures one { AtMostOne self.old.calls }
-    {
-        let _ = &self.alloc;
-        match event {
-            Event::Begin {
-                call,
-                head,
-                expires_in,
-            } => self.begin(*call, head, *expires_in),
-            Event::Poll { call, now } => self.poll(*call, *now),
-            Event::Signed { call, answer } => match answer {
-                Verdict::Accepted(candidate) => self.accept(*call, candidate),
-                Verdict::Failed(_) => unreachable!(),
-            },
-            Event::Provided { call, now, answer } => match answer {
-                Answer::Found(found) => self.found(*call, *now, found),
-                Answer::Missing => unreachable!(),
-                Answer::Failed(_) => unreachable!(),
-            },
-            Event::Cancel { .. } => unreachable!(),
-        }
-    }
-}
-
-/// The begun head with the candidate's URI and headers.
-fn done_head(alloc: Global, begun: &Head, candidate: &Head) -> Result<Head, NoMemory<()>>
-    ensures { IfOk result (λ h. h ≡ record begun.now { uri = candidate.now.uri; headers = candidate.now.headers }) }
-{
-    Ok(Head {
-        method: begun.method.try_clone(alloc)?,
-        uri: candidate.uri.try_clone(alloc)?,
-        version: begun.version,
-        headers: candidate.headers.try_clone(alloc)?,
-    })
 }

@@ -119,6 +119,7 @@ impl WaitLock {
         ensures waiters { self.new.waiters ≡ (if is_held_by id self.old then drop 1 self.old.waiters else filter (λ other. not (same_call other id)) self.old.waiters) }
         ensures line { line self.new ≡ filter (λ other. not (same_call other id)) (line self.old) }
         ensures absent { result ≡ Left.Absent → self.new ≡ self.old }
+        ensures lock { IsLock self.old }
         ensures spare { self.old.spare ≤ self.new.spare }
     {
         if self.is_held_by(id) {

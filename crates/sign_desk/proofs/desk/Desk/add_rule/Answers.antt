@@ -1,4 +1,4 @@
-use Rattle.std.proofs.Common.{arith, ◌≡◌, false, []}
+use Rattle.std.proofs.Common.{◌≡◌, false, []}
 use Rattle.sequential_signer.specs.Policy.{policy_of}
 use Rattle.sign_desk.specs.Kept.{Kept, Represents}
 use Rattle.sign_desk.specs.Adding.{with_rule}

@@ -1,0 +1,53 @@
+-- What a begin that is taken in relies on, and what it leaves where it is not.
+use Rattle.std.proofs.Common.{◌≡◌, ℕ, zero, suc, ◌<◌, ◌+◌, ◌-◌, true, List, [], ◌∷◌, Option, Some, None, is_some, option_map, slice_get, length, IfSome, refl, ◌∙◌, ap, arith}
+use Rattle.wake_lock.specs.declared.CallId.{CallId}
+use Rattle.sequential_signer.specs.Setup.{Handle}
+use Rattle.sequential_signer.proofs.CallNames.{and_left, and_right}
+use Rattle.sign_desk.specs.Queue.{Queue, expected, passed, changed_at}
+use Rattle.sign_desk.specs.Kept.{Kept}
+use Rattle.sign_desk.specs.Sound.{HasPlaces}
+use Rattle.sign_desk.specs.Moves.{with_queue, begin_fits_kept, is_new_at, cache_at}
+use Rattle.sign_desk.proofs.ChangedAt.{changed-same, changed-undone}
+use Rattle.sign_desk.proofs.Sounds.{below}
+
+changed-length : {A : Type 0} (f : A → A) (i : ℕ) (xs : List A) → length (changed_at f i xs) ≡ length xs
+changed-length f i [] = refl
+changed-length f zero (x ∷ xs) = refl
+changed-length f (suc i) (x ∷ xs) = let h : length (changed_at f i xs) ≡ length xs = changed-length f i xs in omega (arith, h)
+
+given_back : (q : Queue) → passed (expected q) ≡ q
+given_back q = ap (λ (n : ℕ). let r : Queue = record { line = q.line; unpolled = n } in r) (back q.unpolled)
+  where
+    back : (n : ℕ) → n + 1 - 1 ≡ n
+    back n = omega arith
+
+counted_by : (o : Option Queue) → IfSome (option_map expected o) (λ (q : Queue). 0 < q.unpolled)
+counted_by None = tt
+counted_by (Some q) = omega arith
+
+some_new : (n : ℕ) (o : Option (Option ℕ)) → is_new_at n o ≡ true → is_some o ≡ true
+some_new n None h = cc
+some_new n (Some x) h = refl
+
+module _ {K D : Type 0} (old : Kept K D) (i : ℕ) where
+  pub expected-there : (k mid : Kept K D) → k ≡ mid → mid ≡ with_queue expected i old → i < length old.queues → i < length k.queues
+  expected-there k mid e f h = rw (e, f, changed-length expected i old.queues) h
+
+  pub expected-counted : (k mid : Kept K D) → k ≡ mid → mid ≡ with_queue expected i old → IfSome (slice_get k.queues i) (λ (q : Queue). 0 < q.unpolled)
+  expected-counted k mid e f = rw (e, f, changed-same expected old.queues i) (counted_by (slice_get old.queues i))
+
+  pub expected-undone : (new k mid : Kept K D) → new ≡ with_queue passed i k → k ≡ mid → mid ≡ with_queue expected i old → new ≡ old
+  expected-undone new k mid n e f = n ∙ ap (λ (x : Kept K D). with_queue passed i x) (e ∙ f) ∙ ap (λ (qs : List Queue). let r : Kept K D = record old { queues = qs } in r) (changed-undone expected passed old.queues i given_back)
+
+module _ {K D : Type 0} (old : Kept K D) where
+  -- a begin that fits has a place for its number
+  pub numbered : (call : CallId) → begin_fits_kept old call ≡ true → call.handle < length old.greatest
+  numbered call h = below old.greatest call.handle (some_new call.number (slice_get old.greatest call.handle) (and_right _ _ h))
+
+  queued_by : (o : Option Handle) → is_some o ≡ true → IfSome o (HasPlaces old) → cache_at o < length old.queues
+  queued_by None s p = absurd (cc)
+  queued_by (Some h) s p = p.queue
+
+  -- and a queue for its call
+  pub queued : (call : CallId) → begin_fits_kept old call ≡ true → IfSome (slice_get old.handles call.handle) (HasPlaces old) → cache_at (slice_get old.handles call.handle) < length old.queues
+  queued call h p = queued_by (slice_get old.handles call.handle) (and_left _ _ h) p

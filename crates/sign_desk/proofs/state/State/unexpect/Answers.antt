@@ -1,0 +1,14 @@
+use Rattle.std.proofs.Common.{◌∙◌, ap, length, ◌<◌, List}
+use Rattle.sign_desk.specs.Kept.{Kept}
+use Rattle.sign_desk.specs.Queue.{Queue, passed}
+use Rattle.sign_desk.specs.Moves.{with_queue}
+use Rattle.sign_desk.specs.StateView.{state_view}
+use Rattle.sign_desk.proofs.ChangedAt.{write-changed}
+use Rattle.sign_desk.proofs.state.State.unexpect.Goals as goal
+
+pub returns : goal.returns
+returns g c =
+    let there : c.args.cache < length c.self.inside.queues.items = rw (ap (λ (k : Kept g.row.K.Denot g.row.D.Denot). length k.queues) c.self.view_is) c.requires.there in
+    ap (λ (qs : List Queue). let k : Kept g.row.K.Denot g.row.D.Denot = record (state_view c.self.inside) { queues = qs } in k)
+    (write-changed passed c.self.inside.queues.items c.args.cache c.pass.new.self c.index_mut.result.now there c.index_mut.ensures.value c.pass.ensures)
+    ∙ ap (λ (k : Kept g.row.K.Denot g.row.D.Denot). with_queue passed c.args.cache k) c.self.view_is

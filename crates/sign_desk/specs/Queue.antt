@@ -1,0 +1,66 @@
+-- The queue of a cache: the calls that hold and wait, and the number of those that were begun and not polled.
+use Rattle.std.specs.Prelude.{ℕ, zero, suc, ◌+◌, ◌-◌, Bool, true, false, not, List, [], ◌∷◌, ◌++◌, Option, Some, None, filter, slice_get, if◌then◌else◌}
+use Rattle.std.specs.List.{list_any}
+use Rattle.wake_lock.specs.declared.CallId.{CallId}
+use Rattle.sequential_signer.specs.Transcript.{same_call}
+
+-- the call that holds, then the calls that wait; and how many calls may still come
+pub record Queue : Type 0 where
+  pub line : List CallId
+  pub unpolled : ℕ
+
+-- whether the call is in the line
+abbrev pub is_among : CallId → List CallId → Bool
+is_among call line = list_any (same_call call) line
+
+-- whether the call is the first of the line
+abbrev pub is_first : CallId → List CallId → Bool
+is_first call [] = false
+is_first call (x ∷ rest) = same_call call x
+
+abbrev pub is_held_line : List CallId → Bool
+is_held_line [] = false
+is_held_line (x ∷ rest) = true
+
+-- whether a call holds
+abbrev pub is_held : Queue → Bool
+is_held queue = is_held_line queue.line
+
+abbrev pub first_of : List CallId → Option CallId
+first_of [] = None
+first_of (x ∷ rest) = Some x
+
+-- the call that gets its turn where this call leaves: the second of the line, where this one is the first
+abbrev pub woken : CallId → List CallId → Option CallId
+woken call [] = None
+woken call (x ∷ rest) = if same_call call x then first_of rest else None
+
+-- one more call may come
+abbrev pub expected : Queue → Queue
+expected queue = record queue { unpolled = queue.unpolled + 1 }
+
+-- the call came, and stands behind all others
+abbrev pub entered : CallId → Queue → Queue
+entered call queue = record { line = queue.line ++ call ∷ []; unpolled = queue.unpolled - 1 }
+
+-- a call came that takes no place
+abbrev pub passed : Queue → Queue
+passed queue = record queue { unpolled = queue.unpolled - 1 }
+
+-- the call is out of the line
+abbrev pub left : CallId → Queue → Queue
+left call queue = record queue { line = filter (λ other. not (same_call other call)) queue.line }
+
+-- a list where the item at this place changed
+abbrev pub changed_at : {A : Type 0} → (A → A) → ℕ → List A → List A
+changed_at change i [] = []
+changed_at change zero (x ∷ rest) = change x ∷ rest
+changed_at change (suc i) (x ∷ rest) = x ∷ changed_at change i rest
+
+abbrev pub line_of : Option Queue → List CallId
+line_of None = []
+line_of (Some queue) = queue.line
+
+-- the line of cache i
+abbrev pub line_at : ℕ → List Queue → List CallId
+line_at i queues = line_of (slice_get queues i)
