@@ -2,6 +2,7 @@
 //! plain ones.
 #![tactic(auto)]
 
+mod decode;
 mod fields;
 mod headers;
 pub mod laws;

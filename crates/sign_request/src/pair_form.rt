@@ -4,7 +4,7 @@ ghost use Rattle.sign_request.specs.Query.{text_pair, text_pairs};
 ghost use Rattle.sign_request.specs.CanonicalText.{joined};
 ghost use Rattle.sign_request.specs.PairForm.{written};
 
-use crate::query::decode;
+use crate::decode::decode;
 use std::alloc::{AllocError, Global};
 
 /// How a pair is written.

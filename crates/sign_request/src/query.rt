@@ -1,8 +1,8 @@
 //! Reading a query into pairs, for a view and for the test that it still fits its head.
-ghost use Rattle.std.specs.Prelude.{◌≡◌, ◌↔◌, IfOk, IsTrue, string_bytes};
-ghost use Rattle.sign_request.specs.Query.{decoded, read_pair, query_pairs, text_pair, text_pairs};
+ghost use Rattle.std.specs.Prelude.{◌≡◌, ◌↔◌, IfOk, IsTrue};
+ghost use Rattle.sign_request.specs.Query.{read_pair, query_pairs, text_pair, text_pairs};
 
-use percent_encoding::percent_decode_str;
+use crate::decode::decode;
 use std::alloc::{AllocError, Global};
 
 /// The pairs of a query, in order: cut at each `&`, without empty pieces.
@@ -30,15 +30,7 @@ fn read_pair(alloc: Global, piece: &str) -> Result<(String, String), AllocError>
     ensures { IfOk result (λ pair. text_pair pair ≡ read_pair piece.now) }
 {
     let (key, value) = piece.split_once('=').unwrap_or((piece, ""));
-    Ok((decode(alloc, key)?, decode(alloc, value)?))
-}
-
-/// The text decoded once, with U+FFFD for each sequence that is not UTF-8.
-#[tactic(auto, unfolding(crate::specs::Query::decoded))]
-pub(crate) fn decode(alloc: Global, text: &str) -> Result<String, AllocError>
-    ensures { IfOk result (λ plain. string_bytes plain ≡ decoded text.now) }
-{
-    percent_decode_str(text)
-        .decode_utf8_lossy(alloc)?
-        .into_owned(alloc)
+    let key = decode(alloc, key)?.into_owned(alloc)?;
+    let value = decode(alloc, value)?.into_owned(alloc)?;
+    Ok((key, value))
 }

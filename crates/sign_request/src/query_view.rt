@@ -7,8 +7,8 @@ ghost use Rattle.std.specs.List.{AllZip, items_where_true};
 ghost use Rattle.sign_request.specs.Query.{decoded, text_pairs, query_length};
 
 use crate::SigningRequest;
+use crate::decode::decode;
 use crate::pair::push_texts;
-use percent_encoding::percent_decode_str;
 use sign_base::NoMemory;
 use std::alloc::Global;
 use std::borrow::CowStr;
@@ -69,13 +69,9 @@ impl SigningRequest {
 
     /// The whole path decoded once, with U+FFFD for each sequence that is not UTF-8. An escaped
     /// slash becomes a slash, so where slashes are data a service decodes each segment on its own.
-    #[tactic(auto, unfolding(crate::specs::Query::decoded))]
     pub fn path_percent_decoded(&self) -> Result<CowStr<'_, Global>, NoMemory<()>>
         ensures { IfOk result (λ path. cow_str_bytes path ≡ decoded (string_bytes self.now.path)) }
     {
-        let path = percent_decode_str(self.path.as_str()).decode_utf8_lossy(
-            *self.path.allocator(),
-        )?;
-        Ok(path)
+        Ok(decode(*self.path.allocator(), self.path.as_str())?)
     }
 }
