@@ -1,11 +1,11 @@
 -- Scripts at the bounds: deadlines out of range, and events that do not fit.
 use Rattle.std.specs.Prelude.{ℕ, List, [], ◌∷◌, Some, None}
 use Rattle.sequential_signer.specs.declared.event.Entry.{Entry}
-use Rattle.sequential_signer.specs.declared.event.Reply.TheVariants.{Begun, NotNow, Ask}
+use Rattle.sequential_signer.specs.declared.event.Reply.TheVariants.{Begun, Pending, NotNow, Ask}
 use Rattle.sequential_signer.specs.declared.event.Why.{Why}
 use Rattle.sequential_signer.specs.declared.event.Why.TheVariants.{Short, Range}
 use Rattle.worked_scripts.specs.Script.{Credential, Now, at}
-use Rattle.worked_scripts.specs.Words.{◌gets◌, credential, begin, begin_for, poll, found, accept, cancel, plain_head, sign, refused, cancelled, one_cache, IsWorked}
+use Rattle.worked_scripts.specs.Words.{◌gets◌, credential, begin, begin_for, poll, found, accept, cancel, plain_head, sign, refused, refused_wake, cancelled, one_cache, IsWorked}
 
 -- the greatest number of seconds that a duration has
 abbrev pub longest : ℕ
@@ -26,6 +26,18 @@ DeadlineOutOfRangeIsRefused =
     ∷ poll 0 2 600 gets sign seven
     ∷ begin_for 0 3 longest gets Begun
     ∷ poll 0 3 600 gets refused Range
+    ∷ []) (Some seven ∷ [])
+
+-- while another call waits, such a refusal wakes it, and it is handed what was found
+abbrev pub RefusalForTheRangeWakesTheNext : Type 0
+RefusalForTheRangeWakesTheNext =
+    IsWorked (one_cache Now) (
+    begin_for 0 1 longest gets Begun
+    ∷ begin 0 2 gets Begun
+    ∷ poll 0 1 5 gets Ask 0
+    ∷ poll 0 2 5 gets Pending
+    ∷ found 0 1 6 seven gets refused_wake Range 0 2
+    ∷ poll 0 2 7 gets sign seven
     ∷ []) (Some seven ∷ [])
 
 -- an operation of so many seconds, whose credential is found at second 501, and why it is refused

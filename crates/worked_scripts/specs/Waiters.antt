@@ -2,9 +2,9 @@
 use Rattle.std.specs.Prelude.{List, [], ◌∷◌, ◌++◌, Some, None}
 use Rattle.sequential_signer.specs.declared.event.Entry.{Entry}
 use Rattle.sequential_signer.specs.declared.event.Reply.TheVariants.{Begun, Pending, Ask}
-use Rattle.sequential_signer.specs.declared.event.Why.TheVariants.{Loader}
-use Rattle.worked_scripts.specs.Script.{Credential, Now}
-use Rattle.worked_scripts.specs.Words.{◌gets◌, credential, begin, poll, found, failed, cancel, sign, sign_wake, refused_wake, cancelled, cancelled_wake, one_cache, IsWorked}
+use Rattle.sequential_signer.specs.declared.event.Why.TheVariants.{Missing, Short, Loader}
+use Rattle.worked_scripts.specs.Script.{Credential, Now, at}
+use Rattle.worked_scripts.specs.Words.{◌gets◌, credential, begin, poll, found, missing, failed, cancel, sign, sign_wake, refused_wake, cancelled, cancelled_wake, one_cache, IsWorked}
 
 -- what the provider finds
 abbrev pub one : Credential
@@ -72,3 +72,31 @@ FirstPollsSetTheOrder =
     ∷ poll 0 2 5 gets Ask 0
     ∷ poll 0 1 5 gets Pending
     ∷ []) (None ∷ [])
+
+-- a woken call that was not polled yet keeps its turn: a call that is polled for the first time now waits behind it
+abbrev pub WokenCallKeepsItsTurn : Type 0
+WokenCallKeepsItsTurn =
+    IsWorked (one_cache Now) (two_wait
+    ++ found 0 1 6 one gets sign_wake one 0 2
+    ∷ begin 0 4 gets Begun
+    ∷ poll 0 4 7 gets Pending
+    ∷ cancel 0 2 gets cancelled_wake 0 3
+    ∷ poll 0 3 8 gets sign_wake one 0 4
+    ∷ poll 0 4 9 gets sign one
+    ∷ []) (Some one ∷ [])
+
+-- one that expires at the moment of its answer
+abbrev pub expiring : Credential
+expiring = credential 2 900 6 0
+
+-- each refusal of a load wakes the next call: a miss, and a credential that does not last
+abbrev pub EachRefusalWakesTheNext : Type 0
+EachRefusalWakesTheNext =
+    IsWorked (one_cache Now) (two_wait
+    ++ missing 0 1 6 gets refused_wake Missing 0 2
+    ∷ poll 0 2 7 gets Ask 0
+    ∷ []) (None ∷ [])
+    × IsWorked (one_cache Now) (two_wait
+    ++ found 0 1 6 expiring gets refused_wake (Short (at 6)) 0 2
+    ∷ poll 0 2 7 gets Ask 0
+    ∷ []) (Some expiring ∷ [])

@@ -1,6 +1,6 @@
 //! Three calls that want one cache.
 
-ghost use Rattle.worked_scripts.specs.Waiters.{WaitersReuseTheFoundCredential, FailedLoadWakesTheNext, CancelledLoadWakesTheNext, CancelledTurnWakesTheNext, CancelledWaiterIsPassedOver, FirstPollsSetTheOrder};
+ghost use Rattle.worked_scripts.specs.Waiters.{WaitersReuseTheFoundCredential, FailedLoadWakesTheNext, CancelledLoadWakesTheNext, CancelledTurnWakesTheNext, CancelledWaiterIsPassedOver, FirstPollsSetTheOrder, WokenCallKeepsItsTurn, EachRefusalWakesTheNext};
 
 /// Each waiter is handed what the first call found.
 pub fn waiters_reuse_the_found_credential()
@@ -30,4 +30,14 @@ pub fn cancelled_waiter_is_passed_over()
 /// The order of first polls counts, and not that of begins.
 pub fn first_polls_set_the_order()
     ensures { FirstPollsSetTheOrder }
+{}
+
+/// A woken call that was not polled yet keeps its turn.
+pub fn woken_call_keeps_its_turn()
+    ensures { WokenCallKeepsItsTurn }
+{}
+
+/// Each refusal of a load wakes the next call.
+pub fn each_refusal_wakes_the_next()
+    ensures { EachRefusalWakesTheNext }
 {}
