@@ -1,5 +1,5 @@
 -- Texts that grow at their end.
-use Rattle.std.proofs.Common.{◌≡◌, ℕ, List, [], ◌∷◌, ◌++◌, refl, sym, ap, ◌∙◌, append_assoc, append-nil}
+use Rattle.std.proofs.Common.{◌≡◌, ℕ, List, [], ◌++◌, sym, ap, ◌∙◌, append_assoc, append-nil}
 use Rattle.signctl_format.specs.Lines.{Grows}
 
 pub grows_then : (a b c : List ℕ) → Grows a b → Grows b c → Grows a c

@@ -1,5 +1,5 @@
 -- What a line says: the grammar as a function.
-use Rattle.std.specs.Prelude.{◌≡◌, ℕ, ℤ, List, [], ◌∷◌, Option, Some, None, if◌then◌else◌, codes}
+use Rattle.std.specs.Prelude.{ℕ, ℤ, List, [], ◌∷◌, Option, Some, None, if◌then◌else◌, codes}
 use Rattle.std.specs.Str.{bytes_eq}
 use Rattle.sign_base.specs.declared.head.Field.{Field}
 use Rattle.sign_base.specs.declared.head.Head.{Head}

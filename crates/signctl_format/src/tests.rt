@@ -211,15 +211,18 @@ fn a_number_of_thousands_of_digits_is_refused(rt: HostRuntime) -> Result<(), Fai
     Ok(())
 }
 
-#[test]
-fn replies_are_printed(rt: HostRuntime) -> Result<(), Fail> {
-    let moment = Timestamp::from_nanos(900_000_000_000).ok_or("a moment")?;
-    let credential = ScriptCredential {
-        generation: 7,
+fn credential(generation: u64, moment: Timestamp) -> ScriptCredential {
+    ScriptCredential {
+        generation,
         fresh: moment,
         expires: moment,
         required: moment,
-    };
+    }
+}
+
+#[test]
+fn replies_are_printed(rt: HostRuntime) -> Result<(), Fail> {
+    let moment = Timestamp::from_nanos(900_000_000_000).ok_or("a moment")?;
     let wake = Some(CallId {
         handle: 0,
         number: 2,
@@ -231,12 +234,18 @@ fn replies_are_printed(rt: HostRuntime) -> Result<(), Fail> {
         (Reply::Ask { provider: 3 }, "ask 3"),
         (
             Reply::Sign {
-                credential,
+                credential: credential(7, moment),
                 wake: None,
             },
             "sign 7",
         ),
-        (Reply::Sign { credential, wake }, "sign 7 wake 0 2"),
+        (
+            Reply::Sign {
+                credential: credential(7, moment),
+                wake,
+            },
+            "sign 7 wake 0 2",
+        ),
         (
             Reply::Refused {
                 why: Why::Missing,
@@ -285,12 +294,7 @@ fn replies_are_printed(rt: HostRuntime) -> Result<(), Fail> {
 #[test]
 fn other_lines_are_printed(rt: HostRuntime) -> Result<(), Fail> {
     let moment = Timestamp::from_nanos(600_000_000_000).ok_or("a moment")?;
-    let credential = ScriptCredential {
-        generation: 18_446_744_073_709_551_615,
-        fresh: moment,
-        expires: moment,
-        required: moment,
-    };
+    let credential = credential(18_446_744_073_709_551_615, moment);
     let mut text = Vec::new(rt.alloc());
     push_cache(&mut text, 0).ok().ok_or("memory")?;
     push(&mut text, b"\n").ok().ok_or("memory")?;
