@@ -14,3 +14,4 @@ pub mod RefineStep
 pub mod IsSetUp
 pub mod Fresh
 pub mod Holds
+pub mod Pairs

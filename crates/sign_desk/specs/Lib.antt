@@ -6,6 +6,7 @@ pub mod StateView
 pub mod Adding
 pub mod IsDesk
 pub mod Sound
+pub mod Paired
 pub mod Moves
 pub mod LookSays
 pub mod JudgeSays

@@ -1,5 +1,5 @@
 //! The desk: one reply to each event.
-ghost use Rattle.std.specs.Prelude.{◌≡◌, ◌<◌, ◌++◌, ◌∷◌, [], List, true, not, OnOk, OnErr, IfErr, length, option_map, option_and_then, option_copied, slice_get};
+ghost use Rattle.std.specs.Prelude.{◌≡◌, ◌<◌, ◌++◌, ◌∷◌, [], List, true, not, OnOk, OnErr, IfOk, IfErr, length, option_map, option_and_then, option_copied, slice_get};
 
 use crate::adding::{AddError, AddRefused};
 use crate::state::State;
@@ -7,6 +7,10 @@ use credentials::{DeadlineRule, SigningCredential};
 use sequential_signer::{Event, Loader, Reply};
 use std::alloc::Global;
 use std::marker::Model;
+
+/// Memory was wanting for the replies of a run. No event was taken, and the desk is as it was.
+#[derive(Clone, Copy, Debug, Drop, PartialEq, Eq)]
+pub struct RunError;
 
 /// The core of the signer.
 #[derive(Drop)]
@@ -31,6 +35,7 @@ impl<K: SigningCredential, D: DeadlineRule<Credential = K>> Desk<K, D> {
     ghost use Rattle.sign_desk.specs.Kept.{Represents, setup_of, was_begun};
     ghost use Rattle.sign_desk.specs.Adding.{late, handle_refusal, AddAnswer, AddAnswerBack, with_cache, with_rule, with_handle};
     ghost use Rattle.sign_desk.specs.Moves.{UnchangedBy};
+    ghost use Rattle.sign_desk.specs.Paired.{paired};
     ghost use Rattle.sequential_signer.specs.declared.event.Entry.{Entry};
     ghost use Rattle.sequential_signer.specs.Policy.{policy_of};
     ghost use Rattle.sequential_signer.specs.Transcript.{kept};
@@ -187,5 +192,23 @@ impl<K: SigningCredential, D: DeadlineRule<Credential = K>> Desk<K, D> {
         ensures unchanged { UnchangedBy result self.old self.new }
     {
         self.state.step(event)
+    }
+
+    /// The replies of `step` to each event in order. Their room is taken before the first event.
+    pub fn run(&mut self, events: &[Event<K>]) -> Result<Vec<Reply<K>>, RunError>
+        ensures replies { IfOk result (λ replies. length replies.items ≡ length events.now) }
+        ensures represents { IfOk result (λ replies. (entries : List (Entry K)) → Represents (policy_of K.valid K.valid_at D.deadline) self.old entries
+            → Represents (policy_of K.valid K.valid_at D.deadline) self.new (entries ++ paired events.now replies.items)) }
+        ensures setup { setup_of self.new ≡ setup_of self.old }
+        ensures unchanged { OnErr result (self.new ≡ self.old) }
+    {
+        let Ok(mut replies) = Vec::with_capacity(self.state.allocator(), events.len()) else {
+            return Err(RunError);
+        };
+        for event in events {
+            let reply = self.step(event);
+            replies.push_reserved(reply);
+        }
+        Ok(replies)
     }
 }

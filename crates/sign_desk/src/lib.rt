@@ -13,5 +13,5 @@ mod state;
 mod step;
 
 pub use adding::{AddError, AddRefused};
-pub use desk::Desk;
+pub use desk::{Desk, RunError};
 pub use sequential_signer::{Answer, Entry, Event, Loader, Reply, Verdict, Why};

@@ -1,0 +1,25 @@
+use Rattle.std.proofs.Common.{◌≡◌, ◌∙◌, ◌<◌, ◌+◌, ◌++◌, ◌∷◌, [], List, ap, sym, length, take, subst, arith}
+use Rattle.std.proofs.lemmas.List.{take_more, length-append, length-take}
+use Rattle.sequential_signer.specs.Policy.{policy_of}
+use Rattle.sequential_signer.specs.declared.event.Entry.{Entry}
+use Rattle.sequential_signer.specs.declared.event.Event.{Event}
+use Rattle.sequential_signer.specs.declared.event.Reply.{Reply}
+use Rattle.sign_desk.specs.Kept.{Represents}
+use Rattle.sign_desk.specs.Paired.{paired}
+use Rattle.sign_desk.proofs.Pairs.{paired-append}
+use Rattle.sign_desk.proofs.desk.Desk.run.Goals as goal
+
+pub loop-event-preserved : goal.loop-event-preserved
+loop-event-preserved g c =
+    let within : c.loop-event.event-index < length c.args.events.now = c.loop-event-test.true in
+    let taken : take (c.loop-event.event-index + 1) c.args.events.now ≡ take c.loop-event.event-index c.args.events.now ++ c.event-item.result ∷ [] =
+    take_more c.args.events.now c.loop-event.event-index c.event-item.result within ∙ ap (λ (x : Event g.row.K.Denot). take c.loop-event.event-index c.args.events.now ++ x ∷ []) (sym c.event-item.is) in
+    let count : length c.loop-event.replies.items ≡ length (take c.loop-event.event-index c.args.events.now) = omega (arith, c.loop-event.invariant.count, length-take c.loop-event.event-index c.args.events.now) in
+    record {
+      count = rw (c.push_reserved.ensures.items, length-append) (omega (arith, c.loop-event.invariant.count));
+      room = omega arith;
+      setup = c.step-reply.ensures.setup ∙ c.loop-event.invariant.setup;
+      represents = λ entries stood.
+          rw (taken, c.push_reserved.ensures.items, sym (paired-append entries (take c.loop-event.event-index c.args.events.now) c.loop-event.replies.items c.event-item.result c.step-reply.result count))
+          (c.step-reply.ensures.represents (entries ++ paired (take c.loop-event.event-index c.args.events.now) c.loop-event.replies.items) (c.loop-event.invariant.represents entries stood));
+    }

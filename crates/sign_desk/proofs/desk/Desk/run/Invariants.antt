@@ -1,0 +1,16 @@
+use Rattle.std.proofs.Common.{◌≡◌, ◌≤◌, ◌++◌, List, length, take, vec_len, vec_capacity}
+use Rattle.sequential_signer.specs.Policy.{policy_of}
+use Rattle.sequential_signer.specs.declared.event.Entry.{Entry}
+use Rattle.sign_desk.specs.Kept.{Represents, setup_of}
+use Rattle.sign_desk.specs.Paired.{paired}
+use Rattle.sign_desk.proofs.desk.Desk.run.Given as goal
+
+-- so far the replies stand beside the events, and there is room for the rest
+abbrev pub invariant-loop-event : goal.invariant-loop-event
+invariant-loop-event g l = record {
+  count : length l.replies.items ≡ l.event-index;
+  room : length l.events ≤ vec_capacity l.replies;
+  setup : setup_of l.self ≡ setup_of l.initial.self;
+  represents : (entries : List (Entry g.row.K.Denot)) → Represents (policy_of g.K.SigningCredential.valid g.K.SigningCredential.valid_at g.D.DeadlineRule.deadline) l.initial.self entries
+      → Represents (policy_of g.K.SigningCredential.valid g.K.SigningCredential.valid_at g.D.DeadlineRule.deadline) l.self (entries ++ paired (take l.event-index l.events) l.replies.items);
+}
