@@ -1,6 +1,5 @@
 -- Fields that a header map takes, one after another.
 use Rattle.std.proofs.Common.{◌≡◌, ℕ, ◌+◌, ◌<◌, ◌⊎◌, inl, inr, List, [], ◌∷◌, ◌++◌, length, map, take, drop, get_or, refl, sym, ◌∙◌, ap, subst, arith}
-use Rattle.std.specs.List.{fold}
 use Rattle.std.proofs.lemmas.List.{length-append, map-append, take-append-drop, drop_more, take_more}
 use Rattle.std.proofs.lemmas.List.Sums.{fold-append}
 use Rattle.http_header.specs.FieldValue.{FieldValue, plain_value}

@@ -1,7 +1,7 @@
 -- A clone of a header map is the map.
-use Rattle.std.proofs.Common.{◌≡◌, List, [], ◌∷◌, refl}
-use Rattle.std.specs.List.{AllZip, each_same}
-use Rattle.http_header.specs.HeaderMap.{Entries, Entry, IsMapClone}
+use Rattle.std.proofs.Common.{◌≡◌, [], ◌∷◌, refl}
+use Rattle.std.specs.List.{each_same}
+use Rattle.http_header.specs.HeaderMap.{Entries, IsMapClone}
 
 pub clone_is_map : {X : Type 0} (m copy : Entries X) → IsMapClone (λ v w. w ≡ v) m copy → copy ≡ m
 clone_is_map [] [] h = refl

@@ -1,5 +1,5 @@
 -- What passes a test that was asked of each element.
-use Rattle.std.proofs.Common.{◌≡◌, Bool, true, false, List, [], ◌∷◌, ◌++◌, length, refl, ap}
+use Rattle.std.proofs.Common.{◌≡◌, Bool, true, false, List, [], ◌∷◌, ◌++◌, refl, ap}
 use Rattle.std.specs.List.{AllZip, items_where_true}
 
 module _ {X : Type 0} (R : X → Bool → Type 0) where

@@ -1,6 +1,6 @@
 -- A query with every byte escaped is read back.
-use Rattle.std.proofs.Common.{◌≡◌, ℕ, ◌+◌, ◌*◌, ◌/◌, ◌%◌, ◌<◌, ◌≤◌, ◌⊎◌, inl, inr, Bool, true, false, not, ltb, ◌==◌, List, [], ◌∷◌, ◌++◌, length, get_or, map, filter, take, drop, refl, sym, ◌∙◌, ap, subst, All, IsUtf8, append_assoc, arith}
-use Rattle.std.specs.List.{AllByRecursion, slice_split, before_first, after_first, position_or_len, prefix_len, flat_map}
+use Rattle.std.proofs.Common.{◌≡◌, ℕ, ◌+◌, ◌<◌, inl, inr, Bool, true, false, not, ltb, ◌==◌, List, [], ◌∷◌, ◌++◌, length, map, filter, take, drop, refl, sym, ◌∙◌, ap, subst, All, IsUtf8, arith}
+use Rattle.std.specs.List.{AllByRecursion, slice_split, before_first, after_first, position_or_len}
 use Rattle.std.specs.Str.Lossy.{utf8_lossy}
 use Rattle.std.proofs.lemmas.Bool.{cond_both, and_parts, ltb-true}
 use Rattle.std.proofs.lemmas.List.{take_at, drop_at, drop-drop, length-append}
@@ -8,14 +8,12 @@ use Rattle.std.proofs.Math.Seq.{append_snoc}
 use Rattle.std.proofs.lemmas.Bool.Decides.{nat_tests}
 use Rattle.std.proofs.lemmas.List.Elements.{All-nil, All-from_recursion, All-cons, All-append, All-weaker, All-head, All-tail}
 use Rattle.std.proofs.lemmas.List.Splits.{slice_split_none, slice_split_at}
-use Rattle.std.proofs.lemmas.List.Sums.{prefix_len_is}
 use Rattle.std.proofs.lemmas.Str.{utf8_lossy-IsUtf8}
 use Rattle.percent_encoding.specs.Percent.{percent_encode_byte, percent_decode}
 use Rattle.percent_encoding.proofs.PercentLemmas.{IsByte, IsEscapeByte, All-percent_encode_byte, percent_decode-nil, percent_decode-percent_encode_byte}
 use Rattle.sign_request.specs.Query.{Pair, decoded, is_ampersand, is_equals_sign, query_pieces, read_pair, query_pairs}
-use Rattle.sign_request.specs.CanonicalText.{joined}
 use Rattle.sign_request.specs.Escaped.{escaped, escaped_pair, escaped_query, AreTexts}
-use lib.Utf8.{scalar, scalars, encode, encodes, scalar_fits, scalar_cases}
+use lib.Utf8.{scalar, scalars, encode, encodes, scalar_cases}
 
 -- ---- text is made of bytes
 encode_bytes : (c : ℕ) → c < 1114112 → AllByRecursion IsByte (encode c)

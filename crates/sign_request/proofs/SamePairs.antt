@@ -1,10 +1,10 @@
 -- The test of two lists of pairs, text by text.
-use Rattle.std.proofs.Common.{◌≡◌, Bool, true, ◌&&◌, List, [], ◌∷◌, map, length, refl, sym, ◌∙◌, ap, arith}
+use Rattle.std.proofs.Common.{◌≡◌, Bool, true, ◌&&◌, List, [], ◌∷◌, refl, ap}
 use Rattle.std.specs.Cmp.Lexicographic.{pointwise, bytes_decides}
 use Rattle.std.specs.String.{string_bytes, string_eq}
 use Rattle.std.specs.declared.string.String.{String}
 use Rattle.std.proofs.lemmas.Bool.{and_parts, and_from}
-use Rattle.sign_request.specs.Query.{Pair, text_pair, text_pairs}
+use Rattle.sign_request.specs.Query.{Pair, text_pairs}
 
 module _ {Z : Type 0} where
   -- the test of two pairs

@@ -1,5 +1,5 @@
 -- Texts that tie in their order are the same, so lists of texts and of pairs have one order.
-use Rattle.std.proofs.Common.{◌≡◌, List, [], ◌∷◌, ℕ, ◌+◌, refl, ap, ◌∙◌, sym, map, Bor, arith}
+use Rattle.std.proofs.Common.{◌≡◌, List, [], ◌∷◌, ℕ, ◌+◌, refl, ap, ◌∙◌, map, Bor, arith}
 use Rattle.std.specs.Cmp.{IsTotalOrder}
 use Rattle.std.specs.Cmp.Lexicographic.{nat_list_cmp_total, texts_ties, bytes_decides}
 use Rattle.std.specs.List.Sorted.{IsPermutation, IsSorted}

@@ -1,10 +1,10 @@
 -- Spaces at the ends of a value.
-use Rattle.std.proofs.Common.{◌≡◌, ◌≢◌, ◌+◌, ◌-◌, ◌<◌, ◌≤◌, ℕ, Bool, true, false, not, ◌||◌, List, [], ◌∷◌, length, take, drop, get_or, reverse, add-zero, refl, sym, ◌∙◌, ap, subst, inl, inr, nat_lt, slice_range, arith}
+use Rattle.std.proofs.Common.{◌≡◌, ◌+◌, ◌-◌, ◌<◌, ◌≤◌, ℕ, Bool, true, false, not, List, [], ◌∷◌, length, drop, get_or, reverse, add-zero, refl, sym, ◌∙◌, ap, inl, inr, nat_lt, slice_range, arith}
 use Rattle.std.specs.Cmp.{both_ways}
 use Rattle.std.specs.List.{list_any, prefix_len, suffix_len}
 use Rattle.std.proofs.lemmas.Bool.{cases_Bool, lt-ltb, ltb-true, ltb-false, le-ltb}
 use Rattle.std.proofs.lemmas.List.{take_all, length-reverse, get_or-reverse, get_or-take, get_or-drop, length-take, length-drop}
-use Rattle.std.proofs.lemmas.List.Sums.{prefix_len-le-length, prefix_len_passes, prefix_len_stops, prefix_len_is, suffix_len-le-length, suffix_len_is}
+use Rattle.std.proofs.lemmas.List.Sums.{prefix_len-le-length, prefix_len_passes, prefix_len_stops, prefix_len_is, suffix_len_is}
 use Rattle.sign_request.specs.Headers.{is_space, trimmed}
 
 module _ (p : ℕ → Bool) where

@@ -14,6 +14,8 @@ mod query_view;
 mod refusal;
 mod request;
 mod target;
+#[cfg(test)]
+mod tests;
 mod text;
 
 pub use plain_head::{commit, head_of, parts_of};

@@ -1,4 +1,4 @@
-use Rattle.std.proofs.Common.{◌≡◌, ap, ◌∙◌, sym, arith}
+use Rattle.std.proofs.Common.{ap, ◌∙◌, arith}
 use Rattle.std.proofs.lemmas.List.{take_all}
 use Rattle.sign_request.specs.Query.{text_pairs, query_length}
 use Rattle.sign_request.proofs.QuerySize.{query_length_more_le}

@@ -1,6 +1,5 @@
 use Rattle.std.proofs.Common.{◌≡◌, ◌++◌, ◌∷◌, [], ◌+◌, ◌∙◌, Bool, true, false, sym, ap, take, subst}
 use Rattle.std.specs.Fn.{FnReturnsAt}
-use Rattle.std.specs.List.{AllZip, items_where_true}
 use Rattle.std.proofs.lemmas.List.{take_more, map-append}
 use Rattle.std.proofs.lemmas.Slice.Zip.{all_zipped_more}
 use Rattle.sign_request.specs.Query.{Pair, text_pair, text_pairs}

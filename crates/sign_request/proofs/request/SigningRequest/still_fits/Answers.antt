@@ -1,4 +1,4 @@
-use Rattle.std.proofs.Common.{rules, ◌≡◌, ◌∙◌, sym, ap, Some}
+use Rattle.std.proofs.Common.{rules, ◌∙◌, sym}
 use Rattle.sign_request.proofs.request.SigningRequest.still_fits.Goals as goal
 
 pub returns : goal.returns
