@@ -4,3 +4,5 @@ pub mod Output
 pub mod Script
 pub mod ScriptOutput
 pub mod Standing
+pub mod Serving
+pub mod Run

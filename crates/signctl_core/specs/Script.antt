@@ -19,6 +19,11 @@ pub data Ending : Type 0 where
   End : Ending
   Fault : Ending
 
+-- the ending by whether all was read
+abbrev pub ending_by : Bool → Ending
+ending_by true = End
+ending_by false = Fault
+
 abbrev pub is_newline : ℕ → Bool
 is_newline b = b == 10
 

@@ -1,12 +1,10 @@
 -- What a script is answered: a function of its bytes.
-use Rattle.std.specs.Prelude.{ℕ, ◌+◌, List, [], ◌∷◌, ◌++◌, Option, Some, None, if◌then◌else◌, nat_lt, length, take, flat_map}
-use Rattle.std.specs.List.{enumerate_from}
+use Rattle.std.specs.Prelude.{ℕ, zero, suc, ◌+◌, List, [], ◌∷◌, ◌++◌, Option, Some, None, if◌then◌else◌, nat_lt, length, take, flat_map}
 use Rattle.sequential_signer.specs.Transcript.{each_after}
 use Rattle.sequential_signer.specs.ReplyDue.{reply_due}
 use Rattle.sequential_signer.specs.SequentialCache.{sequential_cache}
 use Rattle.sequential_signer.specs.Legal.{entries_due}
 use Rattle.sequential_signer.specs.declared.event.Entry.{Entry}
-use Rattle.sequential_signer.specs.declared.event.Loader.{Loader}
 use Rattle.signctl_format.specs.declared.credential.ScriptCredential.{ScriptCredential}
 use Rattle.signctl_format.specs.declared.item.Item.{Item}
 use Rattle.signctl_format.specs.declared.item.Item.TheVariants as item
@@ -37,14 +35,19 @@ answer_to before (item.Event event) =
 unfoldable pub answers_to : List Item → List ℕ
 answers_to items = flat_map (λ p. answer_to p.0 p.1) (each_after [] items)
 
--- what a cache holds in the end
-abbrev pub final_line_of : List Item → ℕ × Loader → List ℕ
-final_line_of items p =
-    ended (final_line p.0 (sequential_cache script_policy (setup_in items) (transcript_of items) p.0))
+-- the line that tells what a cache holds in the end
+abbrev pub final_line_of : List Item → ℕ → List ℕ
+final_line_of items i =
+    ended (final_line i (sequential_cache script_policy (setup_in items) (transcript_of items) i))
 
--- a line for each cache
-unfoldable pub final_lines : List Item → List ℕ
-final_lines items = flat_map (final_line_of items) (enumerate_from 0 (setup_in items).loaders)
+-- those of the first caches, in order
+unfoldable pub final_lines_of : List Item → ℕ → List ℕ
+final_lines_of items zero = []
+final_lines_of items (suc n) = final_lines_of items n ++ final_line_of items n
+
+-- one for each cache
+abbrev pub final_lines : List Item → List ℕ
+final_lines items = final_lines_of items (length (setup_in items).loaders)
 
 -- what comes behind the answers where no line is bad
 abbrev pub closing_lines : Ending → List Item → List ℕ

@@ -1,5 +1,5 @@
 -- What a session keeps of the lines that it has served.
-use Rattle.std.specs.Prelude.{◌≡◌, ℕ, ◌+◌, ◌++◌, ◌<◌, Bool, true, false, not, List, [], ◌∷◌, length}
+use Rattle.std.specs.Prelude.{◌≡◌, ℕ, ◌+◌, ◌++◌, ◌<◌, Bool, true, false, not, List, [], ◌∷◌, length, Result, Ok, Err}
 use Rattle.sign_desk.specs.Kept.{Kept, Represents, setup_of}
 use Rattle.sequential_signer.specs.declared.event.Event.{Event}
 use Rattle.signctl_format.specs.declared.credential.ScriptCredential.{ScriptCredential}
@@ -26,3 +26,20 @@ most_lines = 4294967294
 abbrev pub MayAnswer : Kept ScriptCredential ScriptRule → Bool → ℕ → Item → Type 0
 MayAnswer desk had_event lines item =
     (items : List Item) × StandsFor desk had_event lines items × (is_built items item ≡ true) × (lines < most_lines)
+
+abbrev pub StandsForSome : Kept ScriptCredential ScriptRule → Bool → ℕ → Type 0
+StandsForSome desk had_event lines = (items : List Item) × StandsFor desk had_event lines items × (lines < most_lines)
+
+-- a line was read as what it is
+abbrev pub ReadsAs : Reading → Result Item Cause → Type 0
+ReadsAs (Good item) (Ok found) = found ≡ item
+ReadsAs (Bad cause) (Err why) = why ≡ cause
+ReadsAs _ _ = ⊥
+
+-- a good line is answered, and stands behind the others from then on; a bad one is named
+abbrev pub ServesLine : Reading → List Item → List ℕ → Bool → Kept ScriptCredential ScriptRule → Bool → ℕ → List ℕ → Type 0
+ServesLine (Good item) items text true desk had_event lines written =
+    StandsFor desk had_event lines (items ++ item ∷ []) × (written ≡ text ++ answer_to items item)
+ServesLine (Bad cause) items text false desk had_event lines written =
+    written ≡ text ++ ended (fault_line (length items + 1) cause)
+ServesLine _ items text good desk had_event lines written = ⊥

@@ -12,8 +12,11 @@ regrouped text done rest new n whole back =
 
 pub loop-rest-preserved : goal.loop-rest-preserved
 loop-rest-preserved g c =
-    let done = c.loop-rest.invariant.0 in
-    ((done.0 ++ take c.in_ok-n.n c.loop-rest.rest.now,
-    regrouped _ done.0 c.loop-rest.rest.now _ c.in_ok-n.n done.1 c.split_at.ensures.back,
-    appends-then _ _ _ done.0 _ done.2 c.in_ok-n.ensures.bytes),
-    omega (arith, c.loop-rest.invariant.1, c.in_ok-n.ensures.count))
+    let done = c.loop-rest.invariant.0 in (
+      (
+        done.0 ++ take c.in_ok-n.n c.loop-rest.rest.now,
+        regrouped _ done.0 c.loop-rest.rest.now _ c.in_ok-n.n done.1 c.split_at.ensures.back,
+        appends-then _ _ _ done.0 _ done.2 c.in_ok-n.ensures.bytes,
+      ),
+      omega (arith, c.loop-rest.invariant.1, c.in_ok-n.ensures.count),
+    )

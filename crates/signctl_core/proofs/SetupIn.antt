@@ -1,0 +1,91 @@
+-- The setup and the events of a script, with one more line.
+use Rattle.std.proofs.Common.{◌≡◌, ℕ, Bool, true, false, not, ◌&&◌, ◌==◌, None, Some, List, [], ◌∷◌, ◌++◌, length, refl, sym, ap, ◌∙◌}
+use Rattle.std.specs.List.{filter_map}
+use Rattle.std.proofs.lemmas.List.{append-nil}
+use Rattle.std.proofs.lemmas.List.Elements.{filter_map-append}
+use Rattle.sequential_signer.specs.Setup.{Setup, Handle}
+use Rattle.sequential_signer.specs.ReplyDue.{reply_due}
+use Rattle.sequential_signer.specs.Legal.{entries_due}
+use Rattle.sequential_signer.specs.declared.event.Entry.{Entry}
+use Rattle.sequential_signer.specs.declared.event.Event.{Event}
+use Rattle.sequential_signer.specs.declared.event.Loader.{Loader}
+use Rattle.sequential_signer.specs.declared.event.Loader.TheVariants.{Single, Chain}
+use Rattle.sequential_signer.proofs.Due.{entries_due-more}
+use Rattle.signctl_format.specs.declared.credential.ScriptCredential.{ScriptCredential}
+use Rattle.signctl_format.specs.declared.credential.ScriptRule.{ScriptRule}
+use Rattle.signctl_format.specs.declared.item.Item.{Item}
+use Rattle.signctl_format.specs.declared.item.Item.TheVariants as item
+use Rattle.signctl_format.specs.Policy.{script_policy}
+use Rattle.signctl_core.specs.Script.{setup_in, events_in, is_none, is_built, loader_in, handle_in, event_in, script_rules, place_of_rule}
+use Rattle.signctl_core.specs.ScriptOutput.{transcript_of}
+
+abbrev setup_by : List Loader → List Handle → Setup ScriptRule
+setup_by loaders handles = record { loaders = loaders; rules = script_rules; handles = handles }
+
+-- the rules are the two of a script
+pub rules-same : (items : List Item) → (setup_in items).rules ≡ script_rules
+unfolding setup_in
+rules-same items = refl
+
+-- the setup grows by what the line adds
+pub setup_in-more : (items : List Item) (x : Item) → setup_in (items ++ x ∷ []) ≡ setup_by (filter_map loader_in items ++ filter_map loader_in (x ∷ [])) (filter_map handle_in items ++ filter_map handle_in (x ∷ []))
+unfolding setup_in
+setup_in-more items x =
+    ap (λ (v : List Loader). setup_by v (filter_map handle_in (items ++ x ∷ []))) (filter_map-append loader_in items (x ∷ []))
+    ∙ ap (λ (v : List Handle). setup_by (filter_map loader_in items ++ filter_map loader_in (x ∷ [])) v) (filter_map-append handle_in items (x ∷ []))
+
+-- and so do the events
+pub events_in-more : (items : List Item) (x : Item) → events_in (items ++ x ∷ []) ≡ events_in items ++ filter_map event_in (x ∷ [])
+unfolding events_in
+events_in-more items x = filter_map-append event_in items (x ∷ [])
+
+-- a silent line and an event leave the setup
+pub setup_in-silent : (items : List Item) → setup_in (items ++ item.Silent ∷ []) ≡ setup_in items
+unfolding setup_in
+setup_in-silent items =
+    setup_in-more items item.Silent
+    ∙ ap (λ (v : List Loader). setup_by v (filter_map handle_in items ++ [])) (append-nil _)
+    ∙ ap (λ (v : List Handle). setup_by (filter_map loader_in items) v) (append-nil _)
+
+pub setup_in-event : (items : List Item) (e : Event ScriptCredential) → setup_in (items ++ item.Event e ∷ []) ≡ setup_in items
+unfolding setup_in
+setup_in-event items e =
+    setup_in-more items (item.Event e)
+    ∙ ap (λ (v : List Loader). setup_by v (filter_map handle_in items ++ [])) (append-nil _)
+    ∙ ap (λ (v : List Handle). setup_by (filter_map loader_in items) v) (append-nil _)
+
+-- a cache line adds its loader
+pub setup_in-cache : (items : List Item) (loader : Loader) → setup_in (items ++ item.Cache loader ∷ []) ≡ record (setup_in items) { loaders = (setup_in items).loaders ++ loader ∷ [] }
+unfolding setup_in
+setup_in-cache items loader =
+    setup_in-more items (item.Cache loader)
+    ∙ ap (λ (v : List Handle). setup_by (filter_map loader_in items ++ loader ∷ []) v) (append-nil _)
+
+-- a handle line adds its handle
+pub setup_in-handle : (items : List Item) (cache : ℕ) (rule : ScriptRule) → setup_in (items ++ item.Handle cache rule ∷ []) ≡ record (setup_in items) { handles = (setup_in items).handles ++ record { cache = cache; rule = place_of_rule rule } ∷ [] }
+unfolding setup_in
+setup_in-handle items cache rule =
+    setup_in-more items (item.Handle cache rule)
+    ∙ ap (λ (v : List Loader). setup_by v (filter_map handle_in items ++ record { cache = cache; rule = place_of_rule rule } ∷ [])) (append-nil _)
+
+-- no event yet: the transcript is empty
+pub none-nil : {A : Type 0} (xs : List A) → is_none xs ≡ true → xs ≡ []
+none-nil [] h = refl
+none-nil (x ∷ rest) h = cc
+
+pub transcript-none : (items : List Item) → is_none (events_in items) ≡ true → transcript_of items ≡ []
+unfolding entries_due
+transcript-none items h = ap (λ (v : List (Event ScriptCredential)). entries_due script_policy (setup_in items) v) (none-nil (events_in items) h)
+
+-- one event more: its reply is the one that is due
+pub transcript-event : (items : List Item) (e : Event ScriptCredential) → transcript_of (items ++ item.Event e ∷ []) ≡ transcript_of items ++ record { event = e; reply = reply_due script_policy (setup_in items) (transcript_of items) e } ∷ []
+transcript-event items e =
+    ap (λ (s : Setup ScriptRule). entries_due script_policy s (events_in (items ++ item.Event e ∷ []))) (setup_in-event items e)
+    ∙ ap (λ (v : List (Event ScriptCredential)). entries_due script_policy (setup_in items) v) (events_in-more items (item.Event e))
+    ∙ entries_due-more script_policy (setup_in items) (events_in items) e
+
+-- a silent line leaves the transcript
+pub transcript-silent : (items : List Item) → transcript_of (items ++ item.Silent ∷ []) ≡ transcript_of items
+transcript-silent items =
+    ap (λ (s : Setup ScriptRule). entries_due script_policy s (events_in (items ++ item.Silent ∷ []))) (setup_in-silent items)
+    ∙ ap (λ (v : List (Event ScriptCredential)). entries_due script_policy (setup_in items) v) (events_in-more items item.Silent ∙ append-nil (events_in items))
