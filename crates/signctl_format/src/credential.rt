@@ -22,6 +22,8 @@ pub struct ScriptCredential {
 impl SigningCredential for ScriptCredential {
     ghost use Rattle.signctl_format.specs.Policy.{script_valid, script_valid_at};
 
+    const NAME: &'static str = "ScriptCredential";
+
     ghost valid = { script_valid };
 
     ghost valid_at = { script_valid_at };
