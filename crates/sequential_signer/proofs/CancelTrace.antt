@@ -1,6 +1,6 @@
 -- A call that is cancelled before its hold finished leaves no trace: without the providers' answers to it the transcript
 -- is legal too, and every cache is the same.
-use Rattle.std.proofs.Common.{◌≡◌, ℕ, ℤ, Bool, true, false, not, ◌&&◌, ◌||◌, List, [], ◌∷◌, ◌++◌, Option, Some, None, refl, sym, ◌∙◌, ap, subst, filter, find, slice_get, is_some, if◌then◌else◌, inl, inr}
+use Rattle.std.proofs.Common.{◌≡◌, ℕ, Bool, true, false, not, ◌&&◌, ◌||◌, List, [], ◌∷◌, ◌++◌, refl, sym, ◌∙◌, ap, subst, filter, find}
 use Rattle.std.specs.List.{list_any}
 use Rattle.std.proofs.lemmas.List.{append-nil, append_assoc}
 use Rattle.std.proofs.lemmas.List.Folds.{list_any-append}
@@ -8,25 +8,20 @@ use Rattle.std.proofs.lemmas.List.Elements.{filter-append}
 use Rattle.wake_lock.specs.declared.CallId.{CallId}
 use Rattle.sequential_signer.specs.Lookup.{HandOut, Refuse}
 use Rattle.sequential_signer.specs.Policy.{Policy}
-use Rattle.sequential_signer.specs.SequentialCall.{Progress, Asking, Over}
-use Rattle.sequential_signer.specs.Setup.{Setup, cache_of, rule_of}
+use Rattle.sequential_signer.specs.SequentialCall.{Asking, Over}
+use Rattle.sequential_signer.specs.Setup.{Setup}
 use Rattle.sequential_signer.specs.Transcript.{same_call, call_of, is_about, entries_of, kept, is_out_of_memory}
-use Rattle.sequential_signer.specs.Phase.{Phase, Unknown, Fresh, Queued, Loading, Signing, Ended, phase_of, phase_in, is_loading, event_fits, is_live, is_waiting, is_signing}
+use Rattle.sequential_signer.specs.Phase.{Phase, Unknown, Fresh, Queued, Loading, Signing, Ended, phase_of, phase_in, is_loading}
 use Rattle.sequential_signer.specs.Turn.{poll_order, has_turn, is_served, serves}
-use Rattle.sequential_signer.specs.Hold.{begin_of, answers_of, turn_moment, input_by}
 use Rattle.sequential_signer.specs.SequentialCache.{sequential_cache}
 use Rattle.sequential_signer.specs.Wake.{gets_turn, call_to_wake}
-use Rattle.sequential_signer.specs.ReplyDue.{progress_reply, with_wake, waking, hold_progress, hold_reply, hold_step, done_head, fitting_reply, reply_at, reply_due}
-use Rattle.sequential_signer.specs.Legal.{IsLegal, IsLegalAfter, IsLegalEntry, is_sign, takes_memory, allocates}
+use Rattle.sequential_signer.specs.Legal.{IsLegal, IsLegalAfter, IsLegalEntry}
 use Rattle.sequential_signer.specs.LawsOfCancel.{is_answer, without_answers, SameCaches, CancelledLoadLeavesNoTrace, CancelChangesNoCache}
-use Rattle.sequential_signer.specs.declared.event.Answer.{Answer}
-use Rattle.sequential_signer.specs.declared.event.Answer.TheVariants as answer
 use Rattle.sequential_signer.specs.declared.event.Entry.{Entry}
 use Rattle.sequential_signer.specs.declared.event.Event.{Event}
-use Rattle.sequential_signer.specs.declared.event.Event.TheVariants.{Begin, Poll, Provided, Signed, Cancel}
+use Rattle.sequential_signer.specs.declared.event.Event.TheVariants.{Cancel}
 use Rattle.sequential_signer.specs.declared.event.Reply.{Reply}
-use Rattle.sequential_signer.specs.declared.event.Reply.TheVariants.{Pending, Done, Cancelled}
-use Rattle.sequential_signer.specs.declared.event.Verdict.TheVariants.{Accepted, Failed}
+use Rattle.sequential_signer.specs.declared.event.Reply.TheVariants.{Cancelled}
 use Rattle.sequential_signer.proofs.Lists.{or_true, filter-more_yes, filter-more_no, list_all-more, not_false, filter-swap, find-same}
 use Rattle.sequential_signer.proofs.CallNames.{same_call-eq, same_call-comm, and_left, and_right, or_left}
 use Rattle.sequential_signer.proofs.OwnEntries.{entries_of-own, entries_of-other, phase_in-alike}
@@ -36,6 +31,7 @@ use Rattle.sequential_signer.proofs.Run.{IsRun, start, more, legal_run, legal-mo
 use Rattle.sequential_signer.proofs.Standing.{phase-other, phase-own_mark, refused_phase}
 use Rattle.sequential_signer.proofs.Due.{legal_before}
 use Rattle.sequential_signer.proofs.CacheRows.{stays_other}
+use Rattle.sequential_signer.proofs.SameReplies.{ReadsSame, legal_same}
 use Rattle.sequential_signer.proofs.LeftOut.{stays, is_harmless, AreHarmless, is_quiet, waited-left_out, is_new_number-left_out, begin_of-left_out, poll_order-left_out, has_turn-left_out, turn_moment-left_out, answers_of-left_out, sequential_cache-left_out}
 
 pub loading_is : (p : Phase) → is_loading p ≡ true → p ≡ Loading
@@ -151,13 +147,6 @@ module _ {K D : Type 0} (policy : Policy K D) (setup : Setup D) (call : CallId) 
 
 -- what is due to an event that stays is the same in both
 module _ {K D : Type 0} (policy : Policy K D) (setup : Setup D) (call : CallId) (entries : List (Entry K)) (u : IsUnserved policy setup call entries) (unserved : is_served entries call ≡ false) where
-  fits_alike : (event : Event K) → event_fits setup (without_answers call entries) event ≡ event_fits setup entries event
-  fits_alike (Begin c head expires_in) = ap (λ v. is_some (cache_of setup c) && v) (is_new_number-left_out call entries u.harmless c)
-  fits_alike (Poll c now) = ap is_live (u.phase c)
-  fits_alike (Provided c now answer) = ap is_loading (u.phase c)
-  fits_alike (Signed c answer) = ap is_signing (u.phase c)
-  fits_alike (Cancel c) = ap is_live (u.phase c)
-
   module _ (i : ℕ) (e : Entry K) (s : stays call e ≡ true) where
     gets_alike : (b : CallId) → gets_turn setup (without_answers call entries) i e b ≡ gets_turn setup entries i e b
     gets_alike b =
@@ -172,64 +161,25 @@ module _ {K D : Type 0} (policy : Policy K D) (setup : Setup D) (call : CallId) 
         ap (find (gets_turn setup (without_answers call entries) i e)) (poll_order-left_out setup call entries i)
         ∙ find-same (gets_turn setup (without_answers call entries) i e) (gets_turn setup entries i e) gets_alike (poll_order setup entries i)
 
-  module _ (i : ℕ) (event : Event K) (s : not (same_call call (call_of event) && is_answer event) ≡ true) where
-    waking_alike : (r : Reply K) → waking setup (without_answers call entries) i event r ≡ waking setup entries i event r
-    waking_alike r = ap (with_wake r) (wake_alike i (record { event = event; reply = r }) s)
-
-    hold_alike : (o : Option (Progress K)) → hold_reply setup (without_answers call entries) i event o ≡ hold_reply setup entries i event o
-    hold_alike None = refl
-    hold_alike (Some progress) = waking_alike (progress_reply progress)
-
-    step_alike : (now : Option ℤ) (answers : List (Answer K × ℤ)) → hold_step policy setup (without_answers call entries) i event now answers ≡ hold_step policy setup entries i event now answers
-    step_alike now answers =
-        ap (λ cache. hold_reply setup (without_answers call entries) i event (hold_progress policy cache (slice_get setup.loaders i) (input_by (rule_of setup (call_of event)) (begin_of (without_answers call entries) (call_of event)) now answers)))
-        (sequential_cache-left_out setup call policy entries u.harmless unserved i)
-        ∙ ap (λ begin. hold_reply setup (without_answers call entries) i event (hold_progress policy (sequential_cache policy setup entries i) (slice_get setup.loaders i) (input_by (rule_of setup (call_of event)) begin now answers)))
-        (begin_of-left_out call entries u.harmless (call_of event))
-        ∙ hold_alike _
-
-  fitting_alike : (i : ℕ) (event : Event K) → not (same_call call (call_of event) && is_answer event) ≡ true → fitting_reply policy setup (without_answers call entries) i event ≡ fitting_reply policy setup entries i event
-  fitting_alike i (Begin c head expires_in) s = refl
-  fitting_alike i (Poll c now) s =
-      rw (u.phase c, has_turn-left_out setup call entries u.harmless i c)
-      (ap (λ (v : Reply K). if is_waiting (phase_of entries c) && has_turn setup entries i c then v else Pending) (step_alike i (Poll c now) s (Some now) []))
-  fitting_alike i (Provided c now answer) s =
-      let differ : same_call c call ≡ false = same_call-comm c call ∙ not_both (same_call call c) s in
-      step_alike i (Provided c now answer) s (turn_moment setup (without_answers call entries) i c) (answers_of (without_answers call entries) c ++ (answer, now) ∷ [])
-      ∙ ap (λ v. hold_step policy setup entries i (Provided c now answer) v (answers_of (without_answers call entries) c ++ (answer, now) ∷ [])) (turn_moment-left_out setup call entries u.harmless i c)
-      ∙ ap (λ v. hold_step policy setup entries i (Provided c now answer) (turn_moment setup entries i c) (v ++ (answer, now) ∷ [])) (answers_of-left_out setup call entries c differ)
+  reads_alike : (e : Entry K) → stays call e ≡ true → ReadsSame policy setup (without_answers call entries) entries e.event
+  reads_alike e s = record {
+    phase = u.phase (call_of e.event);
+    new = is_new_number-left_out call entries u.harmless (call_of e.event);
+    begin = begin_of-left_out call entries u.harmless (call_of e.event);
+    answers = λ h. answers_of-left_out setup call entries (call_of e.event) (same_call-comm (call_of e.event) call ∙ not_both (same_call call (call_of e.event)) (is_answer e.event) h s);
+    turn = λ i _. has_turn-left_out setup call entries u.harmless i (call_of e.event);
+    moment = λ i _. turn_moment-left_out setup call entries u.harmless i (call_of e.event);
+    cache = λ i _. sequential_cache-left_out setup call policy entries u.harmless unserved i;
+    wake = λ i _ r. wake_alike i (record { event = e.event; reply = r }) s;
+  }
     where
-      not_both : (b : Bool) → not (b && true) ≡ true → b ≡ false
-      not_both false h = refl
-      not_both true h = cc
-  fitting_alike i (Signed c (Accepted candidate)) s = ap (λ v. Done (done_head v candidate)) (begin_of-left_out call entries u.harmless c)
-  fitting_alike i (Signed c (Failed x)) s = refl
-  fitting_alike i (Cancel c) s = waking_alike i (Cancel c) s (Cancelled None)
-
-  at_alike : (event : Event K) → not (same_call call (call_of event) && is_answer event) ≡ true → (o : Option ℕ) → reply_at policy setup (without_answers call entries) event o ≡ reply_at policy setup entries event o
-  at_alike event s None = refl
-  at_alike event s (Some i) =
-      rw (fits_alike event, fitting_alike i event s) refl
-
-  pub due_alike : (event : Event K) → not (same_call call (call_of event) && is_answer event) ≡ true → reply_due policy setup (without_answers call entries) event ≡ reply_due policy setup entries event
-  unfolding reply_due
-  due_alike event s = at_alike event s (cache_of setup (call_of event))
-
-  takes_alike : (event : Event K) → not (same_call call (call_of event) && is_answer event) ≡ true → takes_memory policy setup (without_answers call entries) event ≡ takes_memory policy setup entries event
-  takes_alike (Begin c head expires_in) s = refl
-  takes_alike (Poll c now) s = ap is_sign (due_alike (Poll c now) s)
-  takes_alike (Provided c now (answer.Found k)) s = refl
-  takes_alike (Provided c now answer.Missing) s = refl
-  takes_alike (Provided c now (answer.Failed x)) s = refl
-  takes_alike (Signed c (Accepted candidate)) s = refl
-  takes_alike (Signed c (Failed x)) s = refl
-  takes_alike (Cancel c) s = refl
+      not_both : (b c : Bool) → c ≡ true → not (b && c) ≡ true → b ≡ false
+      not_both false c h k = refl
+      not_both true true h k = cc
+      not_both true false h k = cc
 
   pub legal_alike : (e : Entry K) → stays call e ≡ true → IsLegalEntry policy setup entries e → IsLegalEntry policy setup (without_answers call entries) e
-  legal_alike e s (inl due) = inl (due ∙ sym (due_alike e.event s))
-  legal_alike e s (inr lost) =
-      let takes : allocates policy setup (without_answers call entries) e.event ≡ allocates policy setup entries e.event = rw (fits_alike e.event, takes_alike e.event s) refl in
-      inr (lost.0, takes ∙ lost.1)
+  legal_alike e s legal = legal_same policy setup (without_answers call entries) entries e (reads_alike e s) legal
 
 -- what counts, without the answers, is what counts of the transcript without them
 kept-without : {K : Type 0} (call : CallId) (entries : List (Entry K)) → kept (without_answers call entries) ≡ without_answers call (kept entries)

@@ -1,34 +1,29 @@
 -- Caches stand apart: the entries of one cache are a legal transcript by themselves.
-use Rattle.std.proofs.Common.{◌≡◌, ℕ, ℤ, Bool, true, false, not, ◌&&◌, ◌||◌, ◌==◌, nat_lt, List, [], ◌∷◌, ◌++◌, Option, Some, None, option_map, is_some, refl, sym, ◌∙◌, ap, subst, filter, find, fold, slice_get, if◌then◌else◌, inl, inr}
+use Rattle.std.proofs.Common.{◌≡◌, ℕ, Bool, true, false, not, ◌&&◌, ◌||◌, ◌==◌, nat_lt, List, [], ◌∷◌, ◌++◌, Option, Some, None, option_map, refl, sym, ◌∙◌, ap, subst, filter, find, fold, slice_get}
 use Rattle.std.specs.List.{list_all}
 use Rattle.std.proofs.lemmas.List.{append-nil, append_assoc}
 use Rattle.wake_lock.specs.declared.CallId.{CallId}
 use Rattle.sequential_signer.specs.Policy.{Policy}
-use Rattle.sequential_signer.specs.SequentialCall.{HoldInput, Progress}
-use Rattle.sequential_signer.specs.Setup.{Setup, cache_of, rule_of, is_of_cache, is_number}
+use Rattle.sequential_signer.specs.SequentialCall.{HoldInput}
+use Rattle.sequential_signer.specs.Setup.{Setup, cache_of, is_of_cache, is_number}
 use Rattle.sequential_signer.specs.Transcript.{call_of, is_about, entries_of, kept, is_out_of_memory}
-use Rattle.sequential_signer.specs.Phase.{is_begun, is_begin_under, is_new_number, phase_of, phase_in, event_fits, is_live, is_loading, is_signing, is_waiting}
+use Rattle.sequential_signer.specs.Phase.{is_begun, is_begin_under, is_new_number, phase_of, phase_in}
 use Rattle.sequential_signer.specs.Turn.{is_fitting_poll, is_poll_at, poll_order, calls_ahead, before_call, hold_is_finished, is_served, has_turn}
-use Rattle.sequential_signer.specs.Hold.{begin_in, begin_of, turn_moment, answers_of, answers_in, hold_input, input_by}
+use Rattle.sequential_signer.specs.Hold.{begin_in, begin_of, turn_moment, answers_of, answers_in, hold_input}
 use Rattle.sequential_signer.specs.SequentialCache.{cache_after, served_calls, sequential_cache}
 use Rattle.sequential_signer.specs.Wake.{gets_turn, call_to_wake}
-use Rattle.sequential_signer.specs.ReplyDue.{progress_reply, with_wake, waking, hold_progress, hold_reply, hold_step, done_head, fitting_reply, reply_due}
-use Rattle.sequential_signer.specs.Legal.{IsLegal, IsLegalAfter, IsLegalEntry, is_sign, takes_memory, allocates}
+use Rattle.sequential_signer.specs.Legal.{IsLegal, IsLegalAfter, IsLegalEntry}
 use Rattle.sequential_signer.specs.LawsOfCaches.{entries_at, CachesAreIsolated}
-use Rattle.sequential_signer.specs.declared.event.Answer.{Answer}
-use Rattle.sequential_signer.specs.declared.event.Answer.TheVariants as answer
 use Rattle.sequential_signer.specs.declared.event.Entry.{Entry}
 use Rattle.sequential_signer.specs.declared.event.Event.{Event}
-use Rattle.sequential_signer.specs.declared.event.Event.TheVariants.{Begin, Poll, Provided, Signed, Cancel}
 use Rattle.sequential_signer.specs.declared.event.Reply.{Reply}
-use Rattle.sequential_signer.specs.declared.event.Reply.TheVariants.{Pending, Done, Cancelled}
-use Rattle.sequential_signer.specs.declared.event.Verdict.TheVariants.{Accepted, Failed}
 use Rattle.sequential_signer.proofs.Places.{same_number}
 use Rattle.sequential_signer.proofs.Lists.{and_right, filter-more_yes, filter-more_no, filter-within, filter-swap, list_all-left_out, fold-same, filter-same_on, list_all-same_on, find-same_on}
 use Rattle.sequential_signer.proofs.CallNames.{same_call-eq}
 use Rattle.sequential_signer.proofs.Distinct.{list_all-filter_of}
 use Rattle.sequential_signer.proofs.Run.{legal-more}
 use Rattle.sequential_signer.proofs.CacheLaw.{order_of_cache, number_of}
+use Rattle.sequential_signer.proofs.SameReplies.{ReadsSame, legal_same}
 use Rattle.sequential_signer.proofs.LeftOut.{turn_moment-kept}
 use Rattle.sequential_signer.proofs.Wakings.{list_all-before}
 
@@ -151,62 +146,26 @@ module _ {K D : Type 0} (policy : Policy K D) (setup : Setup D) (i : ℕ) (entri
             ap (λ v. has_turn setup v i b) (sym (filter-more_yes (is_here setup i) entries e here)) ∙ has_turn-here setup i (entries ++ e ∷ []) b in
             rw (phase_of-here setup i entries b own, after, has_turn-here setup i entries b) refl
 
-    waking_here : (r : Reply K) → waking setup (entries_at setup i entries) i event r ≡ waking setup entries i event r
-    waking_here r = ap (with_wake r) (wake_here r)
-
-    hold_here : (o : Option (Progress K)) → hold_reply setup (entries_at setup i entries) i event o ≡ hold_reply setup entries i event o
-    hold_here None = refl
-    hold_here (Some progress) = waking_here (progress_reply progress)
-
-    step_here : (now : Option ℤ) (answers : List (Answer K × ℤ)) → hold_step policy setup (entries_at setup i entries) i event now answers ≡ hold_step policy setup entries i event now answers
-    step_here now answers =
-        ap (λ cache. hold_reply setup (entries_at setup i entries) i event (hold_progress policy cache (slice_get setup.loaders i) (input_by (rule_of setup (call_of event)) (begin_of (entries_at setup i entries) (call_of event)) now answers)))
-        (sequential_cache-here setup i policy entries)
-        ∙ ap (λ begin. hold_reply setup (entries_at setup i entries) i event (hold_progress policy (sequential_cache policy setup entries i) (slice_get setup.loaders i) (input_by (rule_of setup (call_of event)) begin now answers)))
-        (begin_of-here setup i entries (call_of event) here)
-        ∙ hold_here _
-
-  fits_here : (event : Event K) → is_of_cache setup i (call_of event) ≡ true → event_fits setup (entries_at setup i entries) event ≡ event_fits setup entries event
-  fits_here (Begin c head expires_in) here = ap (λ v. is_some (cache_of setup c) && v) (is_new_number-here setup i entries c here)
-  fits_here (Poll c now) here = ap is_live (phase_of-here setup i entries c here)
-  fits_here (Provided c now answer) here = ap is_loading (phase_of-here setup i entries c here)
-  fits_here (Signed c answer) here = ap is_signing (phase_of-here setup i entries c here)
-  fits_here (Cancel c) here = ap is_live (phase_of-here setup i entries c here)
-
-  fitting_here : (event : Event K) → is_of_cache setup i (call_of event) ≡ true → fitting_reply policy setup (entries_at setup i entries) i event ≡ fitting_reply policy setup entries i event
-  fitting_here (Begin c head expires_in) here = refl
-  fitting_here (Poll c now) here =
-      rw (phase_of-here setup i entries c here, has_turn-here setup i entries c)
-      (ap (λ (v : Reply K). if is_waiting (phase_of entries c) && has_turn setup entries i c then v else Pending) (step_here (Poll c now) here (Some now) []))
-  fitting_here (Provided c now answer) here =
-      step_here (Provided c now answer) here (turn_moment setup (entries_at setup i entries) i c) (answers_of (entries_at setup i entries) c ++ (answer, now) ∷ [])
-      ∙ ap (λ v. hold_step policy setup entries i (Provided c now answer) v (answers_of (entries_at setup i entries) c ++ (answer, now) ∷ [])) (turn_moment-here setup i entries c here)
-      ∙ ap (λ v. hold_step policy setup entries i (Provided c now answer) (turn_moment setup entries i c) (v ++ (answer, now) ∷ [])) (answers_of-here setup i entries c here)
-  fitting_here (Signed c (Accepted candidate)) here = ap (λ v. Done (done_head v candidate)) (begin_of-here setup i entries c here)
-  fitting_here (Signed c (Failed x)) here = refl
-  fitting_here (Cancel c) here = waking_here (Cancel c) here (Cancelled None)
-
-  pub due_here : (event : Event K) → is_of_cache setup i (call_of event) ≡ true → reply_due policy setup (entries_at setup i entries) event ≡ reply_due policy setup entries event
-  unfolding reply_due
-  due_here event here =
-      let at : cache_of setup (call_of event) ≡ Some i = number_of i (cache_of setup (call_of event)) here in
-      rw (at, fits_here event here, fitting_here event here) refl
-
-  takes_here : (event : Event K) → is_of_cache setup i (call_of event) ≡ true → takes_memory policy setup (entries_at setup i entries) event ≡ takes_memory policy setup entries event
-  takes_here (Begin c head expires_in) here = refl
-  takes_here (Poll c now) here = ap is_sign (due_here (Poll c now) here)
-  takes_here (Provided c now (answer.Found k)) here = refl
-  takes_here (Provided c now answer.Missing) here = refl
-  takes_here (Provided c now (answer.Failed x)) here = refl
-  takes_here (Signed c (Accepted candidate)) here = refl
-  takes_here (Signed c (Failed x)) here = refl
-  takes_here (Cancel c) here = refl
+  reads_here : (event : Event K) → is_of_cache setup i (call_of event) ≡ true → ReadsSame policy setup (entries_at setup i entries) entries event
+  reads_here event here = record {
+    phase = phase_of-here setup i entries (call_of event) here;
+    new = is_new_number-here setup i entries (call_of event) here;
+    begin = begin_of-here setup i entries (call_of event) here;
+    answers = λ _. answers_of-here setup i entries (call_of event) here;
+    turn = λ j at. here_alone j at (λ n. has_turn setup (entries_at setup i entries) n (call_of event) ≡ has_turn setup entries n (call_of event)) (has_turn-here setup i entries (call_of event));
+    moment = λ j at. here_alone j at (λ n. turn_moment setup (entries_at setup i entries) n (call_of event) ≡ turn_moment setup entries n (call_of event)) (turn_moment-here setup i entries (call_of event) here);
+    cache = λ j at. here_alone j at (λ n. sequential_cache policy setup (entries_at setup i entries) n ≡ sequential_cache policy setup entries n) (sequential_cache-here setup i policy entries);
+    wake = λ j at r. here_alone j at (λ n. call_to_wake setup (entries_at setup i entries) n (record { event = event; reply = r }) ≡ call_to_wake setup entries n (record { event = event; reply = r })) (wake_here event here r);
+  }
+    where
+      here_alone : (j : ℕ) → cache_of setup (call_of event) ≡ Some j → (P : ℕ → Type 0) → P i → P j
+      here_alone j at P p =
+          let own : cache_of setup (call_of event) ≡ Some i = number_of i (cache_of setup (call_of event)) here in
+          let same : i ≡ j = cc in
+          subst P same p
 
   legal_here : (e : Entry K) → is_of_cache setup i (call_of e.event) ≡ true → IsLegalEntry policy setup entries e → IsLegalEntry policy setup (entries_at setup i entries) e
-  legal_here e here (inl due) = inl (due ∙ sym (due_here e.event here))
-  legal_here e here (inr lost) =
-      let takes : allocates policy setup (entries_at setup i entries) e.event ≡ allocates policy setup entries e.event = rw (fits_here e.event here, takes_here e.event here) refl in
-      inr (lost.0, takes ∙ lost.1)
+  legal_here e here legal = legal_same policy setup (entries_at setup i entries) entries e (reads_here e.event here) legal
 
 kept-here : {K D : Type 0} (setup : Setup D) (i : ℕ) (entries : List (Entry K)) → kept (entries_at setup i entries) ≡ entries_at setup i (kept entries)
 unfolding kept

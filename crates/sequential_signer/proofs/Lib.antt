@@ -26,3 +26,4 @@ pub mod CancelTrace
 pub mod LoadLeavesCache
 pub mod Isolation
 pub mod OneLoad
+pub mod SameReplies
