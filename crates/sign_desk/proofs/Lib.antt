@@ -11,6 +11,7 @@ pub mod RefineEnd
 pub mod Sounds
 pub mod Admits
 pub mod RefineStep
+pub mod Caused
 pub mod IsSetUp
 pub mod Fresh
 pub mod Holds

@@ -8,5 +8,6 @@ pub mod IsDesk
 pub mod Sound
 pub mod Paired
 pub mod Moves
+pub mod Causes
 pub mod LookSays
 pub mod JudgeSays

@@ -1,4 +1,15 @@
-//! The desk: one reply to each event.
+//! The desk: events in, one reply each. It asks nobody and waits for nobody: what providers and
+//! services answer comes in as events, and whoever drives the desk wakes the call that a reply names.
+//!
+//! Each cache has a lock, first come, first served. A call takes its place at its first poll, behind
+//! all calls of its cache that were polled before, and nobody overtakes it. At its turn it holds the
+//! lock and looks at the cache: a credential that is fresh and lasts to the call's deadline is handed
+//! out, and else the call loads. The lock passes on in the step that ends the hold, by a credential, a
+//! refusal or a cancel, and that step's reply names the next. So one call of a cache loads at a time,
+//! and signing goes on beside later holds.
+//!
+//! Contracts see a desk as the record `Kept`, and compare it with the transcript of all events and
+//! replies by `Represents`: the desk replies what a signer would that serves one call at a time.
 ghost use Rattle.std.specs.Prelude.{◌≡◌, ◌<◌, ◌++◌, ◌∷◌, [], List, true, not, OnOk, OnErr, IfOk, IfErr, length, option_map, option_and_then, option_copied, slice_get};
 
 use crate::adding::{AddError, AddRefused};
@@ -12,7 +23,7 @@ use std::marker::Model;
 #[derive(Clone, Copy, Debug, Drop, PartialEq, Eq)]
 pub struct RunError;
 
-/// The core of the signer.
+/// The core of the signer: what is set up, what each cache holds, and the live calls.
 #[derive(Drop)]
 pub struct Desk<K: SigningCredential, D: DeadlineRule<Credential = K>> {
     state: State<K, D>,
@@ -35,6 +46,7 @@ impl<K: SigningCredential, D: DeadlineRule<Credential = K>> Desk<K, D> {
     ghost use Rattle.sign_desk.specs.Kept.{Represents, setup_of, was_begun};
     ghost use Rattle.sign_desk.specs.Adding.{late, handle_refusal, AddAnswer, AddAnswerBack, with_cache, with_rule, with_handle};
     ghost use Rattle.sign_desk.specs.Moves.{UnchangedBy};
+    ghost use Rattle.sign_desk.specs.Causes.{causes_of, IsCaused};
     ghost use Rattle.sign_desk.specs.Paired.{paired};
     ghost use Rattle.sequential_signer.specs.declared.event.Entry.{Entry};
     ghost use Rattle.sequential_signer.specs.Policy.{policy_of};
@@ -181,13 +193,16 @@ impl<K: SigningCredential, D: DeadlineRule<Credential = K>> Desk<K, D> {
         !self.state.started()
     }
 
-    /// One step: whatever transcript the desk stands for, it then stands for that with this entry.
-    /// The setup stays. `NotNow` and `OutOfMemory` change nothing.
+    /// One event, applied whole: whatever transcript the desk stands for, it then stands for that
+    /// with this entry. An event that does not fit is `NotNow`. `OutOfMemory` comes only where memory
+    /// is taken: at a begin, where a credential is found or handed out, and at an accepted head. Both
+    /// change nothing. The setup stays.
     pub fn step(&mut self, event: &Event<K>) -> Reply<K>
         ensures represents { (entries : List (Entry K)) → Represents (policy_of K.valid K.valid_at D.deadline) self.old entries
             → Represents (policy_of K.valid K.valid_at D.deadline) self.new (entries ++ record { event = event.now; reply = result } ∷ []) }
         ensures due { (entries : List (Entry K)) → Represents (policy_of K.valid K.valid_at D.deadline) self.old entries
             → IsLegalEntry (policy_of K.valid K.valid_at D.deadline) (setup_of self.old) (kept entries) (record { event = event.now; reply = result }) }
+        ensures causes { IsCaused (causes_of (policy_of K.valid K.valid_at D.deadline) self.old event.now) result }
         ensures setup { setup_of self.new ≡ setup_of self.old }
         ensures unchanged { UnchangedBy result self.old self.new }
     {

@@ -15,3 +15,6 @@ mod step;
 pub use adding::{AddError, AddRefused};
 pub use desk::{Desk, RunError};
 pub use sequential_signer::{Answer, Entry, Event, Loader, Reply, Verdict, Why};
+
+#[cfg(test)]
+mod tests;

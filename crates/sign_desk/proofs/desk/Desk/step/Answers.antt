@@ -2,6 +2,8 @@ use Rattle.std.proofs.Common.{◌∙◌, ap, subst}
 use Rattle.sequential_signer.specs.Policy.{policy_of}
 use Rattle.sign_desk.specs.Kept.{Kept, setup_of}
 use Rattle.sign_desk.specs.Moves.{UnchangedBy}
+use Rattle.sign_desk.specs.Causes.{causes_of, IsCaused}
+use Rattle.sign_desk.proofs.Caused.{caused}
 use Rattle.sign_desk.proofs.Holds.{desk-step}
 use Rattle.sign_desk.proofs.RefineStep.{represents-step, entry-legal, settles}
 use Rattle.sign_desk.proofs.Sounds.{sound}
@@ -37,3 +39,8 @@ pub returns-clause-unchanged : goal.returns-clause-unchanged
 returns-clause-unchanged g c =
     let policy = policy_of g.K.SigningCredential.valid g.K.SigningCredential.valid_at g.D.DeadlineRule.deadline in
     subst (λ (k : Kept g.row.K.Denot g.row.D.Denot). UnchangedBy c.step.result k c.step.new.self) c.self.view_is (settles policy c.self.inside.state c.step.new.self c.args.event.now c.step.result c.step.ensures).unchanged
+
+pub returns-clause-causes : goal.returns-clause-causes
+returns-clause-causes g c =
+    let policy = policy_of g.K.SigningCredential.valid g.K.SigningCredential.valid_at g.D.DeadlineRule.deadline in
+    subst (λ (k : Kept g.row.K.Denot g.row.D.Denot). IsCaused (causes_of policy k c.args.event.now) c.step.result) c.self.view_is (caused policy c.self.inside.state c.step.new.self c.args.event.now c.step.result c.step.ensures)
