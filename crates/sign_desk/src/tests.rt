@@ -16,6 +16,8 @@ struct Ticket {
 }
 
 impl SigningCredential for Ticket {
+    const NAME: &'static str = "Ticket";
+
     ghost valid = { λ ticket now. true };
 
     ghost valid_at = { λ ticket moment now. true };
