@@ -3,9 +3,6 @@ use Rattle.signctl_format.specs.Lines.{reply_line}
 use Rattle.signctl_core.proofs.NextLine.{reply-due, next-event, line-ended, not-wanting}
 use Rattle.signctl_core.proofs.session.Session.answer_event.Goals as goal
 
-pub step-reply-requires : goal.step-reply-requires
-step-reply-requires c = ?
-
 pub returns-clause-answers : goal.returns-clause-answers
 returns-clause-answers c = λ items stands built.
     let due = reply-due _ _ _ items stands c.args.event.now c.step-reply.result (c.step-reply.ensures.due _ stands.represents) (not-wanting _ (sym c.is_wanting.ensures ∙ c.if-is_wanting.false)) in (
