@@ -20,7 +20,7 @@ loop-cache-preserved c = λ items stands.
     let cached : c.copied.result ≡ sequential_cache script_policy (setup_in items) (transcript_of items) cache =
     c.copied.ensures ∙ c.cached.ensures ∙ cached-is _ _ _ items stands cache within in
     let line : c.push_final.new.text.items ≡ c.loop-cache.text.items ++ final_line cache (sequential_cache script_policy (setup_in items) (transcript_of items) cache) =
-    c.in_ok-push_final.ensures
+    c.in_ok-push_final.ensures.ok
     ∙ ap (λ (n : ℕ). c.loop-cache.text.items ++ final_line n c.copied.result) c.from.ensures
     ∙ ap (λ (o : Option ScriptCredential). c.loop-cache.text.items ++ final_line cache o) cached in
     line-ended c.loop-cache.text.items c.push_final.new.text.items c.end_line.new.text.items (final_line cache (sequential_cache script_policy (setup_in items) (transcript_of items) cache)) line c.in_ok-end_line.ensures

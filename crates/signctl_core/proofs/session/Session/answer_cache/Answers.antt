@@ -12,6 +12,6 @@ pub returns-clause-answers : goal.returns-clause-answers
 returns-clause-answers c = λ items stands built. (
   next-cache _ _ _ items stands _ c.args.loader built c.in-Ok.ensures.added c.in-Ok.ensures.fresh,
   line-ended _ _ _ (cache_line _)
-      (c.in_ok-push_cache-in-Ok.ensures ∙ ap (λ n. c.args.text.now.items ++ cache_line n) (c.from.ensures ∙ cache-number _ _ _ items stands c.args.loader c.in-Ok.number built c.in-Ok.ensures.answer))
+      (c.in_ok-push_cache-in-Ok.ensures.ok ∙ ap (λ n. c.args.text.now.items ++ cache_line n) (c.from.ensures ∙ cache-number _ _ _ items stands c.args.loader c.in-Ok.number built c.in-Ok.ensures.answer))
       c.in_ok-end_line.ensures,
 )

@@ -17,6 +17,6 @@ returns-clause-answers c = λ items stands built.
     let P : ℕ → Type 0 = λ place. AddAnswer (handle_refusal desk c.args.cache place) (length desk.handles) (Ok c.in-Ok.number) in (
       next-handle _ _ _ items stands _ c.args.cache c.args.rule built (c.in-Ok.ensures.added ∙ ap (λ place. with_handle c.args.cache place desk) c.place_of.ensures) c.in-Ok.ensures.fresh,
       line-ended _ _ _ (handle_line _)
-          (c.in_ok-push_handle-in-Ok.ensures ∙ ap (λ n. c.args.text.now.items ++ handle_line n) (c.from.ensures ∙ handle-number _ _ _ items stands c.args.cache c.args.rule c.in-Ok.number built (subst P c.place_of.ensures c.in-Ok.ensures.answer)))
+          (c.in_ok-push_handle-in-Ok.ensures.ok ∙ ap (λ n. c.args.text.now.items ++ handle_line n) (c.from.ensures ∙ handle-number _ _ _ items stands c.args.cache c.args.rule c.in-Ok.number built (subst P c.place_of.ensures c.in-Ok.ensures.answer)))
           c.in_ok-end_line.ensures,
     )
