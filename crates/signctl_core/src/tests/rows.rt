@@ -9,7 +9,7 @@ pub struct Row {
     pub status: Status,
 }
 
-pub const ROWS: [Row; 33] = [
+pub const ROWS: [Row; 38] = [
     Row {
         shows: "an empty script",
         input: "",
@@ -521,5 +521,140 @@ pub const ROWS: [Row; 33] = [
             not now\n\
             line 3: not built\n",
         status: Status::Refused,
+    },
+    Row {
+        shows: "a woken call keeps its turn",
+        input: "cache single\n\
+            handle 0 now\n\
+            begin 0 1 - GET https://e.x/ 1.1\n\
+            begin 0 2 - GET https://e.x/ 1.1\n\
+            begin 0 3 - GET https://e.x/ 1.1\n\
+            poll 0 1 5\n\
+            poll 0 2 5\n\
+            found 0 1 6 1 900 1000 0\n\
+            poll 0 3 7\n\
+            cancel 0 2\n\
+            poll 0 3 7\n",
+        output: "cache 0\n\
+            handle 0\n\
+            begun\n\
+            begun\n\
+            begun\n\
+            ask 0\n\
+            pending\n\
+            sign 1 wake 0 2\n\
+            pending\n\
+            cancelled wake 0 3\n\
+            sign 1\n\
+            final 0 1 900 1000 0\n",
+        status: Status::Done,
+    },
+    Row {
+        shows: "also behind a miss",
+        input: "cache single\n\
+            handle 0 now\n\
+            begin 0 1 - GET https://e.x/ 1.1\n\
+            begin 0 2 - GET https://e.x/ 1.1\n\
+            begin 0 3 - GET https://e.x/ 1.1\n\
+            poll 0 1 5\n\
+            poll 0 2 5\n\
+            missing 0 1 6\n\
+            poll 0 3 7\n\
+            cancel 0 2\n\
+            poll 0 3 7\n",
+        output: "cache 0\n\
+            handle 0\n\
+            begun\n\
+            begun\n\
+            begun\n\
+            ask 0\n\
+            pending\n\
+            refused missing wake 0 2\n\
+            pending\n\
+            cancelled wake 0 3\n\
+            ask 0\n\
+            final 0 empty\n",
+        status: Status::Done,
+    },
+    Row {
+        shows: "and behind a failure",
+        input: "cache single\n\
+            handle 0 now\n\
+            begin 0 1 - GET https://e.x/ 1.1\n\
+            begin 0 2 - GET https://e.x/ 1.1\n\
+            begin 0 3 - GET https://e.x/ 1.1\n\
+            poll 0 1 5\n\
+            poll 0 2 5\n\
+            failed 0 1 6 42\n\
+            poll 0 3 7\n\
+            cancel 0 2\n\
+            poll 0 3 7\n",
+        output: "cache 0\n\
+            handle 0\n\
+            begun\n\
+            begun\n\
+            begun\n\
+            ask 0\n\
+            pending\n\
+            refused loader 42 wake 0 2\n\
+            pending\n\
+            cancelled wake 0 3\n\
+            ask 0\n\
+            final 0 empty\n",
+        status: Status::Done,
+    },
+    Row {
+        shows: "and behind a credential that does not last",
+        input: "cache single\n\
+            handle 0 now\n\
+            begin 0 1 - GET https://e.x/ 1.1\n\
+            begin 0 2 - GET https://e.x/ 1.1\n\
+            begin 0 3 - GET https://e.x/ 1.1\n\
+            poll 0 1 5\n\
+            poll 0 2 5\n\
+            found 0 1 6 1 900 6 0\n\
+            poll 0 3 7\n\
+            cancel 0 2\n\
+            poll 0 3 7\n",
+        output: "cache 0\n\
+            handle 0\n\
+            begun\n\
+            begun\n\
+            begun\n\
+            ask 0\n\
+            pending\n\
+            refused short wake 0 2\n\
+            pending\n\
+            cancelled wake 0 3\n\
+            ask 0\n\
+            final 0 1 900 6 0\n",
+        status: Status::Done,
+    },
+    Row {
+        shows: "and behind a deadline out of range",
+        input: "cache single\n\
+            handle 0 now\n\
+            begin 0 1 18446744073709551615 GET https://e.x/ 1.1\n\
+            begin 0 2 - GET https://e.x/ 1.1\n\
+            begin 0 3 - GET https://e.x/ 1.1\n\
+            poll 0 1 5\n\
+            poll 0 2 5\n\
+            found 0 1 6 1 900 1000 0\n\
+            poll 0 3 7\n\
+            cancel 0 2\n\
+            poll 0 3 7\n",
+        output: "cache 0\n\
+            handle 0\n\
+            begun\n\
+            begun\n\
+            begun\n\
+            ask 0\n\
+            pending\n\
+            refused range wake 0 2\n\
+            pending\n\
+            cancelled wake 0 3\n\
+            sign 1\n\
+            final 0 1 900 1000 0\n",
+        status: Status::Done,
     },
 ];
