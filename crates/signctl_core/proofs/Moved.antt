@@ -1,7 +1,7 @@
 -- Bytes that move in several reads or writes, one after another, and the faults meanwhile.
-use Rattle.std.proofs.Common.{◌≡◌, ◌≤◌, ◌<◌, ℕ, List, [], ◌++◌, Option, Some, None, ◌⊎◌, inl, inr, refl, sym, ap, ◌∙◌, append_assoc, append-nil, arith}
+use Rattle.std.proofs.Common.{◌≤◌, ℕ, List, [], ◌++◌, Option, Some, None, refl, sym, ap, ◌∙◌, append_assoc, append-nil, arith}
 use Rattle.std.specs.Io.KnownBytes.{Appends, Consumes}
-use Rattle.sign_base.specs.Faults.{HasRisen, last_count}
+use Rattle.sign_base.specs.Faults.{HasRisen}
 
 -- what was appended after what was appended
 pub appends-then : (a b c : Option (List ℕ)) (xs ys : List ℕ) → Appends a b xs → Appends b c ys → Appends a c (xs ++ ys)

@@ -1,9 +1,8 @@
 -- A session after one more good line stands for the items with this one behind them.
-use Rattle.std.proofs.Common.{◌≡◌, ℕ, ◌+◌, Option, Some, None, Result, Ok, Err, nat_lt, if◌then◌else◌, append_assoc, Bool, true, false, not, ◌&&◌, ◌==◌, List, [], ◌∷◌, ◌++◌, length, refl, sym, ap, ◌∙◌, subst, arith, ◌⊎◌, inl, inr}
-use Rattle.std.specs.List.{filter_map}
+use Rattle.std.proofs.Common.{◌≡◌, ℕ, ◌+◌, Option, Some, None, Result, Ok, Err, nat_lt, if◌then◌else◌, append_assoc, Bool, true, false, not, ◌&&◌, ◌==◌, List, [], ◌∷◌, ◌++◌, length, refl, sym, ap, ◌∙◌, subst, arith, inl, inr}
 use Rattle.std.proofs.lemmas.List.{append-nil, length_push}
 use Rattle.std.proofs.lemmas.Bool.Decides.{nat_tests}
-use Rattle.sequential_signer.specs.Setup.{Setup, Handle}
+use Rattle.sequential_signer.specs.Setup.{Setup}
 use Rattle.sequential_signer.specs.Transcript.{kept, is_out_of_memory}
 use Rattle.sequential_signer.specs.ReplyDue.{reply_due}
 use Rattle.sequential_signer.specs.Legal.{IsLegalEntry, entries_due}
@@ -18,7 +17,6 @@ use Rattle.sign_desk.specs.Kept.{Kept, Represents, setup_of, was_begun}
 use Rattle.sign_desk.specs.Adding.{with_cache, with_handle, AddAnswer, late, handle_refusal}
 use Rattle.sign_desk.specs.declared.adding.AddError.{AddError}
 use Rattle.sign_desk.specs.declared.adding.AddError.TheVariants.{Late, NoCache, NoRule}
-use Rattle.sign_desk.specs.declared.adding.AddError.TheVariants as AddError
 use Rattle.signctl_format.specs.declared.credential.ScriptCredential.{ScriptCredential}
 use Rattle.signctl_format.specs.declared.credential.ScriptRule.{ScriptRule}
 use Rattle.signctl_format.specs.declared.credential.ScriptRule.TheVariants.{Now, Cred}

@@ -1,17 +1,17 @@
 -- What a run takes and adds, from how its reading closed and its lines stopped.
-use Rattle.std.proofs.Common.{◌≡◌, ◌≤◌, ◌<◌, ◌⊎◌, inl, inr, ℕ, ◌+◌, Bool, true, false, nat_lt, List, [], ◌∷◌, ◌++◌, length, take, Option, Some, None, Result, Ok, Err, IsSome, if◌then◌else◌, refl, sym, ap, ◌∙◌, subst, arith}
+use Rattle.std.proofs.Common.{◌≡◌, ◌≤◌, ◌<◌, inl, inr, ℕ, Bool, true, false, nat_lt, List, [], ◌++◌, length, take, Option, Some, None, Result, Ok, Err, if◌then◌else◌, refl, sym, ap, ◌∙◌, subst, arith}
 use Rattle.std.proofs.lemmas.List.{append-nil}
 use Rattle.std.proofs.lemmas.Bool.Decides.{nat_tests}
-use Rattle.std.specs.Io.KnownBytes.{Appends, Consumes}
+use Rattle.std.specs.Io.KnownBytes.{Consumes}
 use Rattle.signctl_core.specs.declared.input.Close.{Close}
 use Rattle.signctl_core.specs.declared.input.Close.TheVariants as close
 use Rattle.signctl_core.specs.declared.script.Stop.{Stop}
 use Rattle.signctl_core.specs.declared.script.Stop.TheVariants.{BadLine, WriteFault, OutOfMemory}
 use Rattle.signctl_core.specs.Input.{most_bytes, ClosesBy}
-use Rattle.signctl_core.specs.Output.{IsFront, AppendsPart}
-use Rattle.signctl_core.specs.Script.{Ending, End, Fault, Script, script_of}
+use Rattle.signctl_core.specs.Output.{IsFront}
+use Rattle.signctl_core.specs.Script.{Ending, End, Fault, script_of}
 use Rattle.signctl_core.specs.ScriptOutput.{script_output, output_of, closing_lines, ended}
-use Rattle.signctl_core.specs.Serving.{InputStopsBy, script_read, closing_of, output_read}
+use Rattle.signctl_core.specs.Serving.{InputStopsBy, output_read}
 use Rattle.signctl_core.specs.Run.{IfTold, ScriptAdds, ended_by}
 use Rattle.signctl_core.proofs.ScriptLines.{front-of, output-fault_front}
 use Rattle.signctl_format.specs.Lines.{too_much_line}

@@ -1,6 +1,5 @@
 -- Lines served one after another: what they add to the sink, and where they stop.
 use Rattle.std.proofs.Common.{◌≡◌, ◌≤◌, ℕ, ◌+◌, Bool, List, [], ◌∷◌, ◌++◌, length, Option, Some, None, Result, Ok, Err, OnOk, IsSome, refl, sym, ap, ◌∙◌, subst}
-use Rattle.std.proofs.lemmas.List.{append-nil}
 use Rattle.std.specs.Io.KnownBytes.{Appends}
 use Rattle.sign_desk.specs.Kept.{Kept}
 use Rattle.signctl_format.specs.declared.credential.ScriptCredential.{ScriptCredential}
@@ -17,7 +16,7 @@ use Rattle.signctl_core.specs.ScriptOutput.{answer_to, answers_to, output_of, en
 use Rattle.signctl_core.specs.Standing.{StandsFor}
 use Rattle.signctl_core.specs.Serving.{line_output, LineStopsBy, StopsBy}
 use Rattle.signctl_core.proofs.Moved.{appends-then, risen-since}
-use Rattle.signctl_core.proofs.ScriptLines.{answers-more, script-good, script-bad, script-none, front-of, front-behind, answers-front, line-front}
+use Rattle.signctl_core.proofs.ScriptLines.{answers-more, script-good, script-bad, script-none, front-of, front-behind, line-front}
 
 -- a front of nothing is nothing
 pub empty-front : (part : List ℕ) → IsFront part [] → part ≡ []

@@ -1,22 +1,20 @@
 -- The setup and the events of a script, with one more line.
-use Rattle.std.proofs.Common.{◌≡◌, ℕ, Bool, true, false, not, ◌&&◌, ◌==◌, None, Some, List, [], ◌∷◌, ◌++◌, length, refl, sym, ap, ◌∙◌}
+use Rattle.std.proofs.Common.{◌≡◌, ℕ, true, List, [], ◌∷◌, ◌++◌, refl, ap, ◌∙◌}
 use Rattle.std.specs.List.{filter_map}
 use Rattle.std.proofs.lemmas.List.{append-nil}
 use Rattle.std.proofs.lemmas.List.Elements.{filter_map-append}
 use Rattle.sequential_signer.specs.Setup.{Setup, Handle}
 use Rattle.sequential_signer.specs.ReplyDue.{reply_due}
 use Rattle.sequential_signer.specs.Legal.{entries_due}
-use Rattle.sequential_signer.specs.declared.event.Entry.{Entry}
 use Rattle.sequential_signer.specs.declared.event.Event.{Event}
 use Rattle.sequential_signer.specs.declared.event.Loader.{Loader}
-use Rattle.sequential_signer.specs.declared.event.Loader.TheVariants.{Single, Chain}
 use Rattle.sequential_signer.proofs.Due.{entries_due-more}
 use Rattle.signctl_format.specs.declared.credential.ScriptCredential.{ScriptCredential}
 use Rattle.signctl_format.specs.declared.credential.ScriptRule.{ScriptRule}
 use Rattle.signctl_format.specs.declared.item.Item.{Item}
 use Rattle.signctl_format.specs.declared.item.Item.TheVariants as item
 use Rattle.signctl_format.specs.Policy.{script_policy}
-use Rattle.signctl_core.specs.Script.{setup_in, events_in, is_none, is_built, loader_in, handle_in, event_in, script_rules, place_of_rule}
+use Rattle.signctl_core.specs.Script.{setup_in, events_in, is_none, loader_in, handle_in, event_in, script_rules, place_of_rule}
 use Rattle.signctl_core.specs.ScriptOutput.{transcript_of}
 
 abbrev setup_by : List Loader → List Handle → Setup ScriptRule

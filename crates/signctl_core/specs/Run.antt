@@ -1,7 +1,6 @@
 -- What a run of `script` takes and adds, by how it ends.
 use Rattle.std.specs.Prelude.{◌≡◌, ◌++◌, ◌<◌, ◌≤◌, ◌⊎◌, ℕ, Bool, false, List, [], ◌∷◌, Option, Some, None, Result, Ok, Err, IsSome, length, codes}
 use Rattle.std.specs.Str.{bytes_eq}
-use Rattle.std.specs.Io.KnownBytes.{Appends}
 use Rattle.signctl_core.specs.declared.input.Close.{Close}
 use Rattle.signctl_core.specs.declared.input.Close.TheVariants as close
 use Rattle.signctl_core.specs.declared.script.Stop.{Stop}
@@ -9,9 +8,9 @@ use Rattle.signctl_core.specs.declared.script.Stop.TheVariants as stop
 use Rattle.signctl_core.specs.declared.status.Status.{Status}
 use Rattle.signctl_core.specs.declared.status.Status.TheVariants.{Done, Usage, Refused, ReadFault, WriteFault, OutOfMemory}
 use Rattle.signctl_core.specs.Input.{most_bytes}
-use Rattle.signctl_core.specs.Output.{IsFront, AppendsPart}
-use Rattle.signctl_core.specs.Script.{Ending, End, Fault, Script, script_of}
-use Rattle.signctl_core.specs.ScriptOutput.{script_output, output_of}
+use Rattle.signctl_core.specs.Output.{IsFront}
+use Rattle.signctl_core.specs.Script.{End, Fault, script_of}
+use Rattle.signctl_core.specs.ScriptOutput.{script_output}
 
 -- whether the words are the one word `script`
 abbrev pub is_script : List (List ℕ) → Bool

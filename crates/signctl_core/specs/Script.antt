@@ -1,6 +1,6 @@
 -- How a script is read: its lines, and the items that they spell, up to the first bad line.
-use Rattle.std.specs.Prelude.{ℕ, Bool, true, false, not, ◌&&◌, ◌==◌, List, [], ◌∷◌, ◌++◌, Option, Some, None, if◌then◌else◌, length, filter_map}
-use Rattle.std.specs.List.{slice_split, list_any}
+use Rattle.std.specs.Prelude.{ℕ, Bool, true, false, ◌&&◌, ◌==◌, List, [], ◌∷◌, ◌++◌, Option, Some, None, if◌then◌else◌, length, filter_map}
+use Rattle.std.specs.List.{slice_split}
 use Rattle.sequential_signer.specs.Setup.{Setup, Handle}
 use Rattle.sequential_signer.specs.declared.event.Event.{Event}
 use Rattle.sequential_signer.specs.declared.event.Loader.{Loader}

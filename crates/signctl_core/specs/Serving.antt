@@ -1,16 +1,15 @@
 -- What serving a script's lines adds to a sink, by where it stops.
-use Rattle.std.specs.Prelude.{◌≡◌, ◌<◌, ◌≤◌, ◌+◌, ◌++◌, ◌⊎◌, ℕ, Bool, List, [], ◌∷◌, Option, Some, None, Result, Ok, Err, IsSome, length, take}
-use Rattle.std.specs.Io.KnownBytes.{Appends, Keeps}
+use Rattle.std.specs.Prelude.{◌≡◌, ◌≤◌, ◌+◌, ◌++◌, ℕ, Bool, List, [], ◌∷◌, Option, None, Result, Ok, Err, IsSome, length, take}
+use Rattle.std.specs.Io.KnownBytes.{Appends}
 use Rattle.sign_base.specs.Faults.{HasRisen}
 use Rattle.sign_desk.specs.Kept.{Kept}
 use Rattle.signctl_format.specs.declared.credential.ScriptCredential.{ScriptCredential}
 use Rattle.signctl_format.specs.declared.credential.ScriptRule.{ScriptRule}
 use Rattle.signctl_format.specs.declared.item.Item.{Item}
-use Rattle.signctl_format.specs.declared.print.Cause.{Cause}
 use Rattle.signctl_format.specs.Lines.{fault_line, too_much_line}
 use Rattle.signctl_core.specs.declared.script.Stop.{Stop}
 use Rattle.signctl_core.specs.declared.script.Stop.TheVariants.{BadLine, WriteFault, OutOfMemory}
-use Rattle.signctl_core.specs.Output.{IsFront, AppendsPart}
+use Rattle.signctl_core.specs.Output.{AppendsPart}
 use Rattle.signctl_core.specs.declared.input.Close.{Close}
 use Rattle.signctl_core.specs.declared.input.Close.TheVariants as close
 use Rattle.signctl_core.specs.Input.{most_bytes}

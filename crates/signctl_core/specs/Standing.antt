@@ -1,7 +1,6 @@
 -- What a session keeps of the lines that it has served.
 use Rattle.std.specs.Prelude.{◌≡◌, ℕ, ◌+◌, ◌++◌, ◌<◌, Bool, true, false, not, List, [], ◌∷◌, length, Result, Ok, Err}
 use Rattle.sign_desk.specs.Kept.{Kept, Represents, setup_of}
-use Rattle.sequential_signer.specs.declared.event.Event.{Event}
 use Rattle.signctl_format.specs.declared.credential.ScriptCredential.{ScriptCredential}
 use Rattle.signctl_format.specs.declared.credential.ScriptRule.{ScriptRule}
 use Rattle.signctl_format.specs.declared.item.Item.{Item}

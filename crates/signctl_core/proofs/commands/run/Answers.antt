@@ -1,6 +1,6 @@
-use Rattle.std.proofs.Common.{◌≡◌, sym, subst}
+use Rattle.std.proofs.Common.{sym, subst}
 use Rattle.signctl_core.specs.declared.status.Status.{Status}
-use Rattle.signctl_core.specs.Run.{IfTold, ScriptAdds, ended_by}
+use Rattle.signctl_core.specs.Run.{IfTold, ScriptAdds}
 use Rattle.signctl_core.proofs.RunAdds.{run-adds}
 use Rattle.signctl_core.proofs.commands.run.Goals as goal
 

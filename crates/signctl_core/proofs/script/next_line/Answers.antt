@@ -1,4 +1,4 @@
-use Rattle.std.proofs.Common.{◌≡◌, ◌+◌, ◌∷◌, ◌∙◌, ℕ, List, sym, ap, take, drop}
+use Rattle.std.proofs.Common.{◌+◌, ◌∷◌, ◌∙◌, ℕ, List, sym, ap, drop}
 use Rattle.std.specs.List.{slice_split}
 use Rattle.signctl_core.specs.Script.{is_newline}
 use Rattle.signctl_core.proofs.LineCut.{split-position, split-nowhere}

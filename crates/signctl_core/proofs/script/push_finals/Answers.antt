@@ -1,11 +1,11 @@
-use Rattle.std.proofs.Common.{◌≡◌, ◌<◌, ◌+◌, ◌++◌, ◌∷◌, [], ℕ, List, Option, length, sym, ap, ◌∙◌, append_assoc, add-one, arith}
+use Rattle.std.proofs.Common.{◌≡◌, ◌<◌, ◌++◌, ℕ, List, Option, length, sym, ap, ◌∙◌, append_assoc, add-one, arith}
 use Rattle.std.proofs.lemmas.List.{append-nil}
 use Rattle.sequential_signer.specs.SequentialCache.{sequential_cache}
 use Rattle.signctl_format.specs.declared.credential.ScriptCredential.{ScriptCredential}
 use Rattle.signctl_format.specs.Policy.{script_policy}
 use Rattle.signctl_format.specs.Lines.{final_line}
 use Rattle.signctl_core.specs.Script.{setup_in}
-use Rattle.signctl_core.specs.ScriptOutput.{final_lines_of, final_line_of, ended, transcript_of}
+use Rattle.signctl_core.specs.ScriptOutput.{final_lines_of, final_line_of, transcript_of}
 use Rattle.signctl_core.proofs.Closing.{finals-none, finals-more, cached-is}
 use Rattle.signctl_core.proofs.NextLine.{line-ended}
 use Rattle.signctl_core.proofs.script.push_finals.Goals as goal

@@ -1,5 +1,4 @@
-use Rattle.std.proofs.Common.{ℕ, List, Result, Err, Ok, ◌∙◌, subst, sym, ap}
-use Rattle.signctl_format.specs.declared.item.Item.{Item}
+use Rattle.std.proofs.Common.{ℕ, List, Err, Ok, ◌∙◌, subst, sym, ap}
 use Rattle.signctl_core.specs.Script.{Script}
 use Rattle.signctl_core.specs.Standing.{StandsFor}
 use Rattle.signctl_core.specs.Serving.{StopsBy, FitsClose, script_read}

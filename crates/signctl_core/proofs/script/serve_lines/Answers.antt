@@ -1,8 +1,8 @@
-use Rattle.std.proofs.Common.{◌≡◌, ◌≤◌, ◌∷◌, ◌∙◌, [], ℕ, Bool, true, false, List, sym, ap, refl, subst, arith}
+use Rattle.std.proofs.Common.{◌≡◌, ◌∷◌, ◌∙◌, [], ℕ, Bool, true, false, List, sym, ap, refl, subst, arith}
 use Rattle.std.specs.List.{slice_split}
 use Rattle.std.specs.Io.KnownBytes.{Appends}
 use Rattle.signctl_format.specs.declared.item.Item.{Item}
-use Rattle.signctl_core.specs.Script.{Ending, lines_of, ending_by, is_newline, script_from, Script}
+use Rattle.signctl_core.specs.Script.{lines_of, ending_by, is_newline, script_from, Script}
 use Rattle.signctl_core.specs.ScriptOutput.{answers_to}
 use Rattle.signctl_core.specs.Standing.{StandsFor}
 use Rattle.signctl_core.proofs.Moved.{appends-nothing}

@@ -1,4 +1,4 @@
-use Rattle.std.proofs.Common.{◌≡◌, ◌≤◌, ◌+◌, ℕ, List, length}
+use Rattle.std.proofs.Common.{◌≡◌, ◌≤◌, ◌+◌, List, length}
 use Rattle.std.specs.Io.KnownBytes.{Appends}
 use Rattle.signctl_format.specs.declared.item.Item.{Item}
 use Rattle.signctl_core.specs.Script.{lines_of, ending_by, script_of, script_from}
