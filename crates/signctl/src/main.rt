@@ -9,6 +9,7 @@ use std::rt::Env;
 use std::{env, io};
 
 const USAGE: &str = "usage: signctl script|view|hmac|grant|load N|pool W J";
+
 const VERSION: &str = "signctl 0.1.0";
 
 fn main(rt: HostRuntime) -> ExitCode {

@@ -1,0 +1,7 @@
+//! Worked examples that cross crates, as tests. Nothing stands on this crate.
+#![tactic(auto)]
+
+#[cfg(test)]
+mod desk_run;
+#[cfg(test)]
+mod waiting;
