@@ -35,6 +35,13 @@ ScriptAdds WriteFault taken rest added = IsFront added (script_output taken End)
 ScriptAdds OutOfMemory taken rest added = IsFront added (script_output taken End)
 ScriptAdds Usage taken rest added = (taken ≡ []) × (added ≡ [])
 
+-- what a script ends with where no read and no write failed
+abbrev pub IsAnswer : Status → Type 0
+IsAnswer Done = Unit {0}
+IsAnswer Refused = Unit {0}
+IsAnswer OutOfMemory = Unit {0}
+IsAnswer _ = ⊥
+
 -- of a source and a sink that tell their bytes: what left the one, what is left, and what was added to the other
 abbrev pub IfTold : Option (List ℕ) → Option (List ℕ) → Option (List ℕ) → Option (List ℕ) → (List ℕ → List ℕ → List ℕ → Type 0) → Type 0
 IfTold (Some given) (Some rest) (Some before) (Some after) P =

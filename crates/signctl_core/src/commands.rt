@@ -1,7 +1,7 @@
 //! The top call: a command by its words, over a source and a sink.
-ghost use Rattle.std.specs.Prelude.{◌≡◌, ◌≤◌, ◌↔◌, false, map, string_bytes};
+ghost use Rattle.std.specs.Prelude.{◌≡◌, ◌≤◌, ◌↔◌, true, false, map, string_bytes};
 ghost use Rattle.sign_base.specs.Faults.{HasRisen};
-ghost use Rattle.signctl_core.specs.Run.{is_script, IfTold, ScriptAdds, ended_by};
+ghost use Rattle.signctl_core.specs.Run.{is_script, IfTold, ScriptAdds, IsAnswer, ended_by};
 
 use crate::input::{Close, Input};
 use crate::script::{Stop, serve_input};
@@ -29,6 +29,11 @@ pub fn run<S: Source, D: Sink>(
     ensures write_fault { result ≡ Status.WriteFault → HasRisen (D.faults sink.old) (D.faults sink.new) }
     ensures reads { S.faults source.old ≤ S.faults source.new }
     ensures writes { D.faults sink.old ≤ D.faults sink.new }
+
+    // Where no fault was met, a script is answered, unless memory was wanting.
+    ensures complete { is_script (map string_bytes words.now) ≡ true
+        → (HasRisen (S.faults source.old) (S.faults source.new) → ⊥)
+        → (HasRisen (D.faults sink.old) (D.faults sink.new) → ⊥) → IsAnswer result }
 {
     if !is_script_command(words) {
         return Status::Usage;
