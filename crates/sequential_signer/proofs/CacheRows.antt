@@ -6,7 +6,8 @@ use Rattle.sequential_signer.specs.Lookup.{Outcome, HandOut, Refuse}
 use Rattle.sequential_signer.specs.Policy.{Policy}
 use Rattle.sequential_signer.specs.SequentialCall.{HoldInput, Over}
 use Rattle.sequential_signer.specs.Setup.{Setup, cache_of, rule_of}
-use Rattle.sequential_signer.specs.Transcript.{same_call, call_of, entries_of}
+use Rattle.wake_lock.specs.Calls.{same_call}
+use Rattle.sequential_signer.specs.Transcript.{call_of, entries_of}
 use Rattle.sequential_signer.specs.Phase.{is_not_now}
 use Rattle.sequential_signer.specs.Turn.{before_call, poll_order, calls_ahead, is_fitting_poll, serves, hold_is_finished, is_served, has_turn}
 use Rattle.sequential_signer.specs.Hold.{begin_of, answers_of, answers_in, answer_in, turn_moment, input_by, hold_input}
@@ -20,7 +21,7 @@ use Rattle.sequential_signer.specs.declared.event.Loader.{Loader}
 use Rattle.sequential_signer.specs.declared.event.Reply.{Reply}
 use Rattle.sequential_signer.specs.declared.event.Reply.TheVariants.{NotNow, Sign, Refused}
 use Rattle.sequential_signer.proofs.Lists.{or_false}
-use Rattle.sequential_signer.proofs.CallNames.{same_call-eq, same_call-refl}
+use Rattle.wake_lock.proofs.Calls.{same_call-eq, same_call-refl}
 use Rattle.sequential_signer.proofs.OwnEntries.{entries_of-own, answers_in-more}
 use Rattle.sequential_signer.proofs.PollOrder.{is_polled, is_served-own, is_served-other, turn_moment-found}
 use Rattle.sequential_signer.proofs.Happens.{GoesOn}

@@ -1,33 +1,11 @@
 -- Names of calls, and lists of them.
-use Rattle.std.proofs.Common.{◌≡◌, ℕ, Bool, true, false, not, cond, ◌&&◌, ◌||◌, ◌==◌, List, [], ◌∷◌, ◌++◌, refl, sym, ◌∙◌, ap, filter, arith}
-use Rattle.std.proofs.lemmas.Bool.Decides.{nat_tests}
+use Rattle.std.proofs.Common.{◌≡◌, Bool, true, false, not, cond, ◌||◌, List, [], ◌∷◌, ◌++◌, refl, sym, ◌∙◌, ap, filter}
 use Rattle.std.specs.List.{list_any}
 use Rattle.wake_lock.specs.declared.CallId.{CallId}
-use Rattle.sequential_signer.specs.Transcript.{same_call}
+use Rattle.wake_lock.specs.Calls.{same_call}
 use Rattle.sequential_signer.specs.Turn.{first_of_each, before_call}
-use Rattle.sequential_signer.proofs.Places.{same_number}
+use Rattle.wake_lock.proofs.Calls.{same_call-eq, same_call-refl, same_call-comm}
 use Rattle.sequential_signer.proofs.Lists.{filter-more_yes, filter-more_no}
-pub use Rattle.sequential_signer.proofs.Lists.{and_left, and_right, or_left, or_right}
-
-pub number_refl : (a : ℕ) → (a == a) ≡ true
-number_refl a = grind (arith, nat_tests)
-
-pub same_call-eq : (a b : CallId) → same_call a b ≡ true → a ≡ b
-same_call-eq a b h =
-    let e : a.handle ≡ b.handle = same_number a.handle b.handle (and_left _ _ h) in
-    let f : a.number ≡ b.number = same_number a.number b.number (and_right _ _ h) in
-    ap (λ (n : ℕ). let r : CallId = record { handle = n; number = a.number } in r) e
-    ∙ ap (λ (n : ℕ). let r : CallId = record { handle = b.handle; number = n } in r) f
-
-pub same_call-refl : (a : CallId) → same_call a a ≡ true
-same_call-refl a = ap (λ v. v && (a.number == a.number)) (number_refl a.handle) ∙ number_refl a.number
-
-number_comm : (a b : ℕ) → (a == b) ≡ (b == a)
-number_comm a b = grind (arith, nat_tests)
-
-pub same_call-comm : (a b : CallId) → same_call a b ≡ same_call b a
-same_call-comm a b =
-    ap (λ v. v && (a.number == b.number)) (number_comm a.handle b.handle) ∙ ap (λ v. (b.handle == a.handle) && v) (number_comm a.number b.number)
 
 -- a filter that keeps the call keeps its place in a list
 any-filter_step : (x : CallId) (q : CallId → Bool) → q x ≡ true → (y : CallId) (ys : List CallId)

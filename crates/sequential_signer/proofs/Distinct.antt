@@ -2,27 +2,11 @@
 use Rattle.std.proofs.Common.{◌≡◌, Bool, true, false, not, cond, ◌&&◌, ◌||◌, List, [], ◌∷◌, ◌++◌, refl, sym, ◌∙◌, ap, subst, filter, map}
 use Rattle.std.specs.List.{list_any, list_all}
 use Rattle.wake_lock.specs.declared.CallId.{CallId}
-use Rattle.sequential_signer.specs.Transcript.{same_call}
+use Rattle.wake_lock.specs.Calls.{same_call, IsOnce}
 use Rattle.sequential_signer.specs.Turn.{first_of_each, before_call}
 use Rattle.sequential_signer.proofs.Lists.{or_true}
-use Rattle.sequential_signer.proofs.CallNames.{same_call-eq, same_call-refl, and_left, and_right, or_left, or_right}
-
-abbrev pub IsOnce : List CallId → Type 0
-IsOnce [] = Unit {0}
-IsOnce (x ∷ xs) = (list_any (same_call x) xs ≡ false) × IsOnce xs
-
-absent-filter : (x : CallId) (q : CallId → Bool) (xs : List CallId) → list_any (same_call x) xs ≡ false → list_any (same_call x) (filter q xs) ≡ false
-absent-filter x q [] h = refl
-absent-filter x q (y ∷ ys) h =
-    let here : same_call x y ≡ false = or_left _ _ h in
-    let later = absent-filter x q ys (or_right _ _ h) in
-    elim (q y) as (λ v. list_any (same_call x) (cond v (y ∷ filter q ys) (filter q ys)) ≡ false) [ true ↦ rw here later | false ↦ later ]
-
-pub once-filter : (q : CallId → Bool) (xs : List CallId) → IsOnce xs → IsOnce (filter q xs)
-once-filter q [] h = tt
-once-filter q (y ∷ ys) h =
-    let later = once-filter q ys h.1 in
-    elim (q y) as (λ v. IsOnce (cond v (y ∷ filter q ys) (filter q ys))) [ true ↦ (absent-filter y q ys h.0, later) | false ↦ later ]
+use Rattle.wake_lock.proofs.Calls.{same_call-eq, same_call-refl, once-filter}
+use Rattle.wake_lock.proofs.Truth.{and_left, and_right, or_left, or_right}
 
 gone : (x : CallId) (xs : List CallId) → list_any (same_call x) (filter (λ other. not (same_call x other)) xs) ≡ false
 gone x [] = refl

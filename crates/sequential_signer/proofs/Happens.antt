@@ -21,7 +21,7 @@ use Rattle.sequential_signer.specs.declared.event.Reply.{Reply}
 use Rattle.sequential_signer.specs.declared.event.Reply.TheVariants.{Begun, Pending, NotNow, Refused, Done, Cancelled}
 use Rattle.sequential_signer.specs.declared.event.Verdict.TheVariants.{Accepted, Failed}
 use Rattle.sequential_signer.specs.declared.event.Why.TheVariants as why
-use Rattle.sequential_signer.proofs.CallNames.{and_right}
+use Rattle.wake_lock.proofs.Truth.{and_right}
 
 -- asking a provider, or signing
 abbrev pub is_busy : Phase → Bool

@@ -17,9 +17,9 @@ use Rattle.sequential_signer.specs.LawsOfCaches.{entries_at, CachesAreIsolated}
 use Rattle.sequential_signer.specs.declared.event.Entry.{Entry}
 use Rattle.sequential_signer.specs.declared.event.Event.{Event}
 use Rattle.sequential_signer.specs.declared.event.Reply.{Reply}
-use Rattle.sequential_signer.proofs.Places.{same_number}
-use Rattle.sequential_signer.proofs.Lists.{and_right, filter-more_yes, filter-more_no, filter-within, filter-swap, list_all-left_out, fold-same, filter-same_on, list_all-same_on, find-same_on}
-use Rattle.sequential_signer.proofs.CallNames.{same_call-eq}
+use Rattle.wake_lock.proofs.Truth.{same_number, and_right}
+use Rattle.sequential_signer.proofs.Lists.{filter-more_yes, filter-more_no, filter-within, filter-swap, list_all-left_out, fold-same, filter-same_on, list_all-same_on, find-same_on}
+use Rattle.wake_lock.proofs.Calls.{same_call-eq}
 use Rattle.sequential_signer.proofs.Distinct.{list_all-filter_of}
 use Rattle.sequential_signer.proofs.Run.{legal-more}
 use Rattle.sequential_signer.proofs.CacheLaw.{order_of_cache, number_of}

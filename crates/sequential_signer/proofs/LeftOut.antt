@@ -5,7 +5,8 @@ use Rattle.wake_lock.specs.declared.CallId.{CallId}
 use Rattle.sequential_signer.specs.Policy.{Policy}
 use Rattle.sequential_signer.specs.Setup.{Setup}
 use Rattle.sequential_signer.specs.SequentialCall.{HoldInput}
-use Rattle.sequential_signer.specs.Transcript.{same_call, call_of, is_about, entries_of, each_after}
+use Rattle.wake_lock.specs.Calls.{same_call}
+use Rattle.sequential_signer.specs.Transcript.{call_of, is_about, entries_of, each_after}
 use Rattle.sequential_signer.specs.Phase.{is_poll, is_pending, is_begun, is_not_now, is_begin_under, is_new_number, is_waiting_poll}
 use Rattle.sequential_signer.specs.Turn.{is_fitting_poll, is_poll_at, poll_order, calls_ahead, before_call, ends_hold, serves, hold_is_finished, is_served, has_turn}
 use Rattle.sequential_signer.specs.Hold.{begun_with, begin_in, begin_of, poll_moment, is_poll_at_turn, turn_moment, answers_of, answers_in, hold_input}
@@ -17,7 +18,8 @@ use Rattle.sequential_signer.specs.declared.event.Event.TheVariants.{Begin, Poll
 use Rattle.sequential_signer.specs.declared.event.Reply.{Reply}
 use Rattle.sequential_signer.specs.declared.event.Reply.TheVariants.{Begun, Pending, NotNow, OutOfMemory, Ask, Sign, Refused, Done, Cancelled}
 use Rattle.sequential_signer.proofs.Lists.{not_false, filter-same, filter-more_yes, filter-more_no, filter-within, filter-swap, fold-same, find-left_out, list_any-left_out, list_all-by, list_all-same, list_all-filter, list_all-more, list_all-left_out}
-use Rattle.sequential_signer.proofs.CallNames.{same_call-eq, same_call-refl, and_left, and_right}
+use Rattle.wake_lock.proofs.Calls.{same_call-eq, same_call-refl}
+use Rattle.wake_lock.proofs.Truth.{and_left, and_right}
 use Rattle.sequential_signer.proofs.Distinct.{list_all-filter_of}
 
 -- the moment of a call's turn stays where what is left out is no poll of the call at its turn, and changes no turn

@@ -20,7 +20,7 @@ use Rattle.sequential_signer.specs.declared.event.Loader.{Loader}
 use Rattle.sequential_signer.specs.declared.event.Loader.TheVariants.{Single, Chain}
 use Rattle.sequential_signer.specs.declared.event.Reply.{Reply}
 use Rattle.sequential_signer.specs.declared.event.Why.TheVariants.{Missing, Range}
-use Rattle.sequential_signer.proofs.CallNames.{and_right}
+use Rattle.wake_lock.proofs.Truth.{and_right}
 use Rattle.sequential_signer.proofs.Due.{legal_last}
 
 pub waiting_is_live : (p : Phase) → is_waiting p ≡ true → is_live p ≡ true

@@ -6,7 +6,8 @@ use Rattle.sequential_signer.specs.Lookup.{Outcome, HandOut, Refuse, cache_looku
 use Rattle.sequential_signer.specs.Policy.{Policy}
 use Rattle.sequential_signer.specs.SequentialCall.{HoldInput, Asking, Over, sequential_call, load_progress, after_lookup}
 use Rattle.sequential_signer.specs.Setup.{Setup, cache_of}
-use Rattle.sequential_signer.specs.Transcript.{same_call, call_of, entries_of, last_of}
+use Rattle.wake_lock.specs.Calls.{same_call}
+use Rattle.sequential_signer.specs.Transcript.{call_of, entries_of, last_of}
 use Rattle.sequential_signer.specs.Phase.{Phase, Unknown, Fresh, Queued, Loading, Signing, Ended, phase_of, phase_in, is_loading, is_waiting, is_waiting_poll}
 use Rattle.sequential_signer.specs.Turn.{is_fitting_poll, has_turn}
 use Rattle.sequential_signer.specs.Hold.{begin_in, begin_of, answers_of, answers_in, turn_moment, hold_input}
@@ -16,8 +17,8 @@ use Rattle.sequential_signer.specs.declared.event.Event.{Event}
 use Rattle.sequential_signer.specs.declared.event.Loader.{Loader}
 use Rattle.sequential_signer.specs.declared.event.Reply.{Reply}
 use Rattle.sequential_signer.specs.declared.event.Reply.TheVariants.{NotNow, Ask}
-use Rattle.sequential_signer.proofs.Places.{same_number, other_number}
-use Rattle.sequential_signer.proofs.CallNames.{same_call-eq, same_call-refl}
+use Rattle.wake_lock.proofs.Truth.{same_number, other_number}
+use Rattle.wake_lock.proofs.Calls.{same_call-eq, same_call-refl}
 use Rattle.sequential_signer.proofs.OwnEntries.{entries_of-other, to_queued}
 use Rattle.sequential_signer.proofs.PollOrder.{turn_moment-found, turn_moment-no}
 use Rattle.sequential_signer.proofs.Happens.{Happens, misfits, begins, waits, idles, looks, gets, accepts, fails, cancels}

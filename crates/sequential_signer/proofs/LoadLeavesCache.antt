@@ -6,7 +6,8 @@ use Rattle.sequential_signer.specs.Lookup.{HandOut, Refuse}
 use Rattle.sequential_signer.specs.Policy.{Policy}
 use Rattle.sequential_signer.specs.SequentialCall.{Asking, Over}
 use Rattle.sequential_signer.specs.Setup.{Setup, cache_of}
-use Rattle.sequential_signer.specs.Transcript.{same_call, call_of, entries_of, kept, is_out_of_memory}
+use Rattle.wake_lock.specs.Calls.{same_call}
+use Rattle.sequential_signer.specs.Transcript.{call_of, entries_of, kept, is_out_of_memory}
 use Rattle.sequential_signer.specs.Phase.{Phase, Unknown, Fresh, Queued, Loading, Signing, Ended, phase_of, is_waiting, is_loading, is_poll}
 use Rattle.sequential_signer.specs.Hold.{begin_of}
 use Rattle.sequential_signer.specs.SequentialCache.{sequential_cache}
@@ -17,7 +18,7 @@ use Rattle.sequential_signer.specs.declared.event.Event.{Event}
 use Rattle.sequential_signer.specs.declared.event.Event.TheVariants.{Poll, Cancel}
 use Rattle.sequential_signer.specs.declared.event.Reply.{Reply}
 use Rattle.sequential_signer.specs.declared.event.Reply.TheVariants.{Pending, NotNow, Ask, Cancelled}
-use Rattle.sequential_signer.proofs.CallNames.{same_call-eq, same_call-refl}
+use Rattle.wake_lock.proofs.Calls.{same_call-eq, same_call-refl}
 use Rattle.sequential_signer.proofs.OwnEntries.{to_queued}
 use Rattle.sequential_signer.proofs.Happens.{Happens, is_busy, misfits, begins, waits, idles, looks, gets, accepts, fails, cancels, due_happens}
 use Rattle.sequential_signer.proofs.Run.{IsRun, more, legal_run, after_keeps, kept-more}

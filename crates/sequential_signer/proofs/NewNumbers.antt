@@ -6,7 +6,8 @@ use Rattle.wake_lock.specs.declared.CallId.{CallId}
 use Rattle.sequential_signer.specs.Transcript.{call_of, is_about, entries_of}
 use Rattle.sequential_signer.specs.Phase.{is_begun, is_begin_under, is_new_number}
 use Rattle.sequential_signer.specs.declared.event.Entry.{Entry}
-use Rattle.sequential_signer.proofs.CallNames.{same_call-eq, number_refl, and_left, and_right}
+use Rattle.wake_lock.proofs.Calls.{same_call-eq}
+use Rattle.wake_lock.proofs.Truth.{number_refl, and_left, and_right}
 
 not_below : (n : ℕ) → nat_lt n n ≡ false
 not_below n = grind (arith, nat_tests)

@@ -6,7 +6,8 @@ use Rattle.sequential_signer.specs.Lookup.{Outcome, HandOut, Refuse, cache_looku
 use Rattle.sequential_signer.specs.Policy.{Policy}
 use Rattle.sequential_signer.specs.SequentialCall.{HoldInput, Progress, Asking, Over, sequential_call, after_lookup, load_progress}
 use Rattle.sequential_signer.specs.Setup.{Setup, cache_of, rule_of, is_of_cache, is_number}
-use Rattle.sequential_signer.specs.Transcript.{same_call, call_of, kept, is_out_of_memory, entries_of}
+use Rattle.wake_lock.specs.Calls.{same_call}
+use Rattle.sequential_signer.specs.Transcript.{call_of, kept, is_out_of_memory, entries_of}
 use Rattle.sequential_signer.specs.Phase.{Phase, Unknown, Fresh, Queued, Loading, Signing, Ended, phase_of, is_waiting, is_loading, is_waiting_poll, is_mark, phase_by}
 use Rattle.sequential_signer.specs.Turn.{has_turn}
 use Rattle.sequential_signer.specs.Hold.{BeginInput, begin_of, answers_of, turn_moment, input_by}
@@ -22,9 +23,9 @@ use Rattle.sequential_signer.specs.declared.event.Event.TheVariants.{Poll, Provi
 use Rattle.sequential_signer.specs.declared.event.Loader.{Loader}
 use Rattle.sequential_signer.specs.declared.event.Reply.{Reply}
 use Rattle.sequential_signer.specs.declared.event.Reply.TheVariants.{NotNow, Sign}
-use Rattle.sequential_signer.proofs.Places.{other_number}
-use Rattle.sequential_signer.proofs.Lists.{and_false, last_of-more, and_left, and_right, false_by}
-use Rattle.sequential_signer.proofs.CallNames.{same_call-eq, same_call-refl, number_refl}
+use Rattle.wake_lock.proofs.Truth.{other_number, and_left, and_right, number_refl}
+use Rattle.sequential_signer.proofs.Lists.{and_false, last_of-more, false_by}
+use Rattle.wake_lock.proofs.Calls.{same_call-eq, same_call-refl}
 use Rattle.sequential_signer.proofs.OwnEntries.{to_queued}
 use Rattle.sequential_signer.proofs.Happens.{Happens, GoesOn, misfits, begins, waits, idles, looks, gets, accepts, fails, cancels, due_happens}
 use Rattle.sequential_signer.proofs.Run.{IsRun, more, legal_run, kept-more, kept-lost, due_in_memory}

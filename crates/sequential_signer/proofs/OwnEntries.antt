@@ -1,13 +1,12 @@
 -- The entries of one call, after one more entry.
-use Rattle.std.proofs.Common.{◌≡◌, Bool, true, false, not, cond, ◌||◌, List, [], ◌∷◌, ◌++◌, Option, Some, None, refl, sym, ◌∙◌, ap}
+use Rattle.std.proofs.Common.{◌≡◌, Bool, true, false, not, cond, ◌||◌, List, [], ◌∷◌, ◌++◌, Option, Some, None, refl, sym, ◌∙◌, ap, ℤ, filter, find, filter_map, option_and_then}
 use Rattle.wake_lock.specs.declared.CallId.{CallId}
-use Rattle.sequential_signer.specs.Transcript.{same_call, call_of, is_about, entries_of}
+use Rattle.wake_lock.specs.Calls.{same_call}
+use Rattle.sequential_signer.specs.Transcript.{call_of, is_about, entries_of, last_of}
 use Rattle.sequential_signer.specs.declared.event.Entry.{Entry}
 use Rattle.std.specs.List.{list_any}
-use Rattle.std.proofs.Common.{ℤ, filter, find, filter_map, option_and_then}
 use Rattle.std.proofs.lemmas.List.{append-nil}
 use Rattle.std.proofs.lemmas.List.Elements.{filter_map-append}
-use Rattle.sequential_signer.specs.Transcript.{last_of}
 use Rattle.sequential_signer.specs.Phase.{Phase, Fresh, Queued, is_mark, is_poll, is_begun, is_not_now, is_waiting_poll, phase_by, phase_at, phase_in}
 use Rattle.sequential_signer.specs.Hold.{BeginInput, begun_with, begin_in, answer_in, answers_in}
 use Rattle.sequential_signer.specs.declared.event.Answer.{Answer}

@@ -1,19 +1,16 @@
 -- The lock of a cache, read from a run: the calls whose holds are open, in the order of their first polls.
-use Rattle.std.proofs.Common.{◌≡◌, ◌⊎◌, inl, inr, if◌then◌else◌, ℕ, Bool, true, false, not, cond, ◌&&◌, ◌||◌, List, [], ◌∷◌, ◌++◌, Option, Some, None, filter, refl, sym, ◌∙◌, ap}
+use Rattle.std.proofs.Common.{◌≡◌, ◌⊎◌, inl, inr, if◌then◌else◌, ℕ, Bool, true, false, not, cond, ◌&&◌, ◌||◌, List, [], ◌∷◌, ◌++◌, filter, refl, sym, ◌∙◌, ap}
 use Rattle.std.specs.List.{list_any, list_all}
 use Rattle.wake_lock.specs.declared.CallId.{CallId}
 use Rattle.sequential_signer.specs.Setup.{Setup}
-use Rattle.sequential_signer.specs.Transcript.{same_call, call_of}
+use Rattle.wake_lock.specs.Calls.{same_call, is_first}
+use Rattle.sequential_signer.specs.Transcript.{call_of}
 use Rattle.sequential_signer.specs.Turn.{before_call, ends_hold, poll_order, hold_is_finished, has_turn}
 use Rattle.sequential_signer.specs.declared.event.Entry.{Entry}
-use Rattle.sequential_signer.proofs.CallNames.{before_call-absent, same_call-eq}
+use Rattle.wake_lock.proofs.Calls.{same_call-eq}
+use Rattle.sequential_signer.proofs.CallNames.{before_call-absent}
 use Rattle.sequential_signer.proofs.Lists.{or_false, filter-more_yes, filter-same}
 use Rattle.sequential_signer.proofs.PollOrder.{is_polled, OrderAfter, stays, grows, hold_is_finished-own, hold_is_finished-other}
-
--- the first of a list is the call
-abbrev pub is_first : CallId → List CallId → Bool
-is_first call [] = false
-is_first call (x ∷ rest) = same_call call x
 
 abbrev pub is_empty : List CallId → Bool
 is_empty [] = true
@@ -49,11 +46,6 @@ module _ (fin : CallId → Bool) where
   all-finished (x ∷ xs) =
       (elim (fin x) as (λ v. (v && list_all fin xs) ≡ is_empty (cond (not v) (x ∷ open_holds xs) (open_holds xs)))
       [ true ↦ all-finished xs | false ↦ refl ])
-
--- the call that stands first
-abbrev pub first_of : List CallId → Option CallId
-first_of [] = None
-first_of (x ∷ rest) = Some x
 
 -- what stands after the call, where it stands first; else nothing
 abbrev pub after_first : CallId → List CallId → List CallId

@@ -3,7 +3,8 @@ use Rattle.std.proofs.Common.{◌≡◌, ℕ, ℤ, Bool, true, false, ◌&&◌, 
 use Rattle.std.specs.List.{list_any}
 use Rattle.wake_lock.specs.declared.CallId.{CallId}
 use Rattle.sequential_signer.specs.Setup.{Setup, is_of_cache}
-use Rattle.sequential_signer.specs.Transcript.{same_call, call_of, is_about, entries_of}
+use Rattle.wake_lock.specs.Calls.{same_call}
+use Rattle.sequential_signer.specs.Transcript.{call_of, is_about, entries_of}
 use Rattle.sequential_signer.specs.Phase.{Phase, Unknown, Fresh, Queued, Loading, Signing, Ended, is_mark, is_poll, is_begun, is_waiting_poll, phase_by, phase_in, phase_of}
 use Rattle.sequential_signer.specs.Turn.{is_fitting_poll, is_poll_at, ends_hold, serves, hold_is_finished, is_served, has_turn}
 use Rattle.sequential_signer.specs.Hold.{BeginInput, begin_in, begin_of, answer_in, answers_in, answers_of, turn_moment, is_poll_at_turn}
@@ -11,7 +12,7 @@ use Rattle.sequential_signer.specs.declared.event.Entry.{Entry}
 use Rattle.sequential_signer.specs.declared.event.Event.{Event}
 use Rattle.sequential_signer.specs.declared.event.Reply.TheVariants.{NotNow}
 use Rattle.sequential_signer.proofs.Lists.{list_any-more, or_false, or_true, and_false}
-use Rattle.sequential_signer.proofs.CallNames.{same_call-eq}
+use Rattle.wake_lock.proofs.Calls.{same_call-eq}
 use Rattle.sequential_signer.proofs.OwnEntries.{entries_of-own, entries_of-other, phase_in-mark, phase_in-not_now, begin_in-found, begin_in-no, answers_in-no, answers_in-not_now}
 use Rattle.sequential_signer.proofs.PollOrder.{poll_order-same, is_polled, is_polled-more, is_polled-other, is_polled-own, hold_is_finished-own, hold_is_finished-other, hold_is_finished-more, is_served-own, is_served-other, has_turn-more, turn_moment-found, HadNoTurn, had_no_turn-more}
 

@@ -4,20 +4,21 @@ use Rattle.std.specs.List.{list_any}
 use Rattle.wake_lock.specs.declared.CallId.{CallId}
 use Rattle.sequential_signer.specs.Policy.{Policy}
 use Rattle.sequential_signer.specs.Setup.{Setup, cache_of, is_of_cache}
-use Rattle.sequential_signer.specs.Transcript.{same_call, call_of}
+use Rattle.wake_lock.specs.Calls.{same_call, IsOnce, is_first, first_of}
+use Rattle.sequential_signer.specs.Transcript.{call_of}
 use Rattle.sequential_signer.specs.Phase.{Phase, Unknown, Fresh, Queued, Loading, Signing, Ended, phase_of, is_queued}
 use Rattle.sequential_signer.specs.Turn.{ends_hold, poll_order, hold_is_finished, has_turn}
 use Rattle.sequential_signer.specs.Wake.{gets_turn, call_to_wake}
 use Rattle.sequential_signer.specs.declared.event.Entry.{Entry}
 use Rattle.sequential_signer.proofs.Lists.{or_true, false_by}
-use Rattle.sequential_signer.proofs.CallNames.{same_call-eq, same_call-refl, same_call-comm, or_left, or_right}
-use Rattle.sequential_signer.proofs.Distinct.{IsOnce, once-filter}
+use Rattle.wake_lock.proofs.Calls.{same_call-eq, same_call-refl, same_call-comm, once-filter}
+use Rattle.wake_lock.proofs.Truth.{or_left, or_right}
 use Rattle.sequential_signer.proofs.PollOrder.{is_polled, is_polled-more, hold_is_finished-other}
 use Rattle.sequential_signer.proofs.Run.{IsRun}
 use Rattle.sequential_signer.proofs.Standing.{Stands, unknown_call, fresh_call, queued_call, loading_call, signing_call, over_call, cancelled_call}
 use Rattle.sequential_signer.proofs.Stands.{stands}
 use Rattle.sequential_signer.proofs.CacheLaw.{order_of_cache, order_once, number_of, list_all-member}
-use Rattle.sequential_signer.proofs.Queue.{is_first, first_of, after_first, queue, queue-leaves, has_turn-polled, is_empty, all-finished}
+use Rattle.sequential_signer.proofs.Queue.{after_first, queue, queue-leaves, has_turn-polled, is_empty, all-finished}
 
 pub find-none : (p : CallId → Bool) (xs : List CallId) → ((b : CallId) → list_any (same_call b) xs ≡ true → p b ≡ false) → find p xs ≡ None
 find-none p [] h = refl

@@ -6,7 +6,8 @@ use Rattle.sequential_signer.specs.Lookup.{HandOut, Refuse}
 use Rattle.sequential_signer.specs.Policy.{Policy}
 use Rattle.sequential_signer.specs.SequentialCall.{HoldInput, Progress, Asking, Over, sequential_call}
 use Rattle.sequential_signer.specs.Setup.{Setup, cache_of, is_of_cache}
-use Rattle.sequential_signer.specs.Transcript.{same_call, call_of}
+use Rattle.wake_lock.specs.Calls.{same_call}
+use Rattle.sequential_signer.specs.Transcript.{call_of}
 use Rattle.sequential_signer.specs.Phase.{phase_of, is_waiting, is_queued, is_signing, is_not_now, event_fits}
 use Rattle.sequential_signer.specs.Turn.{poll_order, hold_is_finished, has_turn, calls_ahead, before_call, ends_hold, is_poll_at}
 use Rattle.sequential_signer.specs.SequentialCache.{sequential_cache}
@@ -23,8 +24,8 @@ use Rattle.sequential_signer.specs.declared.event.Verdict.TheVariants.{Accepted,
 use Rattle.sequential_signer.specs.declared.event.Why.{Why}
 use Rattle.sequential_signer.specs.declared.event.Why.TheVariants.{Service}
 use Rattle.sequential_signer.proofs.Lists.{or_true, and_false, not_true, list_all-same, list_all-same_on}
-use Rattle.sequential_signer.proofs.CallNames.{same_call-eq, same_call-refl, same_call-comm, and_left, and_right}
-use Rattle.sequential_signer.proofs.Places.{same_number, other_number}
+use Rattle.wake_lock.proofs.Calls.{same_call-eq, same_call-refl, same_call-comm}
+use Rattle.wake_lock.proofs.Truth.{and_left, and_right, same_number, other_number}
 use Rattle.sequential_signer.proofs.PollOrder.{is_polled, is_polled-more, poll_order-same, poll_order-poll, calls_ahead-more, hold_is_finished-own, hold_is_finished-other}
 use Rattle.sequential_signer.proofs.Run.{IsRun}
 use Rattle.sequential_signer.proofs.Stands.{stands, signing_served}

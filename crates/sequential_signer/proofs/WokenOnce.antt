@@ -6,7 +6,8 @@ use Rattle.sequential_signer.specs.Lookup.{HandOut, Refuse}
 use Rattle.sequential_signer.specs.Policy.{Policy}
 use Rattle.sequential_signer.specs.SequentialCall.{Asking, Over}
 use Rattle.sequential_signer.specs.Setup.{Setup, cache_of}
-use Rattle.sequential_signer.specs.Transcript.{same_call, kept, call_of, is_out_of_memory, entries_of}
+use Rattle.wake_lock.specs.Calls.{same_call}
+use Rattle.sequential_signer.specs.Transcript.{kept, call_of, is_out_of_memory, entries_of}
 use Rattle.sequential_signer.specs.Phase.{Phase, Unknown, Fresh, Queued, Loading, Signing, Ended, phase_of, phase_in, is_waiting, is_queued, is_waiting_poll}
 use Rattle.sequential_signer.specs.Turn.{has_turn, hold_is_finished, calls_ahead, ends_hold}
 use Rattle.sequential_signer.specs.Hold.{begin_of}
@@ -19,7 +20,7 @@ use Rattle.sequential_signer.specs.declared.event.Event.TheVariants.{Poll}
 use Rattle.sequential_signer.specs.declared.event.Reply.{Reply}
 use Rattle.sequential_signer.specs.declared.event.Reply.TheVariants.{Begun, Pending, NotNow, OutOfMemory, Ask, Sign, Refused, Done, Cancelled}
 use Rattle.sequential_signer.proofs.Lists.{filter-more_yes, filter-more_no, filter-within, list_all-same}
-use Rattle.sequential_signer.proofs.CallNames.{same_call-eq, same_call-refl, same_call-comm}
+use Rattle.wake_lock.proofs.Calls.{same_call-eq, same_call-refl, same_call-comm}
 use Rattle.sequential_signer.proofs.OwnEntries.{to_queued}
 use Rattle.sequential_signer.proofs.PollOrder.{has_turn-more, calls_ahead-own}
 use Rattle.sequential_signer.proofs.Happens.{Happens, is_busy, misfits, begins, waits, idles, looks, gets, accepts, fails, cancels, due_happens}

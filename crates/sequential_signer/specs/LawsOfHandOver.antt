@@ -4,7 +4,8 @@ use Rattle.wake_lock.specs.declared.CallId.{CallId}
 use Rattle.sequential_signer.specs.Policy.{Policy}
 use Rattle.sequential_signer.specs.Lookup.{cache_lookup}
 use Rattle.sequential_signer.specs.Setup.{Setup, cache_of, rule_of}
-use Rattle.sequential_signer.specs.Transcript.{same_call, kept}
+use Rattle.wake_lock.specs.Calls.{same_call}
+use Rattle.sequential_signer.specs.Transcript.{kept}
 use Rattle.sequential_signer.specs.Phase.{phase_of, is_waiting, is_queued, is_loading}
 use Rattle.sequential_signer.specs.Turn.{poll_order, hold_is_finished, has_turn}
 use Rattle.sequential_signer.specs.Hold.{BeginInput, begin_of}

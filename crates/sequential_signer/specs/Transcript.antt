@@ -1,15 +1,12 @@
 -- Transcripts: what happened so far, the oldest entry first.
-use Rattle.std.specs.Prelude.{Bool, true, false, not, ◌&&◌, ◌==◌, List, [], ◌∷◌, ◌++◌, Option, Some, None, filter}
+use Rattle.std.specs.Prelude.{Bool, true, false, not, List, [], ◌∷◌, ◌++◌, Option, Some, None, filter}
 use Rattle.wake_lock.specs.declared.CallId.{CallId}
+use Rattle.wake_lock.specs.Calls.{same_call}
 use Rattle.sequential_signer.specs.declared.event.Entry.{Entry}
 use Rattle.sequential_signer.specs.declared.event.Event.{Event}
 use Rattle.sequential_signer.specs.declared.event.Event.TheVariants.{Begin, Poll, Provided, Signed, Cancel}
 use Rattle.sequential_signer.specs.declared.event.Reply.{Reply}
 use Rattle.sequential_signer.specs.declared.event.Reply.TheVariants.{OutOfMemory}
-
--- whether two names are of one call
-abbrev pub same_call : CallId → CallId → Bool
-same_call a b = a.handle == b.handle && a.number == b.number
 
 -- the call that an event is about
 abbrev pub call_of : {K : Type 0} → Event K → CallId

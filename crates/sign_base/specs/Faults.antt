@@ -9,6 +9,11 @@ last_count = 2 ^ 64 - 1
 abbrev pub HasRisen : ℕ → ℕ → Type 0
 HasRisen before now = (before < now) ⊎ ((before ≡ last_count) × (now ≡ last_count))
 
--- one fault more
+-- one fault more, up to the last number
 abbrev pub one_more : ℕ → ℕ
 one_more count = min (count + 1) last_count
+
+-- a reader or a writer of the standard library, and how often it has failed
+pub record Counted (S : Type 0) : Type 0 where
+  pub stream : S
+  pub faults : ℕ

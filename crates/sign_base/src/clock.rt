@@ -1,6 +1,6 @@
 //! Where moments come from. A clock may go back, and nothing is claimed of it but what its type
 //! tells; code that reads one is proved for every moment.
-ghost use Rattle.std.specs.Prelude.{◌≡◌, ℤ, ◌<◌, length, ⊤};
+ghost use Rattle.std.specs.Prelude.{◌≡◌, ℤ, pos, ◌<◌, length, ⊤};
 ghost use Rattle.sign_base.specs.Clock.{ReadsFirst};
 
 use crate::Timestamp;
@@ -57,16 +57,26 @@ impl Clock for ListClock {
     }
 }
 
-/// The system's clock. Where it cannot be read or is out of range, the last moment stands, at first
-/// the start of 1970.
+/// The system's clock, seen as its last reading. Where it cannot be read or is out of range, the
+/// last reading stands, at first the start of 1970.
 #[derive(Drop)]
 pub struct SystemClock<R> {
     system: R,
     last: Timestamp,
 }
 
+impl<R> Model for SystemClock<R> {
+    ghost use Rattle.std.specs.Prelude.{ℤ};
+
+    ghost Value = { ℤ };
+
+    ghost view = { λ c. c.last };
+}
+
 impl<R: time::Clock> SystemClock<R> {
-    pub fn new(system: R) -> SystemClock<R> {
+    pub fn new(system: R) -> SystemClock<R>
+        ensures { result ≡ pos 0 }
+    {
         SystemClock {
             system,
             last: Timestamp::start_of_1970(),
@@ -75,6 +85,8 @@ impl<R: time::Clock> SystemClock<R> {
 }
 
 impl<R: time::Clock> Clock for SystemClock<R> {
+    ghost gives = { λ _ last now. now ≡ last };
+
     fn now(&mut self) -> Timestamp {
         if let Ok(since_1970) = self.system.since_1970() {
             if let Some(now) = Timestamp::start_of_1970().checked_add(since_1970) {

@@ -110,27 +110,45 @@ impl Sink for MemorySink {
     }
 }
 
-/// A writer of the system. It tells nothing of its bytes, and counts its faults up to the last
-/// number of a `u64`. Nothing is tried again, also where the writer was interrupted, and a writer
-/// that takes nothing has failed.
+/// A writer of the standard library. It tells what its writer tells, which is nothing for a file, a
+/// pipe or a terminal, and counts its faults up to the last number of a `u64`. Nothing is tried
+/// again, also where the writer was interrupted, and a writer that takes nothing has failed.
 #[derive(Debug, Drop)]
 pub struct StdSink<W> {
     writer: W,
     faults: u64,
 }
 
+impl<W> Model for StdSink<W> {
+    ghost use Rattle.sign_base.specs.Faults.{Counted};
+
+    ghost Value = { Counted W };
+
+    ghost view = { λ s. record { stream = s.writer; faults = s.faults } };
+}
+
 impl<W: Write> StdSink<W> {
-    pub fn new(writer: W) -> StdSink<W> {
+    pub fn new(writer: W) -> StdSink<W>
+        ensures { result ≡ record { stream = writer; faults = 0 } }
+    {
         StdSink { writer, faults: 0 }
     }
 }
 
 impl<W: Write> Sink for StdSink<W> {
-    ghost holds = { λ _. None };
+    ghost holds = { λ s. W.contents s.stream };
 
     ghost faults = { λ s. s.faults };
 
-    fn write(&mut self, piece: &[u8]) -> Result<usize, Failed> {
+    fn write(&mut self, piece: &[u8]) -> Result<usize, Failed>
+        requires { 0 < length piece.now }
+        ensures faults { self.new.faults ≡ (if is_ok result then self.old.faults else one_more self.old.faults) }
+        ensures some { IfOk result (λ n. 0 < n) }
+        ensures bound { IfOk result (λ n. n ≤ length piece.now) }
+        ensures bytes { WriteAppends (W.contents self.old.stream) (W.contents self.new.stream) result piece.now }
+        ensures cause { OnErr result (HasRisen self.old.faults self.new.faults) }
+        ensures count { self.old.faults ≤ self.new.faults }
+    {
         match self.writer.write(piece) {
             Ok(n) if n > 0 => Ok(n),
             _ => {

@@ -1,9 +1,9 @@
 //! Where bytes come from. A source gives them in pieces of any size, may tell in contracts what is
 //! still to come, and counts its faults, so that a failed read has a cause that a caller can see.
-ghost use Rattle.std.specs.Prelude.{◌≡◌, ℕ, Option, Some, None, List, length, take, drop, ◌++◌, min, ◌<◌, ◌≤◌, OnErr};
+ghost use Rattle.std.specs.Prelude.{◌≡◌, ℕ, Option, Some, None, List, length, take, drop, ◌++◌, min, ◌<◌, ◌≤◌, OnErr, is_ok, if◌then◌else◌};
 ghost use Rattle.std.specs.Io.KnownBytes.{ReadConsumes};
 ghost use Rattle.std.specs.Io.{ReadsAtMost};
-ghost use Rattle.sign_base.specs.Faults.{HasRisen};
+ghost use Rattle.sign_base.specs.Faults.{HasRisen, one_more};
 
 use std::io::Read;
 use std::marker::Model;
@@ -67,26 +67,44 @@ impl Source for MemorySource {
     }
 }
 
-/// A reader of the system. It tells nothing of its bytes, and counts its faults up to the last
-/// number of a `u64`. Nothing is tried again, also where the reader was interrupted.
+/// A reader of the standard library. It tells what its reader tells, which is nothing for a file, a
+/// pipe or a terminal, and counts its faults up to the last number of a `u64`. Nothing is tried
+/// again, also where the reader was interrupted.
 #[derive(Debug, Drop)]
 pub struct StdSource<R> {
     reader: R,
     faults: u64,
 }
 
+impl<R> Model for StdSource<R> {
+    ghost use Rattle.sign_base.specs.Faults.{Counted};
+
+    ghost Value = { Counted R };
+
+    ghost view = { λ s. record { stream = s.reader; faults = s.faults } };
+}
+
 impl<R: Read> StdSource<R> {
-    pub fn new(reader: R) -> StdSource<R> {
+    pub fn new(reader: R) -> StdSource<R>
+        ensures { result ≡ record { stream = reader; faults = 0 } }
+    {
         StdSource { reader, faults: 0 }
     }
 }
 
 impl<R: Read> Source for StdSource<R> {
-    ghost left = { λ _. None };
+    ghost left = { λ s. R.remaining s.stream };
 
     ghost faults = { λ s. s.faults };
 
-    fn read(&mut self, buf: &mut [u8]) -> Result<usize, Failed> {
+    fn read(&mut self, buf: &mut [u8]) -> Result<usize, Failed>
+        requires { 0 < length buf.old }
+        ensures faults { self.new.faults ≡ (if is_ok result then self.old.faults else one_more self.old.faults) }
+        ensures bound { ReadsAtMost result buf.new }
+        ensures bytes { ReadConsumes (R.remaining self.old.stream) (R.remaining self.new.stream) result buf.new }
+        ensures cause { OnErr result (HasRisen self.old.faults self.new.faults) }
+        ensures count { self.old.faults ≤ self.new.faults }
+    {
         match self.reader.read(buf) {
             Ok(n) => Ok(n),
             Err(_) => {

@@ -2,7 +2,7 @@
 use Rattle.std.proofs.Common.{◌≡◌, ℕ, zero, suc, ◌<◌, ◌+◌, ◌-◌, true, List, [], ◌∷◌, Option, Some, None, is_some, option_map, slice_get, length, IfSome, refl, ◌∙◌, ap, arith}
 use Rattle.wake_lock.specs.declared.CallId.{CallId}
 use Rattle.sequential_signer.specs.Setup.{Handle}
-use Rattle.sequential_signer.proofs.CallNames.{and_left, and_right}
+use Rattle.wake_lock.proofs.Truth.{and_left, and_right}
 use Rattle.sign_desk.specs.Queue.{Queue, expected, passed, changed_at}
 use Rattle.sign_desk.specs.Kept.{Kept}
 use Rattle.sign_desk.specs.Sound.{HasPlaces}

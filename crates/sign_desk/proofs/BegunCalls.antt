@@ -6,7 +6,8 @@ use Rattle.std.proofs.lemmas.List.{length-append, map-append}
 use Rattle.wake_lock.specs.declared.CallId.{CallId}
 use Rattle.sequential_signer.specs.Policy.{Policy}
 use Rattle.sequential_signer.specs.Setup.{Setup}
-use Rattle.sequential_signer.specs.Transcript.{same_call, call_of, is_about, entries_of}
+use Rattle.wake_lock.specs.Calls.{same_call, IsOnce}
+use Rattle.sequential_signer.specs.Transcript.{call_of, is_about, entries_of}
 use Rattle.sequential_signer.specs.Phase.{Phase, phase_of, is_begun, is_begin_under, is_new_number}
 use Rattle.sequential_signer.specs.Hold.{begin_of, begin_in, begun_with}
 use Rattle.sequential_signer.specs.declared.event.Entry.{Entry}
@@ -15,8 +16,8 @@ use Rattle.sequential_signer.specs.declared.event.Reply.{Reply}
 use Rattle.sequential_signer.specs.declared.event.Event.TheVariants.{Begin, Poll, Provided}
 use Rattle.sequential_signer.specs.declared.event.Reply.TheVariants.{Begun, Pending, NotNow}
 use Rattle.sequential_signer.proofs.Lists.{filter-more_yes, filter-more_no, or_true, list_any-more}
-use Rattle.sequential_signer.proofs.CallNames.{same_call-eq, same_call-refl, same_call-comm, number_refl, and_left, and_right, or_left, or_right}
-use Rattle.sequential_signer.proofs.Distinct.{IsOnce}
+use Rattle.wake_lock.proofs.Calls.{same_call-eq, same_call-refl, same_call-comm}
+use Rattle.wake_lock.proofs.Truth.{number_refl, and_left, and_right, or_left, or_right}
 use Rattle.sequential_signer.proofs.Happens.{Happens, misfits, begins, waits, idles, looks, gets, accepts, fails, cancels}
 use Rattle.sequential_signer.proofs.Run.{IsRun, start, more}
 use Rattle.sequential_signer.specs.SequentialCall.{Progress, Asking, Over}

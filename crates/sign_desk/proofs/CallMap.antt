@@ -7,11 +7,11 @@ use Rattle.std.specs.Ordering.{is_eq, ordering_then}
 use Rattle.std.specs.BTreeMap.{BTreeMap, get, is_at}
 use Rattle.std.specs.Map.{lookup}
 use Rattle.wake_lock.specs.declared.CallId.{CallId}
-use Rattle.sequential_signer.specs.Transcript.{same_call}
+use Rattle.wake_lock.specs.Calls.{same_call}
 use Rattle.sign_desk.specs.Kept.{find_call}
 use Rattle.sign_desk.specs.Moves.{one_if}
 use Rattle.sign_desk.specs.declared.calls.CallRecord.{CallRecord}
-use Rattle.sequential_signer.proofs.CallNames.{same_call-refl}
+use Rattle.wake_lock.proofs.Calls.{same_call-refl}
 
 module _ (cmp : CallId → CallId → Ordering) (same : (a b : CallId) → is_eq (cmp a b) ≡ same_call a b) where
   lookup_is : (q : CallId) (es : List (CallId × CallRecord)) → lookup (is_at (cmp q)) es ≡ find_call q es

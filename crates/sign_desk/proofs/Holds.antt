@@ -13,7 +13,7 @@ use Rattle.sequential_signer.specs.declared.event.Loader.{Loader}
 use Rattle.sequential_signer.specs.declared.event.Reply.{Reply}
 use Rattle.sequential_signer.specs.declared.event.Reply.TheVariants.{Begun, Pending, NotNow, OutOfMemory, Ask, Sign, Refused, Done, Cancelled}
 use Rattle.sequential_signer.proofs.Lists.{list_any-more, or_false}
-use Rattle.sequential_signer.proofs.CallNames.{or_left, or_right}
+use Rattle.wake_lock.proofs.Truth.{or_left, or_right}
 use Rattle.sequential_signer.proofs.Run.{kept-more}
 use Rattle.sign_desk.specs.Kept.{Kept, setup_of, was_begun, Represents}
 use Rattle.sign_desk.specs.Adding.{with_cache, with_rule, with_handle}

@@ -3,7 +3,8 @@ use Rattle.std.proofs.Common.{◌≡◌, ℕ, true, false, cond, List, [], ◌�
 use Rattle.wake_lock.specs.declared.CallId.{CallId}
 use Rattle.sequential_signer.specs.Policy.{Policy}
 use Rattle.sequential_signer.specs.Setup.{Handle, cache_of, rule_of, is_of_cache, is_number}
-use Rattle.sequential_signer.specs.Transcript.{kept, same_call, call_of}
+use Rattle.wake_lock.specs.Calls.{same_call, first_of}
+use Rattle.sequential_signer.specs.Transcript.{kept, call_of}
 use Rattle.sequential_signer.specs.Phase.{Phase, Unknown, Fresh, Queued, Loading, Signing, Ended, phase_of, event_fits, is_live, is_begun}
 use Rattle.sequential_signer.specs.Hold.{BeginInput, begin_of, answers_of}
 use Rattle.sequential_signer.specs.SequentialCache.{sequential_cache}
@@ -13,10 +14,11 @@ use Rattle.sequential_signer.specs.declared.event.Entry.{Entry}
 use Rattle.sequential_signer.specs.declared.event.Event.{Event}
 use Rattle.sequential_signer.specs.declared.event.Loader.{Loader}
 use Rattle.sequential_signer.specs.declared.event.Reply.TheVariants.{NotNow}
-use Rattle.sequential_signer.proofs.CallNames.{same_call-refl, number_refl}
+use Rattle.wake_lock.proofs.Calls.{same_call-refl}
+use Rattle.wake_lock.proofs.Truth.{number_refl}
 use Rattle.sequential_signer.proofs.Standing.{Stands, fresh_call, queued_call, loading_call, signing_call, begin-own}
 use Rattle.sequential_signer.proofs.Stands.{stands}
-use Rattle.sequential_signer.proofs.Queue.{first_of, after_first}
+use Rattle.sequential_signer.proofs.Queue.{after_first}
 use Rattle.sign_desk.specs.Queue.{woken, line_of, line_at}
 use Rattle.sign_desk.specs.QueueDue.{open_calls, queue_due}
 use Rattle.sign_desk.specs.Kept.{Kept, setup_of, find_call, live_view, phase_of_stage, Represents}

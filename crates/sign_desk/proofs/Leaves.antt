@@ -2,8 +2,9 @@
 use Rattle.std.proofs.Common.{◌≡◌, Bool, true, false, cond, List, [], ◌∷◌, Option, Some, None, is_some, refl, sym, ◌∙◌, ap}
 use Rattle.wake_lock.specs.declared.CallId.{CallId}
 use Rattle.wake_lock.specs.declared.lock.Left.TheVariants.{Holder, Waiter, Absent}
-use Rattle.wake_lock.specs.Lock.{first_of, in_line, is_holder}
-use Rattle.sequential_signer.proofs.CallNames.{same_call-comm}
+use Rattle.wake_lock.specs.Calls.{first_of}
+use Rattle.wake_lock.specs.Lock.{in_line, is_holder}
+use Rattle.wake_lock.proofs.Calls.{same_call-comm}
 use Rattle.sign_desk.specs.Queue.{woken}
 use Rattle.sign_desk.specs.QueueView.{next_of_left}
 

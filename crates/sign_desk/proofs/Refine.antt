@@ -6,7 +6,8 @@ use Rattle.sign_base.specs.declared.head.Head.{Head}
 use Rattle.wake_lock.specs.declared.CallId.{CallId}
 use Rattle.sequential_signer.specs.Policy.{Policy}
 use Rattle.sequential_signer.specs.Setup.{Handle, cache_of}
-use Rattle.sequential_signer.specs.Transcript.{kept, same_call, call_of, entries_of, is_out_of_memory}
+use Rattle.wake_lock.specs.Calls.{same_call}
+use Rattle.sequential_signer.specs.Transcript.{kept, call_of, entries_of, is_out_of_memory}
 use Rattle.sequential_signer.specs.Phase.{Fresh, Queued, phase_of, begin_fits, is_live, is_new_number, is_begun, is_poll}
 use Rattle.sequential_signer.specs.Hold.{begin_of, begin_in, answers_of}
 use Rattle.sequential_signer.specs.SequentialCache.{sequential_cache}
@@ -20,9 +21,10 @@ use Rattle.sequential_signer.specs.declared.event.Loader.{Loader}
 use Rattle.sequential_signer.specs.declared.event.Reply.{Reply}
 use Rattle.sequential_signer.specs.declared.event.Reply.TheVariants.{Begun, Pending, NotNow, OutOfMemory, Ask, Sign, Refused, Done, Cancelled}
 use Rattle.sequential_signer.proofs.Lists.{list_any-more, or_false, or_true, and_false}
-use Rattle.sequential_signer.proofs.CallNames.{same_call-eq, same_call-refl, same_call-comm, number_refl, and_left, and_right}
+use Rattle.wake_lock.proofs.Calls.{same_call-eq, same_call-refl, same_call-comm}
+use Rattle.wake_lock.proofs.Truth.{number_refl, and_left, and_right, same_number, other_number}
 use Rattle.sequential_signer.proofs.OwnEntries.{entries_of-own, entries_of-other, begin_in-new}
-use Rattle.sequential_signer.proofs.Places.{slice_get-set_same, slice_get-set_other, same_number, other_number}
+use Rattle.sequential_signer.proofs.Places.{slice_get-set_same, slice_get-set_other}
 use Rattle.sequential_signer.proofs.Greatest.{is_new_number-is, greatest_begun-more, greater_above}
 use Rattle.sequential_signer.proofs.Run.{IsRun, kept-more, kept-lost, legal_run, legal-more}
 use Rattle.sequential_signer.proofs.NewNumbers.{new_is_unbegun}

@@ -5,7 +5,8 @@ use Rattle.sign_base.specs.declared.head.Head.{Head}
 use Rattle.wake_lock.specs.declared.CallId.{CallId}
 use Rattle.sequential_signer.specs.Policy.{Policy}
 use Rattle.sequential_signer.specs.Setup.{Handle}
-use Rattle.sequential_signer.specs.Transcript.{kept, same_call, call_of, entries_of, is_out_of_memory}
+use Rattle.wake_lock.specs.Calls.{same_call}
+use Rattle.sequential_signer.specs.Transcript.{kept, call_of, entries_of, is_out_of_memory}
 use Rattle.sequential_signer.specs.Phase.{Phase, Fresh, Queued, Loading, Signing, Ended, phase_of, is_live, is_signing, is_waiting_poll, is_begun, is_mark, phase_by}
 use Rattle.sequential_signer.specs.Hold.{begin_of}
 use Rattle.sequential_signer.specs.SequentialCache.{sequential_cache}
@@ -20,7 +21,8 @@ use Rattle.sequential_signer.specs.declared.event.Verdict.{Verdict}
 use Rattle.sequential_signer.specs.declared.event.Verdict.TheVariants.{Accepted}
 use Rattle.sequential_signer.specs.declared.event.Verdict.TheVariants as verdict
 use Rattle.sequential_signer.specs.declared.event.Why.TheVariants as why
-use Rattle.sequential_signer.proofs.CallNames.{or_left, same_call-refl}
+use Rattle.wake_lock.proofs.Calls.{same_call-refl}
+use Rattle.wake_lock.proofs.Truth.{or_left}
 use Rattle.sequential_signer.proofs.Standing.{Stands, IsServed, fresh_call, signing_call, phase-own_mark}
 use Rattle.sequential_signer.proofs.CacheRows.{stays_other, stays_served}
 use Rattle.sequential_signer.proofs.WakeLaw.{wakes}

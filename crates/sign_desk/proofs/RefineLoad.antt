@@ -26,9 +26,10 @@ use Rattle.sequential_signer.specs.declared.event.Reply.TheVariants.{NotNow, Out
 use Rattle.sequential_signer.specs.declared.event.Why.{Why}
 use Rattle.sequential_signer.specs.declared.event.Why.TheVariants as why
 use Rattle.sequential_signer.proofs.Lists.{last_of-more}
-use Rattle.sequential_signer.proofs.CallNames.{same_call-refl}
+use Rattle.wake_lock.proofs.Calls.{same_call-refl}
 use Rattle.sequential_signer.proofs.OwnEntries.{entries_of-own, answers_in-more}
-use Rattle.sequential_signer.proofs.Places.{slice_get-set_same, slice_get-set_other, same_number, other_number}
+use Rattle.wake_lock.proofs.Truth.{same_number, other_number}
+use Rattle.sequential_signer.proofs.Places.{slice_get-set_same, slice_get-set_other}
 use Rattle.sequential_signer.proofs.Happens.{GoesOn}
 use Rattle.sequential_signer.proofs.Standing.{Stands, Loads, loading_call, phase-own_mark}
 use Rattle.sequential_signer.proofs.CacheLaw.{cache_other}

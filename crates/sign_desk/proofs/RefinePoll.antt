@@ -22,9 +22,9 @@ use Rattle.sequential_signer.specs.declared.event.Loader.TheVariants.{Single, Ch
 use Rattle.sequential_signer.specs.declared.event.Reply.{Reply}
 use Rattle.sequential_signer.specs.declared.event.Reply.TheVariants.{Pending, Ask, Sign, Refused}
 use Rattle.sequential_signer.specs.declared.event.Why.TheVariants as why
-use Rattle.sequential_signer.proofs.CallNames.{same_call-refl}
+use Rattle.wake_lock.proofs.Calls.{same_call-refl}
 use Rattle.sequential_signer.proofs.OwnEntries.{to_queued}
-use Rattle.sequential_signer.proofs.Places.{same_number, other_number}
+use Rattle.wake_lock.proofs.Truth.{same_number, other_number}
 use Rattle.sequential_signer.proofs.PollOrder.{is_polled}
 use Rattle.sequential_signer.proofs.Happens.{GoesOn}
 use Rattle.sequential_signer.proofs.Standing.{Stands, Waits, fresh_call, queued_call, loading_call, signing_call, phase-own_mark, answers-own_none}
@@ -33,7 +33,8 @@ use Rattle.sequential_signer.proofs.CacheLaw.{cache_other}
 use Rattle.sequential_signer.proofs.CacheRows.{stays_other, stays_unserved, serves_looked}
 use Rattle.sequential_signer.proofs.Queue.{is_empty, has_turn-polled, has_turn-unpolled}
 use Rattle.sequential_signer.proofs.WakeLaw.{wakes, wakes-nobody}
-use Rattle.sign_desk.specs.Queue.{is_first, is_held_line, woken, entered, passed, left, line_at}
+use Rattle.wake_lock.specs.Calls.{is_first}
+use Rattle.sign_desk.specs.Queue.{is_held_line, woken, entered, passed, left, line_at}
 use Rattle.sign_desk.specs.QueueDue.{is_fresh, live_calls, open_calls}
 use Rattle.sign_desk.specs.Kept.{Kept, setup_of, find_call, live_view, phase_of_stage, Represents}
 use Rattle.sign_desk.specs.declared.calls.CallRecord.{CallRecord}

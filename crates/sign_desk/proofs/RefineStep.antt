@@ -22,7 +22,8 @@ use Rattle.sequential_signer.specs.declared.event.Verdict.{Verdict}
 use Rattle.sequential_signer.specs.declared.event.Verdict.TheVariants.{Accepted}
 use Rattle.sequential_signer.specs.declared.event.Verdict.TheVariants as verdict
 use Rattle.sequential_signer.specs.declared.event.Why.TheVariants as why
-use Rattle.sign_desk.specs.Queue.{is_first, is_held_line, woken, entered, passed, left, line_at}
+use Rattle.wake_lock.specs.Calls.{is_first}
+use Rattle.sign_desk.specs.Queue.{is_held_line, woken, entered, passed, left, line_at}
 use Rattle.sign_desk.specs.Kept.{Kept, setup_of, find_call, Represents}
 use Rattle.sign_desk.specs.IsDesk.{IsSetUp}
 use Rattle.sign_desk.specs.declared.calls.CallRecord.{CallRecord}

@@ -7,7 +7,8 @@ use Rattle.sequential_signer.specs.Policy.{Policy}
 use Rattle.sequential_signer.specs.Lookup.{Outcome, HandOut, Refuse, cache_lookup}
 use Rattle.sequential_signer.specs.SequentialCall.{HoldInput, Asking, Over, sequential_call, load_progress, after_lookup}
 use Rattle.sequential_signer.specs.Setup.{Setup, Handle, cache_of, rule_of, is_of_cache, is_number}
-use Rattle.sequential_signer.specs.Transcript.{kept, same_call, call_of, entries_of, last_of}
+use Rattle.wake_lock.specs.Calls.{same_call}
+use Rattle.sequential_signer.specs.Transcript.{kept, call_of, entries_of, last_of}
 use Rattle.sequential_signer.specs.Phase.{Phase, Unknown, Fresh, Queued, Loading, Signing, Ended, phase_of, is_live, is_waiting, is_loading, is_waiting_poll, is_begun, is_mark, phase_by, phase_in}
 use Rattle.sequential_signer.specs.Hold.{BeginInput, begin_of, begin_in, answers_of, answers_in, turn_moment, input_by}
 use Rattle.sequential_signer.specs.SequentialCache.{sequential_cache}
@@ -22,7 +23,8 @@ use Rattle.sequential_signer.specs.declared.event.Reply.{Reply}
 use Rattle.sequential_signer.specs.declared.event.Reply.TheVariants.{Begun, Pending, NotNow, Ask, Sign, Refused}
 use Rattle.sequential_signer.specs.declared.event.Why.TheVariants as why
 use Rattle.sequential_signer.proofs.Lists.{last_of-more}
-use Rattle.sequential_signer.proofs.CallNames.{same_call-eq, number_refl}
+use Rattle.wake_lock.proofs.Calls.{same_call-eq}
+use Rattle.wake_lock.proofs.Truth.{number_refl}
 use Rattle.sequential_signer.proofs.OwnEntries.{entries_of-own, answers_in-more, to_queued}
 use Rattle.sequential_signer.proofs.PollOrder.{is_polled}
 use Rattle.sequential_signer.proofs.Run.{IsRun}

@@ -4,7 +4,8 @@ use Rattle.std.specs.List.{list_any}
 use Rattle.wake_lock.specs.declared.CallId.{CallId}
 use Rattle.sequential_signer.specs.Policy.{Policy}
 use Rattle.sequential_signer.specs.Setup.{Setup, Handle}
-use Rattle.sequential_signer.specs.Transcript.{same_call, kept}
+use Rattle.wake_lock.specs.Calls.{same_call}
+use Rattle.sequential_signer.specs.Transcript.{kept}
 use Rattle.sequential_signer.specs.Phase.{Phase, Fresh, Queued, Loading, Signing, is_begun}
 use Rattle.sequential_signer.specs.LiveCall.{LiveCall, live_call, greatest_begun}
 use Rattle.sequential_signer.specs.SequentialCache.{sequential_cache}

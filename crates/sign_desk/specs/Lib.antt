@@ -8,6 +8,6 @@ pub mod IsDesk
 pub mod Sound
 pub mod Paired
 pub mod Moves
-pub mod Causes
+pub mod Cause
 pub mod LookSays
 pub mod JudgeSays

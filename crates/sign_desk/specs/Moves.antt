@@ -4,13 +4,13 @@ use Rattle.std.specs.Duration.{as_nanos}
 use Rattle.std.specs.declared.time.Duration.{Duration}
 use Rattle.sign_base.specs.declared.head.Head.{Head}
 use Rattle.wake_lock.specs.declared.CallId.{CallId}
-use Rattle.sequential_signer.specs.Transcript.{same_call}
+use Rattle.wake_lock.specs.Calls.{same_call, is_first}
 use Rattle.sequential_signer.specs.Policy.{Policy}
 use Rattle.sequential_signer.specs.LiveCall.{is_above}
 use Rattle.sequential_signer.specs.Lookup.{Outcome, HandOut, Refuse, check_refreshed}
 use Rattle.sequential_signer.specs.SequentialCall.{Progress, Asking, Over, sequential_call, next_of_chain}
 use Rattle.sequential_signer.specs.Setup.{Handle}
-use Rattle.sign_desk.specs.Queue.{Queue, is_first, woken, expected, entered, passed, left, changed_at, line_at, is_held_line}
+use Rattle.sign_desk.specs.Queue.{Queue, woken, expected, entered, passed, left, changed_at, line_at, is_held_line}
 use Rattle.sign_desk.specs.Kept.{Kept, find_call}
 use Rattle.sign_desk.specs.declared.calls.Stage.{Stage}
 use Rattle.sign_desk.specs.declared.calls.CallRecord.{CallRecord}

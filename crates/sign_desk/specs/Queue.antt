@@ -1,22 +1,12 @@
 -- The queue of a cache: the calls that hold and wait, and the number of those that were begun and not polled.
 use Rattle.std.specs.Prelude.{ℕ, zero, suc, ◌+◌, ◌-◌, Bool, true, false, not, List, [], ◌∷◌, ◌++◌, Option, Some, None, filter, slice_get, if◌then◌else◌}
-use Rattle.std.specs.List.{list_any}
 use Rattle.wake_lock.specs.declared.CallId.{CallId}
-use Rattle.sequential_signer.specs.Transcript.{same_call}
+use Rattle.wake_lock.specs.Calls.{same_call, first_of}
 
 -- the call that holds, then the calls that wait; and how many calls may still come
 pub record Queue : Type 0 where
   pub line : List CallId
   pub unpolled : ℕ
-
--- whether the call is in the line
-abbrev pub is_among : CallId → List CallId → Bool
-is_among call line = list_any (same_call call) line
-
--- whether the call is the first of the line
-abbrev pub is_first : CallId → List CallId → Bool
-is_first call [] = false
-is_first call (x ∷ rest) = same_call call x
 
 abbrev pub is_held_line : List CallId → Bool
 is_held_line [] = false
@@ -25,10 +15,6 @@ is_held_line (x ∷ rest) = true
 -- whether a call holds
 abbrev pub is_held : Queue → Bool
 is_held queue = is_held_line queue.line
-
-abbrev pub first_of : List CallId → Option CallId
-first_of [] = None
-first_of (x ∷ rest) = Some x
 
 -- the call that gets its turn where this call leaves: the second of the line, where this one is the first
 abbrev pub woken : CallId → List CallId → Option CallId

@@ -2,7 +2,8 @@
 use Rattle.std.specs.Prelude.{◌≡◌, ℕ, ◌<◌, ◌≤◌, false, Option, Some, None, length, slice_get, IfSome}
 use Rattle.wake_lock.specs.declared.CallId.{CallId}
 use Rattle.sequential_signer.specs.Setup.{Handle}
-use Rattle.sign_desk.specs.Queue.{Queue, is_among}
+use Rattle.wake_lock.specs.Calls.{is_among}
+use Rattle.sign_desk.specs.Queue.{Queue}
 use Rattle.sign_desk.specs.Kept.{Kept, find_call}
 use Rattle.sign_desk.specs.declared.calls.CallRecord.{CallRecord}
 use Rattle.sign_desk.specs.declared.calls.Stage.TheVariants.{Fresh, Loading}

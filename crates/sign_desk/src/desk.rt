@@ -46,7 +46,7 @@ impl<K: SigningCredential, D: DeadlineRule<Credential = K>> Desk<K, D> {
     ghost use Rattle.sign_desk.specs.Kept.{Represents, setup_of, was_begun};
     ghost use Rattle.sign_desk.specs.Adding.{late, handle_refusal, AddAnswer, AddAnswerBack, with_cache, with_rule, with_handle};
     ghost use Rattle.sign_desk.specs.Moves.{UnchangedBy};
-    ghost use Rattle.sign_desk.specs.Causes.{causes_of, IsCaused};
+    ghost use Rattle.sign_desk.specs.Cause.{cause_of, IsCaused};
     ghost use Rattle.sign_desk.specs.Paired.{paired};
     ghost use Rattle.sequential_signer.specs.declared.event.Entry.{Entry};
     ghost use Rattle.sequential_signer.specs.Policy.{policy_of};
@@ -202,7 +202,7 @@ impl<K: SigningCredential, D: DeadlineRule<Credential = K>> Desk<K, D> {
             → Represents (policy_of K.valid K.valid_at D.deadline) self.new (entries ++ record { event = event.now; reply = result } ∷ []) }
         ensures due { (entries : List (Entry K)) → Represents (policy_of K.valid K.valid_at D.deadline) self.old entries
             → IsLegalEntry (policy_of K.valid K.valid_at D.deadline) (setup_of self.old) (kept entries) (record { event = event.now; reply = result }) }
-        ensures causes { IsCaused (causes_of (policy_of K.valid K.valid_at D.deadline) self.old event.now) result }
+        ensures causes { IsCaused (cause_of (policy_of K.valid K.valid_at D.deadline) self.old event.now) result }
         ensures setup { setup_of self.new ≡ setup_of self.old }
         ensures unchanged { UnchangedBy result self.old self.new }
     {

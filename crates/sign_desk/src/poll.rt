@@ -11,7 +11,8 @@ use wake_lock::CallId;
 
 impl<K: SigningCredential, D: DeadlineRule<Credential = K>> State<K, D> {
     ghost use Rattle.sequential_signer.specs.Policy.{policy_of};
-    ghost use Rattle.sign_desk.specs.Queue.{is_first, is_held_line, line_at};
+    ghost use Rattle.wake_lock.specs.Calls.{is_first};
+    ghost use Rattle.sign_desk.specs.Queue.{is_held_line, line_at};
     ghost use Rattle.sign_desk.specs.Kept.{find_call};
     ghost use Rattle.sign_desk.specs.Sound.{IsCaller};
     ghost use Rattle.sign_desk.specs.Moves.{kept_look, FirstPollMoves, NextPollMoves, PollAt};

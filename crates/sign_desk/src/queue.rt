@@ -1,6 +1,7 @@
 //! The queue of a cache: its lock, with room for each call that was begun and may still come.
 ghost use Rattle.std.specs.Prelude.{◌≡◌, ◌+◌, ◌-◌, ◌<◌, ◌++◌, ◌∷◌, [], false, OnOk, OnErr, ◌^◌};
-ghost use Rattle.sign_desk.specs.Queue.{is_held, is_first, is_among, entered, passed, left, woken, expected};
+ghost use Rattle.wake_lock.specs.Calls.{is_first, is_among};
+ghost use Rattle.sign_desk.specs.Queue.{is_held, entered, passed, left, woken, expected};
 ghost use Rattle.sign_desk.specs.QueueView.{next_of_left};
 
 use sign_base::NoMemory;

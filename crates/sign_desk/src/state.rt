@@ -56,7 +56,8 @@ impl<K, D> Model for State<K, D> {
 }
 
 impl<K: SigningCredential, D: DeadlineRule<Credential = K>> State<K, D> {
-    ghost use Rattle.sign_desk.specs.Queue.{is_first, is_held_line, line_at, entered, passed, left, woken, expected, changed_at};
+    ghost use Rattle.wake_lock.specs.Calls.{is_first};
+    ghost use Rattle.sign_desk.specs.Queue.{is_held_line, line_at, entered, passed, left, woken, expected, changed_at};
     ghost use Rattle.sign_desk.specs.Kept.{find_call};
     ghost use Rattle.sign_desk.specs.StateView.{handle_view};
     ghost use Rattle.sign_desk.specs.Adding.{with_cache, with_rule, with_handle};

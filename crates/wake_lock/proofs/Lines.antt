@@ -1,59 +1,10 @@
--- Lists of calls without repeats: one more at the end, and one taken out.
-use Rattle.std.proofs.Common.{◌≡◌, ℕ, Bool, true, false, not, cond, ◌&&◌, ◌||◌, ◌==◌, List, [], ◌∷◌, ◌++◌, Option, Some, None, filter, drop, refl, sym, ◌∙◌, ap, subst, arith}
-use Rattle.std.proofs.lemmas.Bool.Decides.{nat_tests}
+-- The line of a lock: one more call at its end, and one taken out.
+use Rattle.std.proofs.Common.{◌≡◌, ℕ, true, false, not, List, [], ◌∷◌, ◌++◌, Option, Some, None, filter, drop, refl, sym, ◌∙◌, ap, subst}
 use Rattle.wake_lock.specs.declared.CallId.{CallId}
-use Rattle.wake_lock.specs.Lock.{Lock, same_call, is_among, in_line, line, is_holder, is_held_by, IsOnce, IsLock}
-
-number_same : (a b : ℕ) → (a == b) ≡ true → a ≡ b
-number_same a b h = grind (arith, nat_tests)
-
-number_comm : (a b : ℕ) → (a == b) ≡ (b == a)
-number_comm a b = grind (arith, nat_tests)
-
-and_left : (a b : Bool) → (a && b) ≡ true → a ≡ true
-and_left true b h = refl
-and_left false b h = h
-
-and_right : (a b : Bool) → (a && b) ≡ true → b ≡ true
-and_right true b h = h
-and_right false b h = cc
-
-or_left : (a b : Bool) → (a || b) ≡ false → a ≡ false
-or_left true b h = h
-or_left false b h = refl
-
-or_right : (a b : Bool) → (a || b) ≡ false → b ≡ false
-or_right true b h = cc
-or_right false b h = h
-
-or_none : (a b : Bool) → a ≡ false → b ≡ false → (a || b) ≡ false
-or_none a b h k = rw (h, k) refl
-
-pub same_call-eq : (a b : CallId) → same_call a b ≡ true → a ≡ b
-same_call-eq a b h =
-    let e : a.handle ≡ b.handle = number_same a.handle b.handle (and_left _ _ h) in
-    let f : a.number ≡ b.number = number_same a.number b.number (and_right _ _ h) in
-    ap (λ (n : ℕ). let r : CallId = record { handle = n; number = a.number } in r) e
-    ∙ ap (λ (n : ℕ). let r : CallId = record { handle = b.handle; number = n } in r) f
-
-pub same_call-comm : (a b : CallId) → same_call a b ≡ same_call b a
-same_call-comm a b =
-    ap (λ v. v && (a.number == b.number)) (number_comm a.handle b.handle) ∙ ap (λ v. (b.handle == a.handle) && v) (number_comm a.number b.number)
-
--- a call that is not there is not there after one is taken out
-absent-filter : (q : CallId → Bool) (call : CallId) (xs : List CallId) → is_among call xs ≡ false → is_among call (filter q xs) ≡ false
-absent-filter q call [] h = refl
-absent-filter q call (x ∷ xs) h =
-    let rest : is_among call (filter q xs) ≡ false = absent-filter q call xs (or_right _ _ h) in
-    elim (q x) as (λ v. is_among call (cond v (x ∷ filter q xs) (filter q xs)) ≡ false)
-    [ true ↦ or_none (same_call call x) (is_among call (filter q xs)) (or_left _ _ h) rest | false ↦ rest ]
-
-pub once-filter : (q : CallId → Bool) (xs : List CallId) → IsOnce xs → IsOnce (filter q xs)
-once-filter q [] o = tt
-once-filter q (x ∷ xs) o =
-    let rest : IsOnce (filter q xs) = once-filter q xs o.1 in
-    elim (q x) as (λ v. IsOnce (cond v (x ∷ filter q xs) (filter q xs)))
-    [ true ↦ (absent-filter q x xs o.0, rest) | false ↦ rest ]
+use Rattle.wake_lock.specs.Calls.{same_call, is_among, IsOnce}
+use Rattle.wake_lock.specs.Lock.{Lock, in_line, line, is_holder, is_held_by, IsLock}
+use Rattle.wake_lock.proofs.Truth.{or_left, or_right, or_none}
+use Rattle.wake_lock.proofs.Calls.{same_call-eq, same_call-comm, once-filter}
 
 absent-more : (call last : CallId) (xs : List CallId) → is_among call xs ≡ false → same_call call last ≡ false → is_among call (xs ++ last ∷ []) ≡ false
 absent-more call last [] h s = or_none (same_call call last) false s refl

@@ -1,26 +1,13 @@
 -- A lock with a holder and waiters, in the order in which they came.
-use Rattle.std.specs.Prelude.{◌≡◌, ℕ, Bool, false, ◌&&◌, ◌==◌, List, [], ◌∷◌, Option, Some, None, is_some}
-use Rattle.std.specs.List.{list_any}
+use Rattle.std.specs.Prelude.{◌≡◌, ℕ, Bool, false, List, [], ◌∷◌, Option, Some, None, is_some}
 use Rattle.wake_lock.specs.declared.CallId.{CallId}
-
--- whether two names are of one call
-abbrev pub same_call : CallId → CallId → Bool
-same_call a b = a.handle == b.handle && a.number == b.number
+use Rattle.wake_lock.specs.Calls.{same_call, is_among, IsOnce}
 
 -- the call that holds, the calls that wait, and the calls for which there is room
 pub record Lock : Type 0 where
   pub holder : Option CallId
   pub waiters : List CallId
   pub spare : ℕ
-
--- whether the call is in the list
-abbrev pub is_among : CallId → List CallId → Bool
-is_among call calls = list_any (same_call call) calls
-
--- the first call of the list
-abbrev pub first_of : List CallId → Option CallId
-first_of [] = None
-first_of (call ∷ rest) = Some call
 
 -- a holder and those behind it
 abbrev pub in_line : Option CallId → List CallId → List CallId
@@ -42,11 +29,6 @@ is_holder call (Some holder) = same_call holder call
 -- whether the call holds
 abbrev pub is_held_by : CallId → Lock → Bool
 is_held_by call lock = is_holder call lock.holder
-
--- no call stands twice in the list
-abbrev pub IsOnce : List CallId → Type 0
-IsOnce [] = Unit {0}
-IsOnce (call ∷ rest) = (is_among call rest ≡ false) × IsOnce rest
 
 -- while nobody holds nobody waits, and no call stands twice
 pub record IsLock (lock : Lock) : Type 0 where

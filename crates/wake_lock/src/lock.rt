@@ -5,7 +5,8 @@
 //! wait fails later.
 ghost use Rattle.std.specs.Prelude.{◌≡◌, ◌+◌, ◌<◌, ◌≤◌, ◌++◌, ◌∷◌, [], None, Some, Option, true, false, not, filter, drop, is_some, IsSome, IsTrue, OnOk, OnErr, if◌then◌else◌};
 ghost use Rattle.std.specs.VecDeque.{deque_len, deque_capacity};
-ghost use Rattle.wake_lock.specs.Lock.{same_call, line, first_of, is_held_by, is_among, is_in_line, IsLock};
+ghost use Rattle.wake_lock.specs.Calls.{same_call, first_of, is_among};
+ghost use Rattle.wake_lock.specs.Lock.{line, is_held_by, is_in_line, IsLock};
 
 use crate::CallId;
 use sign_base::NoMemory;

@@ -1,10 +1,6 @@
-use Rattle.std.proofs.Common.{◌≡◌, ◌∙◌, ◌<◌, ◌+◌, ◌++◌, ◌∷◌, [], List, ap, sym, length, take, subst, arith}
+use Rattle.std.proofs.Common.{◌≡◌, ◌∙◌, ◌<◌, ◌+◌, ◌++◌, ◌∷◌, [], ap, sym, length, take, arith}
 use Rattle.std.proofs.lemmas.List.{take_more, length-append, length-take}
-use Rattle.sequential_signer.specs.Policy.{policy_of}
-use Rattle.sequential_signer.specs.declared.event.Entry.{Entry}
 use Rattle.sequential_signer.specs.declared.event.Event.{Event}
-use Rattle.sequential_signer.specs.declared.event.Reply.{Reply}
-use Rattle.sign_desk.specs.Kept.{Represents}
 use Rattle.sign_desk.specs.Paired.{paired}
 use Rattle.sign_desk.proofs.Pairs.{paired-append}
 use Rattle.sign_desk.proofs.desk.Desk.run.Goals as goal

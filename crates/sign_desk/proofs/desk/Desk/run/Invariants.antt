@@ -1,4 +1,4 @@
-use Rattle.std.proofs.Common.{◌≡◌, ◌≤◌, ◌++◌, List, length, take, vec_len, vec_capacity}
+use Rattle.std.proofs.Common.{◌≡◌, ◌≤◌, ◌++◌, List, length, take, vec_capacity}
 use Rattle.sequential_signer.specs.Policy.{policy_of}
 use Rattle.sequential_signer.specs.declared.event.Entry.{Entry}
 use Rattle.sign_desk.specs.Kept.{Represents, setup_of}

@@ -2,7 +2,7 @@ use Rattle.std.proofs.Common.{◌∙◌, ap, subst}
 use Rattle.sequential_signer.specs.Policy.{policy_of}
 use Rattle.sign_desk.specs.Kept.{Kept, setup_of}
 use Rattle.sign_desk.specs.Moves.{UnchangedBy}
-use Rattle.sign_desk.specs.Causes.{causes_of, IsCaused}
+use Rattle.sign_desk.specs.Cause.{cause_of, IsCaused}
 use Rattle.sign_desk.proofs.Caused.{caused}
 use Rattle.sign_desk.proofs.Holds.{desk-step}
 use Rattle.sign_desk.proofs.RefineStep.{represents-step, entry-legal, settles}
@@ -43,4 +43,4 @@ returns-clause-unchanged g c =
 pub returns-clause-causes : goal.returns-clause-causes
 returns-clause-causes g c =
     let policy = policy_of g.K.SigningCredential.valid g.K.SigningCredential.valid_at g.D.DeadlineRule.deadline in
-    subst (λ (k : Kept g.row.K.Denot g.row.D.Denot). IsCaused (causes_of policy k c.args.event.now) c.step.result) c.self.view_is (caused policy c.self.inside.state c.step.new.self c.args.event.now c.step.result c.step.ensures)
+    subst (λ (k : Kept g.row.K.Denot g.row.D.Denot). IsCaused (cause_of policy k c.args.event.now) c.step.result) c.self.view_is (caused policy c.self.inside.state c.step.new.self c.args.event.now c.step.result c.step.ensures)

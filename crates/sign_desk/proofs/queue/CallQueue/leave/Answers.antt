@@ -1,5 +1,5 @@
 use Rattle.std.proofs.Common.{◌∙◌, ap}
-use Rattle.wake_lock.specs.Lock.{is_among}
+use Rattle.wake_lock.specs.Calls.{is_among}
 use Rattle.sign_desk.specs.Queue.{Queue, woken}
 use Rattle.sign_desk.specs.QueueView.{next_of_left}
 use Rattle.sign_desk.proofs.Leaves.{leave-wakes}

@@ -1,6 +1,7 @@
 use Rattle.std.proofs.Common.{◌≡◌, ◌∙◌, sym, ap, ◌-◌, false, not, filter}
 use Rattle.std.specs.VecDeque.{deque_len, deque_capacity}
-use Rattle.wake_lock.specs.Lock.{Lock, same_call, line, in_line, is_among, is_held_by, is_holder}
+use Rattle.wake_lock.specs.Calls.{same_call, is_among}
+use Rattle.wake_lock.specs.Lock.{Lock, line, in_line, is_held_by, is_holder}
 use Rattle.wake_lock.proofs.Lines.{lock-left, holder-leaves, waiter-leaves, absent-leaves}
 use Rattle.wake_lock.proofs.lock.WaitLock.cancel.Goals as goal
 

@@ -1,6 +1,7 @@
 use Rattle.std.proofs.Common.{◌≡◌, ◌-◌, Option, false, ap, ◌∙◌, subst}
 use Rattle.std.specs.VecDeque.{deque_len, deque_capacity}
-use Rattle.wake_lock.specs.Lock.{Lock, line, in_line, is_among, IsOnce}
+use Rattle.wake_lock.specs.Calls.{is_among, IsOnce}
+use Rattle.wake_lock.specs.Lock.{Lock, line, in_line}
 use Rattle.wake_lock.specs.declared.CallId.{CallId}
 use Rattle.wake_lock.proofs.Lines.{lock-enters}
 use Rattle.wake_lock.proofs.lock.WaitLock.enter.Goals as goal
