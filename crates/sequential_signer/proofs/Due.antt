@@ -7,7 +7,8 @@ use Rattle.sequential_signer.specs.Policy.{Policy}
 use Rattle.sequential_signer.specs.Setup.{Setup}
 use Rattle.sequential_signer.specs.Transcript.{kept, is_out_of_memory}
 use Rattle.sequential_signer.specs.ReplyDue.{reply_due}
-use Rattle.sequential_signer.specs.Legal.{IsLegal, IsLegalAfter, IsLegalEntry, with_reply_due, entries_due, replies_due}
+use Rattle.sequential_signer.specs.Legal.{IsLegal, IsLegalAfter, IsLegalEntry, with_reply_due, entries_due}
+use Rattle.sequential_signer.specs.LawsOfReplies.{RepliesDueAreLegal, LegalRepliesAreDue}
 use Rattle.sequential_signer.specs.declared.event.Entry.{Entry}
 use Rattle.sequential_signer.specs.declared.event.Event.{Event}
 use Rattle.sequential_signer.proofs.Run.{due_in_memory, kept-none, kept-more, legal-more, legal_keeps}
@@ -21,11 +22,6 @@ module _ {K D : Type 0} (policy : Policy K D) (setup : Setup D) where
   pub entries_due-more : (events : List (Event K)) (event : Event K) → entries_due policy setup (events ++ event ∷ []) ≡ entries_due policy setup events ++ record { event = event; reply = reply_due policy setup (entries_due policy setup events) event } ∷ []
   unfolding entries_due
   entries_due-more events event = fold-append (with_reply_due policy setup) [] events (event ∷ [])
-
-  pub replies_due-more : (events : List (Event K)) (event : Event K) → replies_due policy setup (events ++ event ∷ []) ≡ replies_due policy setup events ++ reply_due policy setup (entries_due policy setup events) event ∷ []
-  replies_due-more events event =
-      ap (map (λ (e : Entry K). e.reply)) (entries_due-more events event)
-      ∙ map-append (λ (e : Entry K). e.reply) (entries_due policy setup events) (record { event = event; reply = reply_due policy setup (entries_due policy setup events) event } ∷ [])
 
   -- what holds of the empty transcript, and stays with each entry that is due, holds of each transcript that is due
   pub entries_due-keeps : (P : List (Entry K) → Type 0)
@@ -89,14 +85,6 @@ module _ {K D : Type 0} (policy : Policy K D) (setup : Setup D) where
   unfolding IsLegal
   legal_last entries e l = (legal_split [] entries (e ∷ []) l).1.0
 
-  due_by : (entries : List (Entry K)) (e : Entry K) → is_out_of_memory e.reply ≡ false → IsLegalEntry policy setup entries e → e.reply ≡ reply_due policy setup entries e.event
-  due_by entries e h (inl due) = due
-  due_by entries e h (inr lost) = let bad : is_out_of_memory e.reply ≡ true = ap is_out_of_memory lost.0 in cc
-
-  -- the last reply of a legal transcript is the one that is due, unless memory was wanting
-  pub last_is_due : (entries : List (Entry K)) (e : Entry K) → is_out_of_memory e.reply ≡ false → IsLegal policy setup (entries ++ e ∷ []) → e.reply ≡ reply_due policy setup (kept entries) e.event
-  last_is_due entries e h l = due_by (kept entries) e h (legal_last entries e l)
-
   -- what counts of a legal transcript is what is due to its events
   pub counts_is_due : (entries : List (Entry K)) → IsLegal policy setup entries → kept entries ≡ entries_due policy setup (map (λ (e : Entry K). e.event) (kept entries))
   counts_is_due entries l =
@@ -108,6 +96,8 @@ module _ {K D : Type 0} (policy : Policy K D) (setup : Setup D) where
       ∙ ap (entries_due policy setup) (sym (map-append (λ (x : Entry K). x.event) before (e ∷ []))))
       none_due entries l
 
-  -- so it is legal itself
-  pub kept_is_legal : (entries : List (Entry K)) → IsLegal policy setup entries → IsLegal policy setup (kept entries)
-  kept_is_legal entries l = subst (λ v. IsLegal policy setup v) (sym (counts_is_due entries l)) (due_is_legal (map (λ (e : Entry K). e.event) (kept entries)))
+pub replies_due_are_legal : (K D : Type 0) → RepliesDueAreLegal K D
+replies_due_are_legal K D policy setup events = (due_is_legal policy setup events, entries_due-events policy setup events, kept-due policy setup events)
+
+pub legal_replies_are_due : (K D : Type 0) → LegalRepliesAreDue K D
+legal_replies_are_due K D policy setup entries l = ap (map (λ (e : Entry K). e.reply)) (counts_is_due policy setup entries l)

@@ -78,17 +78,6 @@ module _ {K D : Type 0} (setup : Setup D) (entries : List (Entry K)) (i : ℕ) (
       same_by true s = hold_is_finished-own setup entries e b s ∙ ap (λ v. hold_is_finished entries b || v) stays_open ∙ or_false _
       same_by false s = hold_is_finished-other setup entries e b s
 
-  -- an entry that ends no hold leaves the queue, or puts its call at the end
-  pub queue-enters : OrderAfter setup entries i e → hold_is_finished entries (call_of e.event) ≡ false
-      → (queue setup (entries ++ e ∷ []) i ≡ queue setup entries i) ⊎ (queue setup (entries ++ e ∷ []) i ≡ queue setup entries i ++ call_of e.event ∷ [])
-  queue-enters (stays o) f =
-      inl (ap (filter (λ x. not (hold_is_finished (entries ++ e ∷ []) x))) o
-      ∙ filter-same (λ x. not (hold_is_finished (entries ++ e ∷ []) x)) (λ x. not (hold_is_finished entries x)) (λ x. ap not (finished_same x)) (poll_order setup entries i))
-  queue-enters (grows h u o) f =
-      inr (ap (filter (λ x. not (hold_is_finished (entries ++ e ∷ []) x))) o
-      ∙ filter-same (λ x. not (hold_is_finished (entries ++ e ∷ []) x)) (λ x. not (hold_is_finished entries x)) (λ x. ap not (finished_same x)) (poll_order setup entries i ++ call_of e.event ∷ [])
-      ∙ filter-more_yes (λ x. not (hold_is_finished entries x)) (poll_order setup entries i) (call_of e.event) (ap not f))
-
 -- an entry that ends its call's hold takes the call out of the queue
 module _ {K D : Type 0} (setup : Setup D) (entries : List (Entry K)) (i : ℕ) (e : Entry K) (ends : ends_hold e.reply ≡ true) where
   finished_after : (b : CallId) → hold_is_finished (entries ++ e ∷ []) b ≡ (hold_is_finished entries b || same_call b (call_of e.event))

@@ -1,9 +1,9 @@
--- A law of legal transcripts: replies leave nothing to choose.
+-- Laws of legal transcripts: replies leave nothing to choose, and are those that are due.
 use Rattle.std.specs.Prelude.{◌≡◌, Bool, List, map}
 use Rattle.sequential_signer.specs.Policy.{Policy}
 use Rattle.sequential_signer.specs.Setup.{Setup}
-use Rattle.sequential_signer.specs.Transcript.{is_out_of_memory}
-use Rattle.sequential_signer.specs.Legal.{IsLegal}
+use Rattle.sequential_signer.specs.Transcript.{kept, is_out_of_memory}
+use Rattle.sequential_signer.specs.Legal.{IsLegal, entries_due, replies_due}
 use Rattle.sequential_signer.specs.declared.event.Entry.{Entry}
 use Rattle.sequential_signer.specs.declared.event.Event.{Event}
 
@@ -22,3 +22,19 @@ OneLegalTranscript K D =
     → IsLegal policy setup a → IsLegal policy setup b
     → events_of a ≡ events_of b → losses_of a ≡ losses_of b
     → a ≡ b
+
+-- the events one after another, each with the reply that is due, are a legal transcript of these events, and all of it
+-- counts
+abbrev pub RepliesDueAreLegal : Type 0 → Type 0 → Type 0
+RepliesDueAreLegal K D =
+    (policy : Policy K D) (setup : Setup D) (events : List (Event K))
+    → IsLegal policy setup (entries_due policy setup events)
+    × (events_of (entries_due policy setup events) ≡ events)
+    × (kept (entries_due policy setup events) ≡ entries_due policy setup events)
+
+-- what counts of a legal transcript has the replies that are due to its events
+abbrev pub LegalRepliesAreDue : Type 0 → Type 0 → Type 0
+LegalRepliesAreDue K D =
+    (policy : Policy K D) (setup : Setup D) (entries : List (Entry K))
+    → IsLegal policy setup entries
+    → map (λ e. e.reply) (kept entries) ≡ replies_due policy setup (events_of (kept entries))

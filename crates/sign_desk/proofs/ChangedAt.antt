@@ -12,9 +12,6 @@ set-changed f (y ∷ ys) (suc i) v x h e = ap (λ zs. y ∷ zs) (set-changed f y
 pub write-changed : {A : Type 0} (f : A → A) (xs : List A) (i : ℕ) (v x : A) → i < length xs → x ≡ slice_index_or xs i x → v ≡ f x → slice_set xs i v ≡ changed_at f i xs
 write-changed f xs i v x h r e = set-changed f xs i v x (slice_get_read xs (length xs) i x refl h r) e
 
-pub read-item : {A : Type 0} (xs : List A) (i : ℕ) (x : A) → i < length xs → x ≡ slice_index_or xs i x → slice_get xs i ≡ Some x
-read-item xs i x h r = slice_get_read xs (length xs) i x refl h r
-
 -- reads after a change
 pub changed-same : {A : Type 0} (f : A → A) (xs : List A) (i : ℕ) → slice_get (changed_at f i xs) i ≡ option_map f (slice_get xs i)
 changed-same f [] i = refl

@@ -217,7 +217,7 @@ impl<K: SigningCredential, D: DeadlineRule<Credential = K>> Desk<K, D> {
         ensures setup { setup_of self.new ≡ setup_of self.old }
         ensures unchanged { OnErr result (self.new ≡ self.old) }
     {
-        let Ok(mut replies) = Vec::with_capacity(self.state.allocator(), events.len()) else {
+        let Ok(mut replies) = Vec::with_capacity(self.state.alloc, events.len()) else {
             return Err(RunError);
         };
         for event in events {

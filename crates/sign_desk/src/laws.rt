@@ -1,6 +1,6 @@
 //! Laws of legal transcripts, over the definitions alone: each function's contract is the law, for every
 //! type of credentials and of rules, every meaning of them, every setup and every transcript.
-ghost use Rattle.sequential_signer.specs.LawsOfReplies.{OneLegalTranscript};
+ghost use Rattle.sequential_signer.specs.LawsOfReplies.{OneLegalTranscript, RepliesDueAreLegal, LegalRepliesAreDue};
 ghost use Rattle.sequential_signer.specs.LawsOfHandOver.{QueuedAtTurnWasWokenOnce, OnlyQueuedCallsAreWoken, OneCallLoads, SomebodyHasTheTurn, LoadsExactlyWhereTheLookFails};
 ghost use Rattle.sequential_signer.specs.LawsOfCancel.{CancelledLoadLeavesNoTrace, CancelChangesNoCache, CancelledLoadLeavesTheCache};
 ghost use Rattle.sequential_signer.specs.LawsOfCaches.{CachesAreIsolated, OneLoadServesAll};
@@ -9,6 +9,17 @@ ghost use Rattle.sequential_signer.specs.LawsOfCaches.{CachesAreIsolated, OneLoa
 /// transcript.
 pub fn one_legal_transcript<K, D>()
     ensures { OneLegalTranscript K D }
+{}
+
+/// The events one after another, each with the reply that is due, are a legal transcript of these
+/// events, in which memory never wants.
+pub fn replies_due_are_legal<K, D>()
+    ensures { RepliesDueAreLegal K D }
+{}
+
+/// What did not meet want of memory in a legal transcript has the replies that are due to its events.
+pub fn legal_replies_are_due<K, D>()
+    ensures { LegalRepliesAreDue K D }
 {}
 
 /// Each queued call that has its turn was named by exactly one `wake`.

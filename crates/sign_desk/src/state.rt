@@ -81,11 +81,6 @@ impl<K: SigningCredential, D: DeadlineRule<Credential = K>> State<K, D> {
         }
     }
 
-    /// The allocator of all that is kept.
-    pub fn allocator(&self) -> Global {
-        self.alloc
-    }
-
     /// Adds an empty cache, or changes nothing.
     pub fn add_cache(&mut self, loader: Loader) -> Result<(), AllocError>
         ensures added { OnOk result (self.new ≡ with_cache loader self.old) }

@@ -22,11 +22,6 @@ consumes-then (Some a) None c xs ys p q = absurd p
 consumes-then (Some a) (Some b) None xs ys p q = absurd q
 consumes-then (Some a) (Some b) (Some c) xs ys p q = p ∙ ap (λ (s : List ℕ). xs ++ s) q ∙ sym (append_assoc xs ys c)
 
--- nothing consumed
-pub consumes-nothing : (a : Option (List ℕ)) → Consumes a a []
-consumes-nothing None = tt
-consumes-nothing (Some a) = refl
-
 -- a count that rose after it did not fall
 pub risen-since : (a b c : ℕ) → a ≤ b → HasRisen b c → HasRisen a c
 risen-since a b c le h = grind (arith, h)

@@ -23,7 +23,7 @@ use Rattle.signctl_format.specs.declared.credential.ScriptRule.TheVariants.{Now,
 use Rattle.signctl_format.specs.declared.item.Item.{Item}
 use Rattle.signctl_format.specs.declared.item.Item.TheVariants as item
 use Rattle.signctl_format.specs.Policy.{script_policy}
-use Rattle.signctl_core.specs.Script.{setup_in, events_in, is_none, is_built, place_of_rule}
+use Rattle.signctl_core.specs.Script.{setup_in, events_in, is_empty, is_built, place_of_rule}
 use Rattle.signctl_core.specs.ScriptOutput.{transcript_of, ended}
 use Rattle.signctl_core.specs.Standing.{StandsFor}
 use Rattle.signctl_core.proofs.SetupIn.{setup_in-silent, setup_in-cache, setup_in-handle, setup_in-event, events_in-more, transcript-none, transcript-silent, transcript-event, rules-same}
@@ -37,16 +37,16 @@ left_of true b h = refl
 left_of false b h = cc
 
 -- a cache and a handle are built only before the first event
-pub cache-no_event : (items : List Item) (loader : Loader) → is_built items (item.Cache loader) ≡ true → is_none (events_in items) ≡ true
+pub cache-no_event : (items : List Item) (loader : Loader) → is_built items (item.Cache loader) ≡ true → is_empty (events_in items) ≡ true
 cache-no_event items Single h = right_of _ _ h
 cache-no_event items (Chain n) h = cc
 
-pub handle-no_event : (items : List Item) (cache : ℕ) (rule : ScriptRule) → is_built items (item.Handle cache rule) ≡ true → is_none (events_in items) ≡ true
+pub handle-no_event : (items : List Item) (cache : ℕ) (rule : ScriptRule) → is_built items (item.Handle cache rule) ≡ true → is_empty (events_in items) ≡ true
 handle-no_event items cache rule h = right_of _ _ h
 
 module _ (desk : Kept ScriptCredential ScriptRule) (had : Bool) (lines : ℕ) (items : List Item) (stands : StandsFor desk had lines items) where
   -- before the first event no begin was accepted
-  pub not_started : is_none (events_in items) ≡ true → desk.started ≡ false
+  pub not_started : is_empty (events_in items) ≡ true → desk.started ≡ false
   unfolding kept
   not_started h =
       stands.represents.started
@@ -56,16 +56,16 @@ module _ (desk : Kept ScriptCredential ScriptRule) (had : Bool) (lines : ℕ) (i
   next-silent = record {
     setup = stands.setup ∙ sym (setup_in-silent items);
     represents = let P : List (Entry ScriptCredential) → Type 0 = λ t. Represents script_policy desk t in subst P (sym (transcript-silent items)) stands.represents;
-    events = stands.events ∙ ap (λ (v : List (Event ScriptCredential)). not (is_none v)) (sym (events_in-more items item.Silent ∙ append-nil (events_in items)));
+    events = stands.events ∙ ap (λ (v : List (Event ScriptCredential)). not (is_empty v)) (sym (events_in-more items item.Silent ∙ append-nil (events_in items)));
     count = ap (λ n. n + 1) stands.count ∙ sym (length_push items item.Silent);
   }
 
   -- a desk that is set up further, before the first event
-  next-setup : (new : Kept ScriptCredential ScriptRule) (x : Item) → is_none (events_in items) ≡ true → events_in (items ++ x ∷ []) ≡ events_in items → setup_of new ≡ setup_in (items ++ x ∷ []) → Represents script_policy new [] → StandsFor new had (lines + 1) (items ++ x ∷ [])
+  next-setup : (new : Kept ScriptCredential ScriptRule) (x : Item) → is_empty (events_in items) ≡ true → events_in (items ++ x ∷ []) ≡ events_in items → setup_of new ≡ setup_in (items ++ x ∷ []) → Represents script_policy new [] → StandsFor new had (lines + 1) (items ++ x ∷ [])
   next-setup new x none same setup fresh = record {
     setup = setup;
-    represents = let P : List (Entry ScriptCredential) → Type 0 = λ t. Represents script_policy new t in subst P (sym (transcript-none (items ++ x ∷ []) (ap (λ (v : List (Event ScriptCredential)). is_none v) same ∙ none))) fresh;
-    events = stands.events ∙ ap (λ (v : List (Event ScriptCredential)). not (is_none v)) (sym same);
+    represents = let P : List (Entry ScriptCredential) → Type 0 = λ t. Represents script_policy new t in subst P (sym (transcript-none (items ++ x ∷ []) (ap (λ (v : List (Event ScriptCredential)). is_empty v) same ∙ none))) fresh;
+    events = stands.events ∙ ap (λ (v : List (Event ScriptCredential)). not (is_empty v)) (sym same);
     count = ap (λ n. n + 1) stands.count ∙ sym (length_push items x);
   }
 
@@ -101,11 +101,11 @@ module _ (desk : Kept ScriptCredential ScriptRule) (had : Bool) (lines : ℕ) (i
     represents =
         let P : List (Entry ScriptCredential) → Type 0 = λ t. Represents script_policy new t in
         subst P (ap (λ (r : Reply ScriptCredential). transcript_of items ++ record { event = event; reply = r } ∷ []) due ∙ sym (transcript-event items event)) represents;
-    events = sym (ap (λ (v : List (Event ScriptCredential)). not (is_none v)) (events_in-more items (item.Event event)) ∙ one-more (events_in items) event);
+    events = sym (ap (λ (v : List (Event ScriptCredential)). not (is_empty v)) (events_in-more items (item.Event event)) ∙ one-more (events_in items) event);
     count = ap (λ n. n + 1) stands.count ∙ sym (length_push items (item.Event event));
   }
     where
-      one-more : (xs : List (Event ScriptCredential)) (x : Event ScriptCredential) → not (is_none (xs ++ x ∷ [])) ≡ true
+      one-more : (xs : List (Event ScriptCredential)) (x : Event ScriptCredential) → not (is_empty (xs ++ x ∷ [])) ≡ true
       one-more [] x = refl
       one-more (y ∷ rest) x = refl
 
@@ -113,7 +113,7 @@ module _ (desk : Kept ScriptCredential ScriptRule) (had : Bool) (lines : ℕ) (i
   loaders-same = ap (λ (s : Setup ScriptRule). s.loaders) stands.setup
 
   -- before the first event the one refusal of a new cache is want of memory, and its number counts those before it
-  answer-in_time : (why : Option AddError) (number : ℕ) (answer : Result ℕ AddError) → is_none (events_in items) ≡ true → AddAnswer (if desk.started then Some Late else why) number answer → AddAnswer why number answer
+  answer-in_time : (why : Option AddError) (number : ℕ) (answer : Result ℕ AddError) → is_empty (events_in items) ≡ true → AddAnswer (if desk.started then Some Late else why) number answer → AddAnswer why number answer
   answer-in_time why number answer none h =
       let P : Bool → Type 0 = λ b. AddAnswer (if b then Some Late else why) number answer in subst P (not_started none) h
 

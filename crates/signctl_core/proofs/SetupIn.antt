@@ -14,7 +14,7 @@ use Rattle.signctl_format.specs.declared.credential.ScriptRule.{ScriptRule}
 use Rattle.signctl_format.specs.declared.item.Item.{Item}
 use Rattle.signctl_format.specs.declared.item.Item.TheVariants as item
 use Rattle.signctl_format.specs.Policy.{script_policy}
-use Rattle.signctl_core.specs.Script.{setup_in, events_in, is_none, loader_in, handle_in, event_in, script_rules, place_of_rule}
+use Rattle.signctl_core.specs.Script.{setup_in, events_in, is_empty, loader_in, handle_in, event_in, script_rules, place_of_rule}
 use Rattle.signctl_core.specs.ScriptOutput.{transcript_of}
 
 abbrev setup_by : List Loader → List Handle → Setup ScriptRule
@@ -67,11 +67,11 @@ setup_in-handle items cache rule =
     ∙ ap (λ (v : List Loader). setup_by v (filter_map handle_in items ++ record { cache = cache; rule = place_of_rule rule } ∷ [])) (append-nil _)
 
 -- no event yet: the transcript is empty
-pub none-nil : {A : Type 0} (xs : List A) → is_none xs ≡ true → xs ≡ []
+pub none-nil : {A : Type 0} (xs : List A) → is_empty xs ≡ true → xs ≡ []
 none-nil [] h = refl
 none-nil (x ∷ rest) h = cc
 
-pub transcript-none : (items : List Item) → is_none (events_in items) ≡ true → transcript_of items ≡ []
+pub transcript-none : (items : List Item) → is_empty (events_in items) ≡ true → transcript_of items ≡ []
 unfolding entries_due
 transcript-none items h = ap (λ (v : List (Event ScriptCredential)). entries_due script_policy (setup_in items) v) (none-nil (events_in items) h)
 

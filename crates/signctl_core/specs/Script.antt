@@ -71,17 +71,17 @@ setup_in items = record {
 unfoldable pub events_in : List Item → List (Event ScriptCredential)
 events_in items = filter_map event_in items
 
-abbrev pub is_none : {A : Type 0} → List A → Bool
-is_none [] = true
-is_none (x ∷ rest) = false
+abbrev pub is_empty : {A : Type 0} → List A → Bool
+is_empty [] = true
+is_empty (x ∷ rest) = false
 
 -- whether the program serves a line of this kind yet, behind the items of the lines before it
 abbrev pub is_built : List Item → Item → Bool
 is_built before item.Silent = true
-is_built before (item.Cache Single) = is_none (setup_in before).loaders && is_none (events_in before)
+is_built before (item.Cache Single) = is_empty (setup_in before).loaders && is_empty (events_in before)
 is_built before (item.Cache (Chain providers)) = false
 is_built before (item.Handle cache rule) =
-    (cache == 0) && (length (setup_in before).loaders == 1) && is_none (setup_in before).handles && is_none (events_in before)
+    (cache == 0) && (length (setup_in before).loaders == 1) && is_empty (setup_in before).handles && is_empty (events_in before)
 is_built before (item.Event event) = true
 
 -- a line is good, with the item that it spells, or it is bad

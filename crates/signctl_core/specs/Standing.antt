@@ -7,14 +7,14 @@ use Rattle.signctl_format.specs.declared.item.Item.{Item}
 use Rattle.signctl_format.specs.declared.print.Cause.{Cause}
 use Rattle.signctl_format.specs.Policy.{script_policy}
 use Rattle.signctl_format.specs.Lines.{fault_line}
-use Rattle.signctl_core.specs.Script.{setup_in, events_in, is_none, is_built, Reading, Good, Bad}
+use Rattle.signctl_core.specs.Script.{setup_in, events_in, is_empty, is_built, Reading, Good, Bad}
 use Rattle.signctl_core.specs.ScriptOutput.{transcript_of, answer_to, ended}
 
 -- a desk, a note of events and a count of lines stand for the items of the lines so far
 pub record StandsFor (desk : Kept ScriptCredential ScriptRule) (had_event : Bool) (lines : ℕ) (items : List Item) : Type 0 where
   pub setup : setup_of desk ≡ setup_in items
   pub represents : Represents script_policy desk (transcript_of items)
-  pub events : had_event ≡ not (is_none (events_in items))
+  pub events : had_event ≡ not (is_empty (events_in items))
   pub count : lines ≡ length items
 
 -- the numbers of caches and handles fit

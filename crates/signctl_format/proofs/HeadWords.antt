@@ -19,9 +19,6 @@ pub front_led_by : (front : List ℕ) (b : ℕ) (says : Option (List ℕ)) → w
 front_led_by front b None = refl
 front_led_by front b (Some rest) = ap Some (sym (append_assoc front (b ∷ []) rest))
 
-pub front_end : (front : List ℕ) → with_front front (Some []) ≡ Some front
-front_end front = ap Some (append-nil front)
-
 regrouped : (front : List Field) (field : Field) (says : Option (List Field)) → with_front front (says >>= λ fields. Some (field ∷ fields)) ≡ with_front (front ++ field ∷ []) says
 regrouped front field None = refl
 regrouped front field (Some rest) = ap Some (sym (append_assoc front (field ∷ []) rest))

@@ -30,16 +30,6 @@ number_of-some limit n word e =
     let m : ℕ = digits_value 10 word in
     passed limit n (digits_value 10 word) word (bytes_eq word (decimal (digits_value 10 word)) && leb (digits_value 10 word) limit) refl e
 
-none_left : (limit : ℕ) (word : List ℕ) (o : Option ℕ) → number_of limit word ≡ o → ((n : ℕ) → n ≤ limit → word ≡ decimal n → ⊥) → o ≡ None
-none_left limit word None e none = refl
-none_left limit word (Some n) e none =
-    let spelled = number_of-some limit n word e in
-    absurd (none n spelled.1 spelled.0)
-
--- a word that is no number's spelling reads as none
-pub number_of-none : (limit : ℕ) (word : List ℕ) → ((n : ℕ) → n ≤ limit → word ≡ decimal n → ⊥) → number_of limit word ≡ None
-number_of-none limit word none = none_left limit word (number_of limit word) refl none
-
 -- a spelling is text
 pub decimal_is_text : (n : ℕ) (word : List ℕ) → n < 2 ^ 64 → word ≡ decimal n → IsUtf8 word
 decimal_is_text n word small spelled = rw spelled (IsUtf8-from_ascii (decimal n) (IsAscii-decimal n small))
