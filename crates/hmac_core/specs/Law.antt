@@ -8,6 +8,7 @@ use Rattle.hmac_core.specs.Hmac.{hmac_of, block_size}
 abbrev pub HashesLongKeys : (List ℕ → List ℕ) → Type 0
 HashesLongKeys hash = (key text : List ℕ) → block_size < length key → hmac_of hash key text ≡ hmac_of hash (hash key) text
 
+-- so it is with both digests
 pub record LongKeys : Type 0 where
   pub sha1 : HashesLongKeys sha1
   pub sha256 : HashesLongKeys sha256

@@ -1,11 +1,11 @@
 -- Transcripts in which each reply is the one that is due: how they grow, that they count whole, and that they are the
 -- legal ones in which memory never wants.
-use Rattle.std.proofs.Common.{refl, ◌≡◌, true, false, List, [], ◌∷◌, ◌++◌, sym, ◌∙◌, ap, subst, fold, map, inl, inr}
+use Rattle.std.proofs.Common.{refl, ◌≡◌, List, [], ◌∷◌, ◌++◌, sym, ◌∙◌, ap, subst, fold, map, inl}
 use Rattle.std.proofs.lemmas.List.{append-nil, append_assoc, map-append}
 use Rattle.std.proofs.lemmas.List.Sums.{fold-append}
 use Rattle.sequential_signer.specs.Policy.{Policy}
 use Rattle.sequential_signer.specs.Setup.{Setup}
-use Rattle.sequential_signer.specs.Transcript.{kept, is_out_of_memory}
+use Rattle.sequential_signer.specs.Transcript.{kept}
 use Rattle.sequential_signer.specs.ReplyDue.{reply_due}
 use Rattle.sequential_signer.specs.Legal.{IsLegal, IsLegalAfter, IsLegalEntry, with_reply_due, entries_due}
 use Rattle.sequential_signer.specs.LawsOfReplies.{RepliesDueAreLegal, LegalRepliesAreDue}

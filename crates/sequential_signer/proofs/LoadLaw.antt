@@ -9,7 +9,7 @@ use Rattle.sequential_signer.specs.Setup.{Setup, cache_of}
 use Rattle.wake_lock.specs.Calls.{same_call}
 use Rattle.sequential_signer.specs.Transcript.{call_of, entries_of, last_of}
 use Rattle.sequential_signer.specs.Phase.{Phase, Unknown, Fresh, Queued, Loading, Signing, Ended, phase_of, phase_in, is_loading, is_waiting, is_waiting_poll}
-use Rattle.sequential_signer.specs.Turn.{is_fitting_poll, has_turn}
+use Rattle.sequential_signer.specs.Turn.{is_fitting_poll, serves, hold_is_finished, is_served, has_turn}
 use Rattle.sequential_signer.specs.Hold.{begin_in, begin_of, answers_of, answers_in, turn_moment, hold_input}
 use Rattle.sequential_signer.specs.SequentialCache.{sequential_cache}
 use Rattle.sequential_signer.specs.declared.event.Entry.{Entry}
@@ -45,6 +45,17 @@ module _ {K D : Type 0} (policy : Policy K D) (setup : Setup D) where
   asking_none cache loader input k e = asking_by cache loader input k (cache_lookup policy cache input.rule input.duration input.now) refl e
 
   module _ (entries : List (Entry K)) (run : IsRun policy setup entries) where
+    -- a hold that ends leaves the cache of a call that loads, since it ends at another
+    ends_elsewhere : (i : ℕ) (a : CallId) → Loads setup entries i a → (e : Entry K) → same_call a (call_of e.event) ≡ false → serves e.reply ≡ true
+        → (j : ℕ) → cache_of setup (call_of e.event) ≡ Some j → has_turn setup entries j (call_of e.event) ≡ true
+        → hold_is_finished entries (call_of e.event) ≡ false → is_served entries (call_of e.event) ≡ false
+        → sequential_cache policy setup (entries ++ e ∷ []) i ≡ sequential_cache policy setup entries i
+    ends_elsewhere i a l e differ ends j at turn unfinished unserved = by_number (j == i) refl
+      where
+        by_number : (b : Bool) → (j == i) ≡ b → sequential_cache policy setup (entries ++ e ∷ []) i ≡ sequential_cache policy setup entries i
+        by_number true h = absurd (one_turn setup entries i a (call_of e.event) differ l.had.polled l.had.turn l.unfinished (subst (λ n. has_turn setup entries n (call_of e.event) ≡ true) (same_number j i h) turn) unfinished)
+        by_number false h = cache_other policy setup entries run e j at unserved unfinished ends i (other_number j i h)
+
     -- beside a call that loads no other call of its cache is served
     pub other_stays : (i : ℕ) (a : CallId) → Loads setup entries i a → (event : Event K) (reply : Reply K) → Happens policy setup entries event reply → same_call a (call_of event) ≡ false
         → sequential_cache policy setup (entries ++ record { event = event; reply = reply } ∷ []) i ≡ sequential_cache policy setup entries i
@@ -57,40 +68,20 @@ module _ {K D : Type 0} (policy : Policy K D) (setup : Setup D) where
         stays_served policy setup entries run (record { event = event; reply = reply }) refl (signing_served policy setup entries j call (phase_of entries call) s (stands policy setup entries run call j at)).served i
     other_stays i a l event reply (cancels call wake v) differ = stays_other policy setup entries run (record { event = event; reply = reply }) refl refl i
     other_stays i a l event reply (looks call now j (Asking k) wake w t g) differ = stays_other policy setup entries run (record { event = event; reply = reply }) refl refl i
-    other_stays i a l event reply (looks call now j (Over (HandOut c) left) wake w t g) differ = by_number (j == i) refl
-      where
-        x : Waits setup entries j call
-        x = waiting_waits policy setup entries j call (phase_of entries call) w (stands policy setup entries run call j g.at)
-
-        by_number : (b : Bool) → (j == i) ≡ b → sequential_cache policy setup (entries ++ record { event = event; reply = reply } ∷ []) i ≡ sequential_cache policy setup entries i
-        by_number true h = absurd (one_turn setup entries i a call differ l.had.polled l.had.turn l.unfinished (subst (λ n. has_turn setup entries n call ≡ true) (same_number j i h) t) x.unfinished)
-        by_number false h = cache_other policy setup entries run (record { event = event; reply = reply }) j g.at x.unserved x.unfinished refl i (other_number j i h)
-    other_stays i a l event reply (looks call now j (Over (Refuse cause) left) wake w t g) differ = by_number (j == i) refl
-      where
-        x : Waits setup entries j call
-        x = waiting_waits policy setup entries j call (phase_of entries call) w (stands policy setup entries run call j g.at)
-
-        by_number : (b : Bool) → (j == i) ≡ b → sequential_cache policy setup (entries ++ record { event = event; reply = reply } ∷ []) i ≡ sequential_cache policy setup entries i
-        by_number true h = absurd (one_turn setup entries i a call differ l.had.polled l.had.turn l.unfinished (subst (λ n. has_turn setup entries n call ≡ true) (same_number j i h) t) x.unfinished)
-        by_number false h = cache_other policy setup entries run (record { event = event; reply = reply }) j g.at x.unserved x.unfinished refl i (other_number j i h)
+    other_stays i a l event reply (looks call now j (Over (HandOut c) left) wake w t g) differ =
+        let x : Waits setup entries j call = waiting_waits policy setup entries j call (phase_of entries call) w (stands policy setup entries run call j g.at) in
+        ends_elsewhere i a l (record { event = event; reply = reply }) differ refl j g.at t x.unfinished x.unserved
+    other_stays i a l event reply (looks call now j (Over (Refuse cause) left) wake w t g) differ =
+        let x : Waits setup entries j call = waiting_waits policy setup entries j call (phase_of entries call) w (stands policy setup entries run call j g.at) in
+        ends_elsewhere i a l (record { event = event; reply = reply }) differ refl j g.at t x.unfinished x.unserved
     other_stays i a l event reply (gets call now answer j (Asking k) wake w g) differ =
         stays_unserved policy setup entries run (record { event = event; reply = reply }) (loading_loads policy setup entries j call (phase_of entries call) w (stands policy setup entries run call j g.at)).unserved refl i
-    other_stays i a l event reply (gets call now answer j (Over (HandOut c) left) wake w g) differ = by_number (j == i) refl
-      where
-        x : Loads setup entries j call
-        x = loading_loads policy setup entries j call (phase_of entries call) w (stands policy setup entries run call j g.at)
-
-        by_number : (b : Bool) → (j == i) ≡ b → sequential_cache policy setup (entries ++ record { event = event; reply = reply } ∷ []) i ≡ sequential_cache policy setup entries i
-        by_number true h = absurd (one_turn setup entries i a call differ l.had.polled l.had.turn l.unfinished (subst (λ n. has_turn setup entries n call ≡ true) (same_number j i h) x.had.turn) x.unfinished)
-        by_number false h = cache_other policy setup entries run (record { event = event; reply = reply }) j g.at x.unserved x.unfinished refl i (other_number j i h)
-    other_stays i a l event reply (gets call now answer j (Over (Refuse cause) left) wake w g) differ = by_number (j == i) refl
-      where
-        x : Loads setup entries j call
-        x = loading_loads policy setup entries j call (phase_of entries call) w (stands policy setup entries run call j g.at)
-
-        by_number : (b : Bool) → (j == i) ≡ b → sequential_cache policy setup (entries ++ record { event = event; reply = reply } ∷ []) i ≡ sequential_cache policy setup entries i
-        by_number true h = absurd (one_turn setup entries i a call differ l.had.polled l.had.turn l.unfinished (subst (λ n. has_turn setup entries n call ≡ true) (same_number j i h) x.had.turn) x.unfinished)
-        by_number false h = cache_other policy setup entries run (record { event = event; reply = reply }) j g.at x.unserved x.unfinished refl i (other_number j i h)
+    other_stays i a l event reply (gets call now answer j (Over (HandOut c) left) wake w g) differ =
+        let x : Loads setup entries j call = loading_loads policy setup entries j call (phase_of entries call) w (stands policy setup entries run call j g.at) in
+        ends_elsewhere i a l (record { event = event; reply = reply }) differ refl j g.at x.had.turn x.unfinished x.unserved
+    other_stays i a l event reply (gets call now answer j (Over (Refuse cause) left) wake w g) differ =
+        let x : Loads setup entries j call = loading_loads policy setup entries j call (phase_of entries call) w (stands policy setup entries run call j g.at) in
+        ends_elsewhere i a l (record { event = event; reply = reply }) differ refl j g.at x.had.turn x.unfinished x.unserved
 
     -- an entry that changes neither the input nor the cache
     carry : (e : Entry K) (i : ℕ) (call : CallId) → LoadsOn entries i call → hold_input {K = K} setup (entries ++ e ∷ []) i call ≡ hold_input setup entries i call

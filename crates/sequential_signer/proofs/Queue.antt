@@ -1,5 +1,5 @@
 -- The lock of a cache, read from a run: the calls whose holds are open, in the order of their first polls.
-use Rattle.std.proofs.Common.{◌≡◌, ◌⊎◌, inl, inr, if◌then◌else◌, ℕ, Bool, true, false, not, cond, ◌&&◌, ◌||◌, List, [], ◌∷◌, ◌++◌, filter, refl, sym, ◌∙◌, ap}
+use Rattle.std.proofs.Common.{◌≡◌, if◌then◌else◌, ℕ, Bool, true, false, not, cond, ◌&&◌, ◌||◌, List, [], ◌∷◌, ◌++◌, filter, refl, sym, ◌∙◌, ap}
 use Rattle.std.specs.List.{list_any, list_all}
 use Rattle.wake_lock.specs.declared.CallId.{CallId}
 use Rattle.sequential_signer.specs.Setup.{Setup}
@@ -9,8 +9,8 @@ use Rattle.sequential_signer.specs.Turn.{before_call, ends_hold, poll_order, hol
 use Rattle.sequential_signer.specs.declared.event.Entry.{Entry}
 use Rattle.wake_lock.proofs.Calls.{same_call-eq}
 use Rattle.sequential_signer.proofs.CallNames.{before_call-absent}
-use Rattle.sequential_signer.proofs.Lists.{or_false, filter-more_yes, filter-same}
-use Rattle.sequential_signer.proofs.PollOrder.{is_polled, OrderAfter, stays, grows, hold_is_finished-own, hold_is_finished-other}
+use Rattle.sequential_signer.proofs.Lists.{or_false}
+use Rattle.sequential_signer.proofs.PollOrder.{is_polled, hold_is_finished-own, hold_is_finished-other}
 
 abbrev pub is_empty : List CallId → Bool
 is_empty [] = true

@@ -3,10 +3,11 @@
 use Rattle.std.specs.Prelude.{ℕ, zero, suc, ◌+◌, ◌-◌, ◌*◌, ◌/◌, ◌%◌, nat_lt, if◌then◌else◌, ℤ, pos, neg_ℤ, ◌+ℤ◌, ◌≤ℤ◌, unsigned_abs}
 use Rattle.jiff_core.specs.Calendar.{days_in_year, days_in_month}
 
--- nanoseconds of a second and of a day
+-- nanoseconds of a second
 abbrev pub second_nanos : ℕ
 second_nanos = 1000000000
 
+-- nanoseconds of a day
 abbrev pub day_nanos : ℕ
 day_nanos = 86400000000000
 
@@ -22,10 +23,11 @@ IsFourDigitYear t = neg_ℤ (pos (days_before_1970 * day_nanos)) ≤ℤ t
 abbrev pub since_year_0 : ℤ → ℕ
 since_year_0 t = unsigned_abs (t +ℤ pos (days_before_1970 * day_nanos))
 
--- the days that have passed since then, and the seconds since midnight
+-- the days that have passed since then
 abbrev pub day_of : ℤ → ℕ
 day_of t = since_year_0 t / day_nanos
 
+-- the seconds since midnight
 abbrev pub second_of : ℤ → ℕ
 second_of t = since_year_0 t % day_nanos / second_nanos
 

@@ -17,10 +17,11 @@ abbrev pub year_text : ℤ → List ℕ
 year_text (pos year) = four_digits year
 year_text (negsuc before) = codes "-" ++ four_digits (suc before)
 
--- the name of a weekday, Monday being 0, and of a month, January being 1
+-- the name of a weekday, Monday being 0
 abbrev pub weekday_name : ℕ → List ℕ
 weekday_name n = slice_index_or (codes "Mon" ∷ codes "Tue" ∷ codes "Wed" ∷ codes "Thu" ∷ codes "Fri" ∷ codes "Sat" ∷ codes "Sun" ∷ []) n []
 
+-- the name of a month, January being 1
 abbrev pub month_name : ℕ → List ℕ
 month_name n = slice_index_or ([] ∷ codes "Jan" ∷ codes "Feb" ∷ codes "Mar" ∷ codes "Apr" ∷ codes "May" ∷ codes "Jun" ∷ codes "Jul" ∷ codes "Aug" ∷ codes "Sep" ∷ codes "Oct" ∷ codes "Nov" ∷ codes "Dec" ∷ []) n []
 

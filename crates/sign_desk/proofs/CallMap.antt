@@ -1,15 +1,16 @@
 -- The map of the live calls, read by the names of calls.
-use Rattle.std.proofs.Common.{◌≡◌, ℕ, false, cond, ◌&&◌, ◌==◌, List, [], ◌∷◌, Option, Some, None, option_map, if◌then◌else◌, ◌+◌, add-zero, is_some, refl, sym, ◌∙◌, ap, nat_cmp, arith}
+use Rattle.std.proofs.Common.{◌≡◌, ℕ, false, cond, ◌&&◌, ◌==◌, List, [], ◌∷◌, length, Option, Some, None, option_map, if◌then◌else◌, ◌+◌, add-zero, is_some, true, MutBor, refl, sym, ◌∙◌, ap, nat_cmp, arith}
 use Rattle.std.proofs.lemmas.Bool.Decides.{nat_tests}
 use Rattle.std.specs.declared.cmp.Ordering.{Ordering}
 use Rattle.std.specs.declared.cmp.Ordering.TheVariants.{Less, Equal, Greater}
 use Rattle.std.specs.Ordering.{is_eq, ordering_then}
 use Rattle.std.specs.BTreeMap.{BTreeMap, get, is_at}
 use Rattle.std.specs.Map.{lookup}
+use Rattle.std.specs.Option.{option_copied_mut}
 use Rattle.wake_lock.specs.declared.CallId.{CallId}
 use Rattle.wake_lock.specs.Calls.{same_call}
-use Rattle.sign_desk.specs.Kept.{find_call}
-use Rattle.sign_desk.specs.Moves.{one_if}
+use Rattle.sign_desk.specs.Kept.{Kept, find_call}
+use Rattle.sign_desk.specs.Moves.{Keeps, one_if}
 use Rattle.sign_desk.specs.declared.calls.CallRecord.{CallRecord}
 use Rattle.wake_lock.proofs.Calls.{same_call-refl}
 
@@ -25,11 +26,23 @@ module _ (cmp : CallId → CallId → Ordering) (same : (a b : CallId) → is_eq
   pub find_call-after : (m n : BTreeMap CallId CallRecord) (k : CallId) (w : Option CallRecord) → ((q : CallId) → get cmp n q ≡ cond (is_at (cmp k) q) w (get cmp m q)) → (q : CallId) → find_call q n.entries ≡ cond (same_call k q) w (find_call q m.entries)
   find_call-after m n k w h q = sym (get_is n q) ∙ h q ∙ ap (λ v. cond v w (get cmp m q)) (same k q) ∙ ap (λ v. cond (same_call k q) w v) (get_is m q)
 
-pub find_call-this : (m n : List (CallId × CallRecord)) (k : CallId) (w : Option CallRecord) → ((q : CallId) → find_call q n ≡ cond (same_call k q) w (find_call q m)) → find_call k n ≡ w
-find_call-this m n k w h = h k ∙ ap (λ v. cond v w (find_call k m)) (same_call-refl k)
-
-pub find_call-other : (m n : List (CallId × CallRecord)) (k : CallId) (w : Option CallRecord) → ((q : CallId) → find_call q n ≡ cond (same_call k q) w (find_call q m)) → (q : CallId) → same_call k q ≡ false → find_call q n ≡ find_call q m
-find_call-other m n k w h q s = h q ∙ ap (λ v. cond v w (find_call q m)) s
+-- a desk in whose map one call changed keeps all else
+pub calls-keep : {K D : Type 0} (base : Kept K D) (entries : List (CallId × CallRecord)) (call : CallId) (w : Option CallRecord)
+    → ((q : CallId) → find_call q entries ≡ cond (same_call call q) w (find_call q base.calls))
+    → length entries + one_if (find_call call base.calls) ≡ length base.calls + one_if w
+    → Keeps base call w (record base { calls = entries })
+calls-keep base entries call w after count = record {
+  loaders = refl;
+  rules = refl;
+  handles = refl;
+  caches = refl;
+  queues = refl;
+  greatest = refl;
+  started = refl;
+  this_call = after call ∙ ap (λ v. cond v w (find_call call base.calls)) (same_call-refl call);
+  other_calls = λ q other. after q ∙ ap (λ v. cond v w (find_call q base.calls)) other;
+  count = count;
+}
 
 number_eq : (a b : ℕ) → is_eq (nat_cmp a b) ≡ (a == b)
 number_eq a b = grind (arith, nat_tests)
@@ -46,14 +59,15 @@ call_order a b =
     ∙ ap (λ v. v && is_eq (nat_cmp a.number b.number)) (number_eq a.handle b.handle)
     ∙ ap (λ v. (a.handle == b.handle) && v) (number_eq a.number b.number)
 
+-- a lent record is there where its value is
+pub copied_some : {T : Type 0} (o : Option (MutBor T)) → is_some (option_copied_mut o) ≡ true → is_some o ≡ true
+copied_some None h = cc
+copied_some (Some x) h = refl
+
 -- the number of records after a change at one call
 pub count-removed : {X : Type 0} (n m : ℕ) (result kept : Option X) → result ≡ kept → n + (if is_some result then 1 else 0) ≡ m → n + one_if kept ≡ m + 0
 count-removed n m None kept e h = rw (← e) (h ∙ sym (add-zero m))
 count-removed n m (Some x) kept e h = rw (← e) (h ∙ sym (add-zero m))
-
-pub count-kept : {X : Type 0} (n m : ℕ) (f : X → X) (kept : Option X) → n ≡ m → n + one_if kept ≡ m + one_if (option_map f kept)
-count-kept n m f None e = ap (λ k. k + 0) e
-count-kept n m f (Some x) e = ap (λ k. k + 1) e
 
 pub count-added : {X : Type 0} (n m : ℕ) (old kept : Option X) → old ≡ kept → n ≡ m + (if is_some old then 0 else 1) → n + one_if kept ≡ m + 1
 count-added n m None kept e h = rw (← e) (ap (λ k. k + 0) h ∙ add-zero (m + 1))

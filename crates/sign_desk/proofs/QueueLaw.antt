@@ -11,7 +11,8 @@ use Rattle.sequential_signer.specs.Turn.{poll_order, hold_is_finished, ends_hold
 use Rattle.sequential_signer.specs.Hold.{begin_of}
 use Rattle.sequential_signer.specs.declared.event.Entry.{Entry}
 use Rattle.sequential_signer.proofs.Lists.{filter-more_yes, filter-more_no, or_true, or_false, and_false}
-use Rattle.wake_lock.proofs.Calls.{same_call-eq, same_call-refl, same_call-comm}
+use Rattle.wake_lock.proofs.Calls.{same_call-eq, same_call-refl, same_call-comm, absent-filter}
+use Rattle.wake_lock.proofs.Lines.{absent-leaves}
 use Rattle.wake_lock.proofs.Truth.{number_refl, or_left, or_right, same_number}
 use Rattle.sequential_signer.proofs.PollOrder.{is_polled, OrderAfter, stays, grows, order_after, poll_order-same, poll_order-poll, hold_is_finished-own, hold_is_finished-other, hold_is_finished-more}
 use Rattle.sequential_signer.proofs.Run.{IsRun}
@@ -23,13 +24,6 @@ use Rattle.sign_desk.proofs.BegunCalls.{filter-agree, passing-same, passing-fewe
 
 queue_is : (q : Queue) (line : List CallId) (unpolled : ℕ) → line ≡ q.line → unpolled ≡ q.unpolled → record { line = line; unpolled = unpolled } ≡ q
 queue_is q line unpolled h k = rw (h, k) refl
-
-absent-filter : (x : CallId) (q : CallId → Bool) (xs : List CallId) → list_any (same_call x) xs ≡ false → list_any (same_call x) (filter q xs) ≡ false
-absent-filter x q [] h = refl
-absent-filter x q (y ∷ ys) h =
-    let here : same_call x y ≡ false = or_left _ _ h in
-    let later = absent-filter x q ys (or_right _ _ h) in
-    elim (q y) as (λ v. list_any (same_call x) (cond v (y ∷ filter q ys) (filter q ys)) ≡ false) [ true ↦ rw here later | false ↦ later ]
 
 failing-absent : (x : CallId) (q : CallId → Bool) (xs : List CallId) → q x ≡ false → list_any (same_call x) (filter q xs) ≡ false
 failing-absent x q [] h = refl
@@ -43,39 +37,26 @@ failing-absent x q (y ∷ ys) h =
     by_place true s e later = let bad : q x ≡ true = ap q (same_call-eq x y s) ∙ e in absurd (cc)
     by_place false s e later = ap (λ v. v || list_any (same_call x) (filter q ys)) s ∙ later
 
-pub nobody-leaves : (call : CallId) (xs : List CallId) → list_any (same_call call) xs ≡ false → filter (λ other. not (same_call other call)) xs ≡ xs
-nobody-leaves call [] h = refl
-nobody-leaves call (x ∷ xs) h =
-    let s : same_call x call ≡ false = same_call-comm x call ∙ or_left _ _ h in
-    let rest : filter (λ other. not (same_call other call)) xs ≡ xs = nobody-leaves call xs (or_right _ _ h) in
-    rw (s, rest) refl
-
 module _ {K D : Type 0} (policy : Policy K D) (setup : Setup D) (entries : List (Entry K)) (run : IsRun policy setup entries) (e : Entry K) where
+  -- whose hold is finished stays where no hold ends
+  finished-same : ends_hold e.reply ≡ false → (call : CallId) → hold_is_finished (entries ++ e ∷ []) call ≡ hold_is_finished entries call
+  finished-same h call = same_by (same_call call (call_of e.event)) refl
+    where
+      same_by : (s : Bool) → same_call call (call_of e.event) ≡ s → hold_is_finished (entries ++ e ∷ []) call ≡ hold_is_finished entries call
+      same_by true s = hold_is_finished-own setup entries e call s ∙ ap (λ v. hold_is_finished entries call || v) h ∙ or_false _
+      same_by false s = hold_is_finished-other setup entries e call s
+
   -- the line where no hold ends
   open-same : ends_hold e.reply ≡ false → (j : ℕ) → poll_order setup (entries ++ e ∷ []) j ≡ poll_order setup entries j → open_calls setup (entries ++ e ∷ []) j ≡ open_calls setup entries j
-  open-same h j o = rw o (filter-agree (λ call. not (hold_is_finished (entries ++ e ∷ []) call)) (λ call. not (hold_is_finished entries call)) (poll_order setup entries j) (λ call m. ap not (finished_same call)))
-    where
-      finished_same : (call : CallId) → hold_is_finished (entries ++ e ∷ []) call ≡ hold_is_finished entries call
-      finished_same call = same_by (same_call call (call_of e.event)) refl
-        where
-          same_by : (s : Bool) → same_call call (call_of e.event) ≡ s → hold_is_finished (entries ++ e ∷ []) call ≡ hold_is_finished entries call
-          same_by true s = hold_is_finished-own setup entries e call s ∙ ap (λ v. hold_is_finished entries call || v) h ∙ or_false _
-          same_by false s = hold_is_finished-other setup entries e call s
+  open-same h j o = rw o (filter-agree (λ call. not (hold_is_finished (entries ++ e ∷ []) call)) (λ call. not (hold_is_finished entries call)) (poll_order setup entries j) (λ call m. ap not (finished-same h call)))
 
   -- a call that was not polled comes
   open-enters : ends_hold e.reply ≡ false → hold_is_finished entries (call_of e.event) ≡ false → (i : ℕ) → poll_order setup (entries ++ e ∷ []) i ≡ poll_order setup entries i ++ call_of e.event ∷ []
       → open_calls setup (entries ++ e ∷ []) i ≡ open_calls setup entries i ++ call_of e.event ∷ []
   open-enters h f i o =
       rw o
-      (filter-agree (λ call. not (hold_is_finished (entries ++ e ∷ []) call)) (λ call. not (hold_is_finished entries call)) (poll_order setup entries i ++ call_of e.event ∷ []) (λ call m. ap not (finished_same call))
+      (filter-agree (λ call. not (hold_is_finished (entries ++ e ∷ []) call)) (λ call. not (hold_is_finished entries call)) (poll_order setup entries i ++ call_of e.event ∷ []) (λ call m. ap not (finished-same h call))
       ∙ filter-more_yes (λ call. not (hold_is_finished entries call)) (poll_order setup entries i) (call_of e.event) (ap not f))
-    where
-      finished_same : (call : CallId) → hold_is_finished (entries ++ e ∷ []) call ≡ hold_is_finished entries call
-      finished_same call = same_by (same_call call (call_of e.event)) refl
-        where
-          same_by : (s : Bool) → same_call call (call_of e.event) ≡ s → hold_is_finished (entries ++ e ∷ []) call ≡ hold_is_finished entries call
-          same_by true s = hold_is_finished-own setup entries e call s ∙ ap (λ v. hold_is_finished entries call || v) h ∙ or_false _
-          same_by false s = hold_is_finished-other setup entries e call s
 
   -- a line that was empty stays so
   still_none : (xs : List CallId) → filter (λ call. not (hold_is_finished entries call)) xs ≡ [] → filter (λ call. not (hold_is_finished (entries ++ e ∷ []) call)) xs ≡ []
@@ -104,7 +85,7 @@ module _ {K D : Type 0} (policy : Policy K D) (setup : Setup D) (entries : List 
   closed-absent call j h = failing-absent call (λ x. not (hold_is_finished entries x)) (poll_order setup entries j) (ap not h)
 
   pub unpolled-absent : (call : CallId) (j : ℕ) → is_polled setup entries j call ≡ false → list_any (same_call call) (open_calls setup entries j) ≡ false
-  unpolled-absent call j h = absent-filter call (λ x. not (hold_is_finished entries x)) (poll_order setup entries j) h
+  unpolled-absent call j h = absent-filter (λ x. not (hold_is_finished entries x)) call (poll_order setup entries j) h
 
   module _ (i : ℕ) (at : cache_of setup (call_of e.event) ≡ Some i) where
     elsewhere : (j : ℕ) → (i ≡ j → ⊥) → is_of_cache setup j (call_of e.event) ≡ false
@@ -133,7 +114,7 @@ module _ {K D : Type 0} (policy : Policy K D) (setup : Setup D) (entries : List 
       where
         by_end : (b : Bool) → ends_hold e.reply ≡ b → open_calls setup (entries ++ e ∷ []) j ≡ open_calls setup entries j
         by_end false k = open-same k j (order-elsewhere j h)
-        by_end true k = queue-leaves setup entries j e k (order-elsewhere j h) ∙ nobody-leaves (call_of e.event) (open_calls setup entries j) (unpolled-absent (call_of e.event) j (absent-elsewhere j h))
+        by_end true k = queue-leaves setup entries j e k (order-elsewhere j h) ∙ absent-leaves (call_of e.event) (open_calls setup entries j) (unpolled-absent (call_of e.event) j (absent-elsewhere j h))
 
     -- the calls that may still come
     abbrev at_fresh : ℕ → CallId → Phase → Bool
@@ -190,7 +171,7 @@ module _ {K D : Type 0} (policy : Policy K D) (setup : Setup D) (entries : List 
         → queue_due setup (entries ++ e ∷ []) i ≡ passed (queue_due setup entries i)
     queue-unpolled b h p u there passes fails =
         queue_is (passed (queue_due setup entries i)) _ _
-        (queue-leaves setup entries i e h (poll_order-same setup entries i e (ap (λ v. v && is_of_cache setup i (call_of e.event)) p)) ∙ nobody-leaves (call_of e.event) (open_calls setup entries i) (unpolled-absent (call_of e.event) i u))
+        (queue-leaves setup entries i e h (poll_order-same setup entries i e (ap (λ v. v && is_of_cache setup i (call_of e.event)) p)) ∙ absent-leaves (call_of e.event) (open_calls setup entries i) (unpolled-absent (call_of e.event) i u))
         (fresh-fewer b there passes fails)
 
     -- the end of a call that is out of the line
@@ -198,7 +179,7 @@ module _ {K D : Type 0} (policy : Policy K D) (setup : Setup D) (entries : List 
         → is_fresh (phase_of entries (call_of e.event)) ≡ is_fresh (phase_of (entries ++ e ∷ []) (call_of e.event)) → queue_due setup (entries ++ e ∷ []) i ≡ queue_due setup entries i
     queue-gone b h p f k =
         queue_is (queue_due setup entries i) _ _
-        (queue-leaves setup entries i e h (poll_order-same setup entries i e (ap (λ v. v && is_of_cache setup i (call_of e.event)) p)) ∙ nobody-leaves (call_of e.event) (open_calls setup entries i) (closed-absent (call_of e.event) i f))
+        (queue-leaves setup entries i e h (poll_order-same setup entries i e (ap (λ v. v && is_of_cache setup i (call_of e.event)) p)) ∙ absent-leaves (call_of e.event) (open_calls setup entries i) (closed-absent (call_of e.event) i f))
         (ap length (fresh-same b k))
 
     -- a begin

@@ -59,15 +59,18 @@ poll_cause policy desk call now h r stage.Queued = if is_first call (line_at h.c
 poll_cause policy desk call now h r stage.Loading = MustWait
 poll_cause policy desk call now h r stage.Signing = MustWait
 
+-- of a provider's answer to a call that loads
 abbrev pub load_cause : {K D : Type 0} → Policy K D → Kept K D → ℤ → Handle → CallRecord → Answer K → Cause
 load_cause policy desk now h r (Found c) = found_cause (kept_found policy desk h r c now)
 load_cause policy desk now h r Missing = progress_cause {K = Unit {0}} (next_load (slice_get desk.loaders h.cache) (r.answers + 1) why.Missing)
 load_cause policy desk now h r (Failed e) = progress_cause {K = Unit {0}} (next_load (slice_get desk.loaders h.cache) (r.answers + 1) (why.Loader e))
 
+-- of a provider's answer, by the stage of its call
 abbrev pub provided_cause : {K D : Type 0} → Policy K D → Kept K D → ℤ → Handle → CallRecord → Answer K → Stage → Cause
 provided_cause policy desk now h r answer stage.Loading = load_cause policy desk now h r answer
 provided_cause policy desk now h r answer _ = DoesNotFit
 
+-- of a service's answer, by the stage of its call
 abbrev pub signed_cause : Verdict → Stage → Cause
 signed_cause (Accepted candidate) stage.Signing = TakesMemory
 signed_cause (verdict.Failed e) stage.Signing = MustRefuse (why.Service e)

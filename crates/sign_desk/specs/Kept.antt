@@ -19,6 +19,7 @@ use Rattle.sign_desk.specs.declared.calls.Stage.TheVariants as stage
 use Rattle.sequential_signer.specs.declared.event.Entry.{Entry}
 use Rattle.sequential_signer.specs.declared.event.Loader.{Loader}
 
+-- the phase of a call that is kept at this stage
 abbrev pub phase_of_stage : Stage → Phase
 phase_of_stage stage.Fresh = Fresh
 phase_of_stage stage.Queued = Queued
@@ -33,7 +34,8 @@ live_view r = record {
   answers = r.answers;
 }
 
--- what a desk keeps: its setup, the credential and the queue of each cache, the greatest number begun under each handle, whether a begin was accepted, and the live calls
+-- what a desk keeps: its setup, the credential and the queue of each cache, the greatest number begun under each handle,
+-- whether a begin was accepted, and the live calls
 pub record Kept (K D : Type 0) : Type 0 where
   pub loaders : List Loader
   pub rules : List D
@@ -44,6 +46,7 @@ pub record Kept (K D : Type 0) : Type 0 where
   pub started : Bool
   pub calls : List (CallId × CallRecord)
 
+-- the setup that a desk keeps
 abbrev pub setup_of : {K D : Type 0} → Kept K D → Setup D
 setup_of desk = record { loaders = desk.loaders; rules = desk.rules; handles = desk.handles }
 

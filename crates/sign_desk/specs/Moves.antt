@@ -82,6 +82,7 @@ BeginMoves old call head expires_in NotNow new = (begin_fits_kept old call ≡ f
 BeginMoves old call head expires_in OutOfMemory new = (begin_fits_kept old call ≡ true) × (new ≡ old)
 BeginMoves old call head expires_in _ new = ⊥
 
+-- the record at another stage
 abbrev pub at_stage : Stage → CallRecord → CallRecord
 at_stage stage r = record r { stage = stage }
 
@@ -128,6 +129,7 @@ abbrev pub found_under : {K D : Type 0} → Policy K D → Option D → K → Op
 found_under policy (Some rule) c duration now = Some (check_refreshed policy c rule duration now)
 found_under policy None c duration now = None
 
+-- the same, on what is kept of the call
 abbrev pub kept_found : {K D : Type 0} → Policy K D → Kept K D → Handle → CallRecord → K → ℤ → Option (Outcome K)
 kept_found policy desk h r c now = found_under policy (slice_get desk.rules h.rule) c (option_map as_nanos r.expires_in) now
 
@@ -162,6 +164,7 @@ LoadMoves policy old call now h r (Found c) reply new = FoundMoves old call h r 
 LoadMoves policy old call now h r Missing reply new = NextMoves old call h r (next_load (slice_get old.loaders h.cache) (r.answers + 1) why.Missing) reply new
 LoadMoves policy old call now h r (Failed e) reply new = NextMoves old call h r (next_load (slice_get old.loaders h.cache) (r.answers + 1) (why.Loader e)) reply new
 
+-- what a provider's answer does, by the stage of the call
 abbrev pub ProvidedAt : {K D : Type 0} → Policy K D → Kept K D → CallId → ℤ → Handle → CallRecord → Answer K → Stage → Reply K → Kept K D → Type 0
 ProvidedAt policy old call now h r answer stage.Loading reply new = LoadMoves policy old call now h r answer reply new
 ProvidedAt policy old call now h r answer _ reply new = (reply ≡ NotNow) × (new ≡ old)
@@ -173,6 +176,7 @@ SignedMoves old call r (Accepted candidate) reply new =
     ⊎ ((reply ≡ OutOfMemory) × (new ≡ old))
 SignedMoves old call r (verdict.Failed e) reply new = (reply ≡ Refused (why.Service e) None) × Keeps old call None new
 
+-- what a service's answer does, by the stage of the call
 abbrev pub SignedAt : {K D : Type 0} → Kept K D → CallId → CallRecord → Verdict → Stage → Reply K → Kept K D → Type 0
 SignedAt old call r answer stage.Signing reply new = SignedMoves old call r answer reply new
 SignedAt old call r answer _ reply new = (reply ≡ NotNow) × (new ≡ old)
@@ -192,6 +196,7 @@ LiveMoves policy old (Provided call now answer) h r reply new = ProvidedAt polic
 LiveMoves policy old (Signed call answer) h r reply new = SignedAt old call r answer r.stage reply new
 LiveMoves policy old (Cancel call) h r reply new = CancelAt old call h r.stage reply new
 
+-- what an event does, by what is kept of its handle and its call
 abbrev pub MovesBy : {K D : Type 0} → Policy K D → Kept K D → Event K → Option Handle → Option CallRecord → Reply K → Kept K D → Type 0
 MovesBy policy old event (Some h) (Some r) reply new = LiveMoves policy old event h r reply new
 MovesBy policy old event (Some h) None reply new = (reply ≡ NotNow) × (new ≡ old)

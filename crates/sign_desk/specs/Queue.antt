@@ -8,6 +8,7 @@ pub record Queue : Type 0 where
   pub line : List CallId
   pub unpolled : ℕ
 
+-- whether anybody is in the line
 abbrev pub is_held_line : List CallId → Bool
 is_held_line [] = false
 is_held_line (x ∷ rest) = true
@@ -43,6 +44,7 @@ changed_at change i [] = []
 changed_at change zero (x ∷ rest) = change x ∷ rest
 changed_at change (suc i) (x ∷ rest) = x ∷ changed_at change i rest
 
+-- the line of a queue, where there is one
 abbrev pub line_of : Option Queue → List CallId
 line_of None = []
 line_of (Some queue) = queue.line

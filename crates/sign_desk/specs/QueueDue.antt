@@ -16,6 +16,7 @@ begun_calls entries = map (λ e. call_of e.event) (filter (λ e. is_begun e.repl
 abbrev pub live_calls : {K : Type 0} → List (Entry K) → List CallId
 live_calls entries = filter (λ call. is_live (phase_of entries call)) (begun_calls entries)
 
+-- begun and not polled
 abbrev pub is_fresh : Phase → Bool
 is_fresh Fresh = true
 is_fresh _ = false

@@ -7,6 +7,7 @@ use Rattle.wake_lock.specs.declared.lock.Left.TheVariants.{Holder, Waiter, Absen
 use Rattle.sign_desk.specs.Queue.{Queue}
 use Rattle.sign_desk.specs.declared.queue.CallQueue.TheInside.{Inside}
 
+-- the line of the lock, and how many calls may still come
 abbrev pub queue_view : Inside → Queue
 queue_view queue = record { line = line queue.lock; unpolled = queue.unpolled }
 

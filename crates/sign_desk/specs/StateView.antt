@@ -5,9 +5,11 @@ use Rattle.sequential_signer.specs.Setup.{Handle}
 use Rattle.sign_desk.specs.declared.state.HandleRecord.{HandleRecord}
 use Rattle.sign_desk.specs.declared.state.State.TheInside.{Inside}
 
+-- a handle by its places
 abbrev pub handle_view : HandleRecord → Handle
 handle_view h = record { cache = h.cache; rule = h.rule }
 
+-- each table as a list
 abbrev pub state_view : {K D : Type 0} → Inside K D → Kept K D
 state_view desk = record {
   loaders = desk.loaders.items;

@@ -52,7 +52,7 @@ impl<K: SigningCredential, D: DeadlineRule<Credential = K>> State<K, D> {
                 Reply::Ask { provider: 0 }
             }
             Look::Hands(credential) => {
-                self.pass(caller.cache, call);
+                self.pass(caller.cache);
                 self.set_stage(call, Stage::Signing);
                 Reply::Sign {
                     credential,
@@ -60,7 +60,7 @@ impl<K: SigningCredential, D: DeadlineRule<Credential = K>> State<K, D> {
                 }
             }
             Look::Refuses(why) => {
-                self.pass(caller.cache, call);
+                self.pass(caller.cache);
                 self.end_call(call);
                 Reply::Refused { why, wake: None }
             }

@@ -265,15 +265,6 @@ impl<K: SigningCredential, D: DeadlineRule<Credential = K>> State<K, D> {
         self.queues[cache as usize].expect()
     }
 
-    /// Gives the room of a call back that was not begun after all.
-    fn unexpect(&mut self, cache: u32)
-        requires there { cache < length self.old.queues }
-        requires counted { IfSome (slice_get self.old.queues cache) (λ queue. 0 < queue.unpolled) }
-        ensures { self.new ≡ with_queue passed cache self.old }
-    {
-        self.queues[cache as usize].pass();
-    }
-
     /// Keeps the record of a call, or answers false and changes nothing.
     fn keep(&mut self, call: CallId, kept: CallRecord) -> bool
         ensures kept { result ≡ true → Keeps self.old call (Some kept) self.new }
@@ -304,7 +295,7 @@ impl<K: SigningCredential, D: DeadlineRule<Credential = K>> State<K, D> {
         let cache = self.cache_under(call.handle);
         self.expect(cache)?;
         if !self.keep(call, kept) {
-            self.unexpect(cache);
+            self.pass(cache);
             return Err(NoMemory { back: () });
         }
         self.note_begin(call);
@@ -351,10 +342,10 @@ impl<K: SigningCredential, D: DeadlineRule<Credential = K>> State<K, D> {
         self.queues[cache as usize].enter(call);
     }
 
-    /// Counts a call as polled that takes no place in the line of its cache.
-    pub fn pass(&mut self, cache: u32, call: CallId)
+    /// Gives back the room of a call that takes no place in the line of its cache.
+    pub fn pass(&mut self, cache: u32)
         requires there { cache < length self.old.queues }
-        requires may { IfSome (slice_get self.old.queues cache) (MayEnter call) }
+        requires counted { IfSome (slice_get self.old.queues cache) (λ queue. 0 < queue.unpolled) }
         ensures { self.new ≡ with_queue passed cache self.old }
     {
         self.queues[cache as usize].pass();

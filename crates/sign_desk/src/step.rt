@@ -121,7 +121,7 @@ impl<K: SigningCredential, D: DeadlineRule<Credential = K>> State<K, D> {
     {
         let wake = match caller.stage {
             Stage::Fresh => {
-                self.pass(caller.cache, call);
+                self.pass(caller.cache);
                 None
             }
             Stage::Queued => self.leave(caller.cache, call),

@@ -24,6 +24,7 @@ abbrev pub ending_by : Bool → Ending
 ending_by true = End
 ending_by false = Fault
 
+-- the byte that ends a line
 abbrev pub is_newline : ℕ → Bool
 is_newline b = b == 10
 
@@ -38,7 +39,7 @@ abbrev pub lines_of : List ℕ → Ending → List (List ℕ)
 lines_of bytes End = slice_split is_newline bytes
 lines_of bytes Fault = all_but_last (slice_split is_newline bytes)
 
--- what an item adds to the setup, or asks
+-- the loader of a cache line
 abbrev pub loader_in : Item → Option Loader
 loader_in (item.Cache loader) = Some loader
 loader_in _ = None
@@ -47,14 +48,17 @@ loader_in _ = None
 abbrev pub script_rules : List ScriptRule
 script_rules = Now ∷ Cred ∷ []
 
+-- the place of a rule among these
 abbrev pub place_of_rule : ScriptRule → ℕ
 place_of_rule Now = 0
 place_of_rule Cred = 1
 
+-- the handle of a handle line
 abbrev pub handle_in : Item → Option Handle
 handle_in (item.Handle cache rule) = Some (record { cache = cache; rule = place_of_rule rule })
 handle_in _ = None
 
+-- the event of an event line
 abbrev pub event_in : Item → Option (Event ScriptCredential)
 event_in (item.Event event) = Some event
 event_in _ = None
@@ -71,6 +75,7 @@ setup_in items = record {
 unfoldable pub events_in : List Item → List (Event ScriptCredential)
 events_in items = filter_map event_in items
 
+-- whether a list has no items
 abbrev pub is_empty : {A : Type 0} → List A → Bool
 is_empty [] = true
 is_empty (x ∷ rest) = false
@@ -89,6 +94,7 @@ pub data Reading : Type 0 where
   Good : Item → Reading
   Bad : Cause → Reading
 
+-- a line that spells this item, or none, behind the items of the lines before it
 abbrev pub reading_of : List Item → Option Item → Reading
 reading_of before None = Bad NotUnderstood
 reading_of before (Some item) = if is_built before item then Good item else Bad NotBuilt
@@ -98,6 +104,7 @@ pub record Script : Type 0 where
   pub items : List Item
   pub bad : Option Cause
 
+-- a script with this line: it goes on where the line is good
 abbrev pub script_by : List Item → (List Item → Script) → Reading → Script
 script_by before go_on (Good item) = go_on (before ++ item ∷ [])
 script_by before go_on (Bad cause) = record { items = before; bad = Some cause }

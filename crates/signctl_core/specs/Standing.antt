@@ -26,6 +26,7 @@ abbrev pub MayAnswer : Kept ScriptCredential ScriptRule → Bool → ℕ → Ite
 MayAnswer desk had_event lines item =
     (items : List Item) × StandsFor desk had_event lines items × (is_built items item ≡ true) × (lines < most_lines)
 
+-- it stands for some items, and there may be more lines
 abbrev pub StandsForSome : Kept ScriptCredential ScriptRule → Bool → ℕ → Type 0
 StandsForSome desk had_event lines = (items : List Item) × StandsFor desk had_event lines items × (lines < most_lines)
 

@@ -22,6 +22,7 @@ line lock = in_line lock.holder lock.waiters
 abbrev pub is_in_line : CallId → Lock → Bool
 is_in_line call lock = is_among call (line lock)
 
+-- whether a call holds that is there and is this one
 abbrev pub is_holder : CallId → Option CallId → Bool
 is_holder call None = false
 is_holder call (Some holder) = same_call holder call

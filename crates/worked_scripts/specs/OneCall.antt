@@ -32,10 +32,11 @@ loaded =
     ∷ found 0 1 501 seven gets sign seven
     ∷ []
 
--- and its head is signed
+-- and its head is accepted
 abbrev pub signed : List (Entry Credential)
 signed = loaded ++ accept 0 1 made_head gets Done signed_head ∷ []
 
+-- a call on an empty cache loads a credential, and its head is signed
 abbrev pub OneCallIsSigned : Type 0
 OneCallIsSigned = IsWorked (one_cache Cred) signed (Some seven ∷ [])
 
@@ -55,10 +56,11 @@ StaleCredentialIsLoadedAgain =
     ∷ poll 0 2 900 gets Ask 0
     ∷ []) (Some seven ∷ [])
 
--- a credential that expires at its deadline is refused, and stays cached
+-- a credential that expires at its deadline
 abbrev pub short : Credential
 short = credential 7 900 600 600
 
+-- it is refused, and stays cached
 abbrev pub ShortCredentialIsRefused : Type 0
 ShortCredentialIsRefused =
     IsWorked (one_cache Cred) (
