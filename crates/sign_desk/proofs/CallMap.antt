@@ -1,5 +1,5 @@
 -- The map of the live calls, read by the names of calls.
-use Rattle.std.proofs.Common.{◌≡◌, ℕ, false, cond, ◌&&◌, ◌==◌, List, [], ◌∷◌, length, Option, Some, None, option_map, if◌then◌else◌, ◌+◌, add-zero, is_some, true, MutBor, refl, sym, ◌∙◌, ap, nat_cmp, arith}
+use Rattle.std.proofs.Common.{◌≡◌, ℕ, cond, ◌&&◌, ◌==◌, List, [], ◌∷◌, length, Option, Some, None, if◌then◌else◌, ◌+◌, add-zero, is_some, true, MutBor, refl, sym, ◌∙◌, ap, nat_cmp, arith}
 use Rattle.std.proofs.lemmas.Bool.Decides.{nat_tests}
 use Rattle.std.specs.declared.cmp.Ordering.{Ordering}
 use Rattle.std.specs.declared.cmp.Ordering.TheVariants.{Less, Equal, Greater}

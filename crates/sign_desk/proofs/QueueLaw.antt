@@ -11,9 +11,9 @@ use Rattle.sequential_signer.specs.Turn.{poll_order, hold_is_finished, ends_hold
 use Rattle.sequential_signer.specs.Hold.{begin_of}
 use Rattle.sequential_signer.specs.declared.event.Entry.{Entry}
 use Rattle.sequential_signer.proofs.Lists.{filter-more_yes, filter-more_no, or_true, or_false, and_false}
-use Rattle.wake_lock.proofs.Calls.{same_call-eq, same_call-refl, same_call-comm, absent-filter}
+use Rattle.wake_lock.proofs.Calls.{same_call-eq, same_call-refl, absent-filter}
 use Rattle.wake_lock.proofs.Lines.{absent-leaves}
-use Rattle.wake_lock.proofs.Truth.{number_refl, or_left, or_right, same_number}
+use Rattle.wake_lock.proofs.Truth.{number_refl, same_number}
 use Rattle.sequential_signer.proofs.PollOrder.{is_polled, OrderAfter, stays, grows, order_after, poll_order-same, poll_order-poll, hold_is_finished-own, hold_is_finished-other, hold_is_finished-more}
 use Rattle.sequential_signer.proofs.Run.{IsRun}
 use Rattle.sequential_signer.proofs.CacheLaw.{order_of_cache, list_all-member}
