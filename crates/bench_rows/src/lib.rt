@@ -4,4 +4,6 @@
 #[cfg(test)]
 mod desk_run;
 #[cfg(test)]
+mod one_signer;
+#[cfg(test)]
 mod waiting;

@@ -1,0 +1,173 @@
+//! A signer of one's own on the desk: its credential, its rule, and calls that are driven from their
+//! begin to their signed head. Its provider and its service answer at once.
+use credentials::{DeadlineRule, SigningCredential};
+use sign_base::{Field, Fields, Head, NoMemory, Octets, Timestamp, Version};
+use sign_desk::{Answer, Desk, Event, Loader, Reply, Verdict};
+use std::alloc::{AllocError, Global};
+use std::test::Fail;
+use std::time::Duration;
+use wake_lock::CallId;
+
+/// A key that can be used until it expires.
+#[derive(Clone, Copy, Debug, PartialEq, Eq)]
+pub struct Key {
+    number: u64,
+    expires: Timestamp,
+}
+
+impl SigningCredential for Key {
+    ghost use Rattle.bench_rows.specs.Key.{key_valid, key_valid_at};
+
+    const NAME: &'static str = "Key";
+
+    ghost valid = { key_valid };
+
+    ghost valid_at = { key_valid_at };
+
+    fn is_valid(&self, now: Timestamp) -> bool {
+        now < self.expires
+    }
+
+    fn is_valid_at(&self, ts: Timestamp, _now: Timestamp) -> bool {
+        ts < self.expires
+    }
+
+    fn try_clone(&self, _alloc: Global) -> Result<Key, NoMemory<()>> {
+        Ok(*self)
+    }
+}
+
+/// A key has to last to the end of the operation.
+#[derive(Clone, Copy, Debug)]
+pub struct ToTheEnd;
+
+impl DeadlineRule for ToTheEnd {
+    ghost use Rattle.bench_rows.specs.Key.{key_deadline};
+
+    type Credential = Key;
+
+    ghost deadline = { key_deadline };
+
+    fn required_valid_until(
+        &self,
+        _credential: &Key,
+        expires_in: Option<Duration>,
+        now: Timestamp,
+    ) -> Option<Timestamp> {
+        match expires_in {
+            Some(duration) => now.checked_add(duration),
+            None => Some(now),
+        }
+    }
+}
+
+/// A provider of keys, which counts how often it was asked.
+#[derive(Debug, Drop)]
+struct Keys {
+    lifetime: Duration,
+    asked: u64,
+}
+
+impl Keys {
+    fn answer(&mut self, now: Timestamp) -> Answer<Key> {
+        self.asked = self.asked.saturating_add(1);
+        match now.checked_add(self.lifetime) {
+            Some(expires) => Answer::Found(Key {
+                number: self.asked,
+                expires,
+            }),
+            None => Answer::Missing,
+        }
+    }
+}
+
+/// The head that the service makes of a path: it names the key in a header.
+fn made(alloc: Global, path: &str, key: &Key) -> Result<Head, NoMemory<()>> {
+    let mut head = plain(alloc, path)?;
+    let value = format!(in alloc; "key {}", key.number)?;
+    let field = Field {
+        name: Octets::from_slice(alloc, b"authorization")?,
+        value: Octets::from_slice(alloc, value.as_bytes())?,
+    };
+    match head.headers.push(field) {
+        Ok(()) => Ok(head),
+        Err(_) => Err(NoMemory { back: () }),
+    }
+}
+
+/// The head of a request that is not signed yet.
+fn plain(alloc: Global, path: &str) -> Result<Head, NoMemory<()>> {
+    Ok(Head {
+        method: Octets::from_slice(alloc, b"GET")?,
+        uri: Octets::from_slice(alloc, path.as_bytes())?,
+        version: Version::V11,
+        headers: Fields::new(alloc),
+    })
+}
+
+/// Drives one call to its end, and hands out the last reply: the provider is asked only where the
+/// desk says so, and the service signs with the credential that the desk hands out.
+fn driven(
+    alloc: Global,
+    desk: &mut Desk<Key, ToTheEnd>,
+    keys: &mut Keys,
+    call: CallId,
+    path: &str,
+    now: Timestamp,
+) -> Result<Reply<Key>, NoMemory<()>> {
+    let begin = Event::Begin {
+        call,
+        head: plain(alloc, path)?,
+        expires_in: Some(Duration::from_secs(60)),
+    };
+    let Reply::Begun = desk.step(&begin) else {
+        return Ok(Reply::NotNow);
+    };
+    let mut reply = desk.step(&Event::Poll { call, now });
+    if let Reply::Ask { .. } = reply {
+        let answer = keys.answer(now);
+        reply = desk.step(&Event::Provided { call, now, answer });
+    }
+    match reply {
+        Reply::Sign { credential, .. } => Ok(desk.step(&Event::Signed {
+            call,
+            answer: Verdict::Accepted(made(alloc, path, &credential)?),
+        })),
+        other => Ok(other),
+    }
+}
+
+/// A key serves as long as it lasts to the end of the operation, and then the next is asked for.
+#[test]
+fn a_key_is_asked_for_once_while_it_lasts(rt: HostRuntime) -> Result<(), Fail> {
+    let mut desk: Desk<Key, ToTheEnd> = Desk::new(rt.alloc());
+    assert_eq!(rt; desk.add_cache(Loader::Single), Ok(0));
+    assert!(rt; desk.add_rule(ToTheEnd).is_ok());
+    assert_eq!(rt; desk.add_handle(0, 0), Ok(0));
+    let mut keys = Keys {
+        lifetime: Duration::from_secs(600),
+        asked: 0,
+    };
+    for (number, second, asked, header) in [
+        (1, 0, 1, "key 1"),
+        (2, 300, 1, "key 1"),
+        (3, 539, 1, "key 1"),
+        (4, 540, 2, "key 2"),
+    ] {
+        let now = Timestamp::from_second(rt.alloc(), second)?;
+        let call = CallId { handle: 0, number };
+        let reply = driven(rt.alloc(), &mut desk, &mut keys, call, "/a", now).map_err(
+            |_| AllocError,
+        )?;
+        let Reply::Done { head } = reply else {
+            return Err(Fail::from("the call is done"));
+        };
+        let Some(field) = head.headers.as_slice().first() else {
+            return Err(Fail::from("the head is signed"));
+        };
+        assert_eq!(rt; field.value.as_slice(), header.as_bytes());
+        assert_eq!(rt; keys.asked, asked);
+    }
+    assert_eq!(rt; desk.live(), 0);
+    Ok(())
+}
