@@ -98,7 +98,8 @@ module _ {K D : Type 0} (policy : Policy K D) where
         let none : d.entries ≡ [] = d.fresh (d.represents.started ∙ or_left _ _ begun) in
         let legal : IsLegalEntry policy (setup_of new) (kept []) (record { event = event; reply = reply }) = legal_first (setup_of new) e (subst (λ es. IsLegal policy (setup_of new) (es ++ record { event = event; reply = reply } ∷ [])) none next.legal) in
         let yes : is_begun reply ≡ true = counts_begun (setup_of new) event reply m n legal in
-        let no : is_begun reply ≡ false = or_right _ _ begun in absurd (cc)
+        let no : is_begun reply ≡ false = or_right (was_begun (kept d.entries)) (is_begun reply) begun in
+        absurd (cc)
 
     counts : is_out_of_memory reply ≡ false → is_not_now reply ≡ false → IsDesk policy new
     counts m n = record {
