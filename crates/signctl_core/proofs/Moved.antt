@@ -1,5 +1,5 @@
 -- Bytes that move in several reads or writes, one after another, and the faults meanwhile.
-use Rattle.std.proofs.Common.{◌≤◌, ℕ, List, [], ◌++◌, Option, Some, None, refl, sym, ap, ◌∙◌, append_assoc, append-nil, arith}
+use Rattle.std.proofs.Common.{◌≤◌, ℕ, List, [], ◌++◌, Option, Some, None, sym, ap, ◌∙◌, append_assoc, append-nil, arith}
 use Rattle.std.specs.Io.KnownBytes.{Appends, Consumes}
 use Rattle.sign_base.specs.Faults.{HasRisen}
 
