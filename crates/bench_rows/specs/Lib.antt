@@ -1,1 +1,1 @@
-pub mod Key
+pub mod Deadline

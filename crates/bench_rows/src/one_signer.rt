@@ -1,5 +1,7 @@
 //! A signer of one's own on the desk: its credential, its rule, and calls that are driven from their
 //! begin to their signed head. Its provider and its service answer at once.
+ghost use Rattle.std.specs.Prelude.{int_lt};
+
 use credentials::{DeadlineRule, SigningCredential};
 use sign_base::{Field, Fields, Head, NoMemory, Octets, Timestamp, Version};
 use sign_desk::{Answer, Desk, Event, Loader, Reply, Verdict};
@@ -10,19 +12,17 @@ use wake_lock::CallId;
 
 /// A key that can be used until it expires.
 #[derive(Clone, Copy, Debug, PartialEq, Eq)]
-pub struct Key {
+struct Key {
     number: u64,
     expires: Timestamp,
 }
 
 impl SigningCredential for Key {
-    ghost use Rattle.bench_rows.specs.Key.{key_valid, key_valid_at};
-
     const NAME: &'static str = "Key";
 
-    ghost valid = { key_valid };
+    ghost valid = { λ key now. int_lt now key.expires };
 
-    ghost valid_at = { key_valid_at };
+    ghost valid_at = { λ key moment now. int_lt moment key.expires };
 
     fn is_valid(&self, now: Timestamp) -> bool {
         now < self.expires
@@ -39,14 +39,14 @@ impl SigningCredential for Key {
 
 /// A key has to last to the end of the operation.
 #[derive(Clone, Copy, Debug)]
-pub struct ToTheEnd;
+struct ToTheEnd;
 
 impl DeadlineRule for ToTheEnd {
-    ghost use Rattle.bench_rows.specs.Key.{key_deadline};
+    ghost use Rattle.bench_rows.specs.Deadline.{end_of};
 
     type Credential = Key;
 
-    ghost deadline = { key_deadline };
+    ghost deadline = { λ rule key duration now. end_of duration now };
 
     fn required_valid_until(
         &self,

@@ -1,0 +1,8 @@
+-- How long the key of the worked signer has to last.
+use Rattle.std.specs.Prelude.{ℕ, ℤ, Option, Some, None}
+use Rattle.sign_base.specs.Moment.{add_moment}
+
+-- the end of an operation that takes so long from now, where that is a moment
+abbrev pub end_of : Option ℕ → ℤ → Option ℤ
+end_of None now = Some now
+end_of (Some duration) now = add_moment now duration
