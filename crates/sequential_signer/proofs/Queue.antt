@@ -1,11 +1,11 @@
--- The lock of a cache, read from a run: the calls whose holds are open, in the order of their first polls.
+-- The open calls of a cache, as its lock has them: who has the turn, and who leaves.
 use Rattle.std.proofs.Common.{◌≡◌, if◌then◌else◌, ℕ, Bool, true, false, not, cond, ◌&&◌, ◌||◌, List, [], ◌∷◌, ◌++◌, filter, refl, sym, ◌∙◌, ap}
 use Rattle.std.specs.List.{list_any, list_all}
 use Rattle.wake_lock.specs.declared.CallId.{CallId}
 use Rattle.sequential_signer.specs.Setup.{Setup}
 use Rattle.wake_lock.specs.Calls.{same_call, is_first}
 use Rattle.sequential_signer.specs.Transcript.{call_of}
-use Rattle.sequential_signer.specs.Turn.{before_call, ends_hold, poll_order, hold_is_finished, has_turn}
+use Rattle.sequential_signer.specs.Turn.{before_call, ends_hold, poll_order, hold_is_finished, has_turn, open_calls}
 use Rattle.sequential_signer.specs.declared.event.Entry.{Entry}
 use Rattle.wake_lock.proofs.Calls.{same_call-eq}
 use Rattle.sequential_signer.proofs.CallNames.{before_call-absent}
@@ -53,23 +53,19 @@ after_first call [] = []
 after_first call (x ∷ rest) = if same_call call x then rest else []
 
 module _ {K D : Type 0} (setup : Setup D) where
-  -- the calls of cache i whose holds are open, in the order of their first polls: the holder, then the waiters
-  abbrev pub queue : List (Entry K) → ℕ → List CallId
-  queue entries i = open_holds (hold_is_finished entries) (poll_order setup entries i)
-
   -- a call that was polled and whose hold is open has its turn exactly where it holds
-  pub has_turn-polled : (entries : List (Entry K)) (i : ℕ) (call : CallId) → hold_is_finished entries call ≡ false → is_polled setup entries i call ≡ true → has_turn setup entries i call ≡ is_first call (queue entries i)
+  pub has_turn-polled : (entries : List (Entry K)) (i : ℕ) (call : CallId) → hold_is_finished entries call ≡ false → is_polled setup entries i call ≡ true → has_turn setup entries i call ≡ is_first call (open_calls setup entries i)
   unfolding has_turn
   has_turn-polled entries i call o m = first-open (hold_is_finished entries) call (poll_order setup entries i) o m
 
   -- a call that was not polled has its turn exactly where nobody holds
-  pub has_turn-unpolled : (entries : List (Entry K)) (i : ℕ) (call : CallId) → is_polled setup entries i call ≡ false → has_turn setup entries i call ≡ is_empty (queue entries i)
+  pub has_turn-unpolled : (entries : List (Entry K)) (i : ℕ) (call : CallId) → is_polled setup entries i call ≡ false → has_turn setup entries i call ≡ is_empty (open_calls setup entries i)
   unfolding has_turn
   has_turn-unpolled entries i call u =
       ap (list_all (hold_is_finished entries)) (before_call-absent call (poll_order setup entries i) u)
       ∙ all-finished (hold_is_finished entries) (poll_order setup entries i)
 
--- a poll puts its call at the end, where it was not polled before
+-- where no hold ends, whose hold is finished stays
 module _ {K D : Type 0} (setup : Setup D) (entries : List (Entry K)) (i : ℕ) (e : Entry K) (stays_open : ends_hold e.reply ≡ false) where
   pub finished_same : (b : CallId) → hold_is_finished (entries ++ e ∷ []) b ≡ hold_is_finished entries b
   finished_same b = same_by (same_call b (call_of e.event)) refl
@@ -78,7 +74,7 @@ module _ {K D : Type 0} (setup : Setup D) (entries : List (Entry K)) (i : ℕ) (
       same_by true s = hold_is_finished-own setup entries e b s ∙ ap (λ v. hold_is_finished entries b || v) stays_open ∙ or_false _
       same_by false s = hold_is_finished-other setup entries e b s
 
--- an entry that ends its call's hold takes the call out of the queue
+-- an entry that ends its call's hold takes the call out of the open ones
 module _ {K D : Type 0} (setup : Setup D) (entries : List (Entry K)) (i : ℕ) (e : Entry K) (ends : ends_hold e.reply ≡ true) where
   finished_after : (b : CallId) → hold_is_finished (entries ++ e ∷ []) b ≡ (hold_is_finished entries b || same_call b (call_of e.event))
   finished_after b = after_by (same_call b (call_of e.event)) refl
@@ -95,5 +91,5 @@ module _ {K D : Type 0} (setup : Setup D) (entries : List (Entry K)) (i : ℕ) (
       ≡ filter (λ y. not (same_call y (call_of e.event))) (cond (not v) (x ∷ filter (λ y. not (hold_is_finished entries y)) xs) (filter (λ y. not (hold_is_finished entries y)) xs)))
       [ true ↦ refl | false ↦ refl ])
 
-  pub queue-leaves : poll_order setup (entries ++ e ∷ []) i ≡ poll_order setup entries i → queue setup (entries ++ e ∷ []) i ≡ filter (λ x. not (same_call x (call_of e.event))) (queue setup entries i)
+  pub queue-leaves : poll_order setup (entries ++ e ∷ []) i ≡ poll_order setup entries i → open_calls setup (entries ++ e ∷ []) i ≡ filter (λ x. not (same_call x (call_of e.event))) (open_calls setup entries i)
   queue-leaves o = ap (filter (λ x. not (hold_is_finished (entries ++ e ∷ []) x))) o ∙ out_of (poll_order setup entries i)

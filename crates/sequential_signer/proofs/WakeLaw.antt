@@ -7,7 +7,7 @@ use Rattle.sequential_signer.specs.Setup.{Setup, cache_of, is_of_cache}
 use Rattle.wake_lock.specs.Calls.{same_call, IsOnce, is_first, first_of}
 use Rattle.sequential_signer.specs.Transcript.{call_of}
 use Rattle.sequential_signer.specs.Phase.{Phase, Unknown, Fresh, Queued, Loading, Signing, Ended, phase_of, is_queued}
-use Rattle.sequential_signer.specs.Turn.{ends_hold, poll_order, hold_is_finished, has_turn}
+use Rattle.sequential_signer.specs.Turn.{ends_hold, poll_order, hold_is_finished, has_turn, open_calls}
 use Rattle.sequential_signer.specs.Wake.{gets_turn, call_to_wake}
 use Rattle.sequential_signer.specs.declared.event.Entry.{Entry}
 use Rattle.sequential_signer.proofs.Lists.{or_true, false_by}
@@ -18,7 +18,7 @@ use Rattle.sequential_signer.proofs.Run.{IsRun}
 use Rattle.sequential_signer.proofs.Standing.{Stands, unknown_call, fresh_call, queued_call, loading_call, signing_call, over_call, cancelled_call}
 use Rattle.sequential_signer.proofs.Stands.{stands}
 use Rattle.sequential_signer.proofs.CacheLaw.{order_of_cache, order_once, number_of, list_all-member}
-use Rattle.sequential_signer.proofs.Queue.{after_first, queue, queue-leaves, has_turn-polled, is_empty, all-finished}
+use Rattle.sequential_signer.proofs.Queue.{after_first, queue-leaves, has_turn-polled, is_empty, all-finished}
 
 pub find-none : (p : CallId → Bool) (xs : List CallId) → ((b : CallId) → list_any (same_call b) xs ≡ true → p b ≡ false) → find p xs ≡ None
 find-none p [] h = refl
@@ -104,7 +104,7 @@ module _ {K D : Type 0} (policy : Policy K D) (setup : Setup D) (entries : List 
   stand : (b : CallId) → is_polled setup entries i b ≡ true → Stands setup entries i b (phase_of entries b)
   stand b m = stands policy setup entries run b i (number_of i (cache_of setup b) (list_all-member (is_of_cache setup i) b (poll_order setup entries i) (order_of_cache setup entries i) m))
 
-  once : IsOnce (queue setup entries i)
+  once : IsOnce (open_calls setup entries i)
   once = once-filter (λ x. not (hold_is_finished entries x)) (poll_order setup entries i) (order_once setup entries i)
 
   never_both : (v : Bool) → (v && not v) ≡ false
@@ -154,12 +154,12 @@ module _ {K D : Type 0} (policy : Policy K D) (setup : Setup D) (entries : List 
           rw (s, xa, never_both (same_call b x)) (and_zero queued)
 
   gets_by : (b : CallId) → is_polled setup entries i b ≡ true → (f : Bool) → hold_is_finished entries b ≡ f → (s : Bool) → same_call (call_of e.event) b ≡ s
-      → gets_turn setup entries i e b ≡ is_first b (after_first (call_of e.event) (queue setup entries i))
+      → gets_turn setup entries i e b ≡ is_first b (after_first (call_of e.event) (open_calls setup entries i))
   gets_by b m true f s _ =
       let nq : is_queued (phase_of entries b) ≡ false = queued_open b (phase_of entries b) f (stand b m) in
-      let none : is_first b (after_first (call_of e.event) (queue setup entries i)) ≡ false =
-      false_by (is_first b (after_first (call_of e.event) (queue setup entries i)))
-      (λ h. let k = member-filter (λ x. not (hold_is_finished entries x)) b (poll_order setup entries i) (later_member (call_of e.event) b (queue setup entries i) (first_member b (after_first (call_of e.event) (queue setup entries i)) h)) in
+      let none : is_first b (after_first (call_of e.event) (open_calls setup entries i)) ≡ false =
+      false_by (is_first b (after_first (call_of e.event) (open_calls setup entries i)))
+      (λ h. let k = member-filter (λ x. not (hold_is_finished entries x)) b (poll_order setup entries i) (later_member (call_of e.event) b (open_calls setup entries i) (first_member b (after_first (call_of e.event) (open_calls setup entries i)) h)) in
       let bad : not (hold_is_finished entries b) ≡ true = k.1 in cc) in
       rw (nq, none) (zero (not (same_call (call_of e.event) b)) (has_turn setup (entries ++ e ∷ []) i b && not (has_turn setup entries i b)))
     where
@@ -168,26 +168,26 @@ module _ {K D : Type 0} (policy : Policy K D) (setup : Setup D) (entries : List 
       zero false w = refl
   gets_by b m false f true s =
       let same : call_of e.event ≡ b = same_call-eq (call_of e.event) b s in
-      let none : is_first b (after_first (call_of e.event) (queue setup entries i)) ≡ false =
-      false_by (is_first b (after_first (call_of e.event) (queue setup entries i)))
-      (λ h. not_itself b (queue setup entries i) once (subst (λ y. is_first b (after_first y (queue setup entries i)) ≡ true) same h)) in
+      let none : is_first b (after_first (call_of e.event) (open_calls setup entries i)) ≡ false =
+      false_by (is_first b (after_first (call_of e.event) (open_calls setup entries i)))
+      (λ h. not_itself b (open_calls setup entries i) once (subst (λ y. is_first b (after_first y (open_calls setup entries i)) ≡ true) same h)) in
       rw (s, none) refl
   gets_by b m false f false s =
       let f' : hold_is_finished (entries ++ e ∷ []) b ≡ false = hold_is_finished-other setup entries e b (same_call-comm b (call_of e.event) ∙ s) ∙ f in
       let m' : is_polled setup (entries ++ e ∷ []) i b ≡ true = is_polled-more setup entries i e b m in
-      let after : has_turn setup (entries ++ e ∷ []) i b ≡ is_first b (filter (λ x. not (same_call x (call_of e.event))) (queue setup entries i)) = has_turn-polled setup (entries ++ e ∷ []) i b f' m' ∙ ap (is_first b) (queue-leaves setup entries i e ends order) in
-      let before : has_turn setup entries i b ≡ is_first b (queue setup entries i) = has_turn-polled setup entries i b f m in
+      let after : has_turn setup (entries ++ e ∷ []) i b ≡ is_first b (filter (λ x. not (same_call x (call_of e.event))) (open_calls setup entries i)) = has_turn-polled setup (entries ++ e ∷ []) i b f' m' ∙ ap (is_first b) (queue-leaves setup entries i e ends order) in
+      let before : has_turn setup entries i b ≡ is_first b (open_calls setup entries i) = has_turn-polled setup entries i b f m in
       rw (s, after, before)
-      (open_by (call_of e.event) b s (queue setup entries i) once (is_queued (phase_of entries b))
+      (open_by (call_of e.event) b s (open_calls setup entries i) once (is_queued (phase_of entries b))
       (λ n. waits_queued b (phase_of entries b) refl m f (before ∙ n) (stand b m)))
 
   -- the call to wake is the one that stands after the holder
-  pub wakes : call_to_wake setup entries i e ≡ first_of (after_first (call_of e.event) (queue setup entries i))
+  pub wakes : call_to_wake setup entries i e ≡ first_of (after_first (call_of e.event) (open_calls setup entries i))
   unfolding call_to_wake
   wakes =
-      find_same (gets_turn setup entries i e) (λ b. is_first b (after_first (call_of e.event) (queue setup entries i))) (poll_order setup entries i) (λ b m. gets_by b m (hold_is_finished entries b) refl (same_call (call_of e.event) b) refl)
-      ∙ find_first (after_first (call_of e.event) (queue setup entries i)) (poll_order setup entries i)
-      (λ h k. (member-filter (λ x. not (hold_is_finished entries x)) h (poll_order setup entries i) (later_member (call_of e.event) h (queue setup entries i) (first_member h (after_first (call_of e.event) (queue setup entries i)) k))).0)
+      find_same (gets_turn setup entries i e) (λ b. is_first b (after_first (call_of e.event) (open_calls setup entries i))) (poll_order setup entries i) (λ b m. gets_by b m (hold_is_finished entries b) refl (same_call (call_of e.event) b) refl)
+      ∙ find_first (after_first (call_of e.event) (open_calls setup entries i)) (poll_order setup entries i)
+      (λ h k. (member-filter (λ x. not (hold_is_finished entries x)) h (poll_order setup entries i) (later_member (call_of e.event) h (open_calls setup entries i) (first_member h (after_first (call_of e.event) (open_calls setup entries i)) k))).0)
 
 module _ {K D : Type 0} (policy : Policy K D) (setup : Setup D) (entries : List (Entry K)) (run : IsRun policy setup entries) (i : ℕ) (e : Entry K) where
   idle : (b : CallId) (p : Phase) → hold_is_finished entries b ≡ true → Stands setup entries i b p → is_queued p ≡ false
@@ -199,7 +199,7 @@ module _ {K D : Type 0} (policy : Policy K D) (setup : Setup D) (entries : List 
   idle b Ended f s = refl
 
   -- where nobody holds, nobody is woken, as by a first poll that ends its hold at once
-  pub wakes-nobody : is_empty (queue setup entries i) ≡ true → call_to_wake setup entries i e ≡ None
+  pub wakes-nobody : is_empty (open_calls setup entries i) ≡ true → call_to_wake setup entries i e ≡ None
   unfolding call_to_wake
   wakes-nobody h = find-none (gets_turn setup entries i e) (poll_order setup entries i) (λ b m. none b m)
     where

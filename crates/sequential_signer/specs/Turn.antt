@@ -54,6 +54,10 @@ serves _ = false
 unfoldable pub hold_is_finished : {K : Type 0} → List (Entry K) → CallId → Bool
 hold_is_finished entries call = list_any (λ e. ends_hold e.reply) (entries_of entries call)
 
+-- the calls of cache i whose holds are open, in the order of their first polls: the one that holds, then those that wait
+abbrev pub open_calls : {K D : Type 0} → Setup D → List (Entry K) → ℕ → List CallId
+open_calls setup entries i = filter (λ call. not (hold_is_finished entries call)) (poll_order setup entries i)
+
 -- whether it ended in a credential or a refusal
 unfoldable pub is_served : {K : Type 0} → List (Entry K) → CallId → Bool
 is_served entries call = list_any (λ e. serves e.reply) (entries_of entries call)

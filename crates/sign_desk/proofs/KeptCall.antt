@@ -4,6 +4,7 @@ use Rattle.wake_lock.specs.declared.CallId.{CallId}
 use Rattle.sequential_signer.specs.Policy.{Policy}
 use Rattle.sequential_signer.specs.Setup.{Handle, cache_of, rule_of, is_of_cache, is_number}
 use Rattle.wake_lock.specs.Calls.{same_call, first_of}
+use Rattle.sequential_signer.specs.Turn.{open_calls}
 use Rattle.sequential_signer.specs.Transcript.{kept, call_of}
 use Rattle.sequential_signer.specs.Phase.{Phase, Unknown, Fresh, Queued, Loading, Signing, Ended, phase_of, event_fits, is_live, is_begun}
 use Rattle.sequential_signer.specs.Hold.{BeginInput, begin_of, answers_of}
@@ -20,7 +21,7 @@ use Rattle.sequential_signer.proofs.Standing.{Stands, fresh_call, queued_call, l
 use Rattle.sequential_signer.proofs.Stands.{stands}
 use Rattle.sequential_signer.proofs.Queue.{after_first}
 use Rattle.sign_desk.specs.Queue.{woken, line_of, line_at}
-use Rattle.sign_desk.specs.QueueDue.{open_calls, queue_due}
+use Rattle.sign_desk.specs.QueueDue.{queue_due}
 use Rattle.sign_desk.specs.Kept.{Kept, setup_of, find_call, live_view, phase_of_stage, Represents}
 use Rattle.sign_desk.specs.declared.calls.CallRecord.{CallRecord}
 use Rattle.sign_desk.proofs.Refine.{ran}

@@ -7,19 +7,19 @@ use Rattle.sequential_signer.specs.Setup.{Setup, cache_of, is_of_cache, is_numbe
 use Rattle.wake_lock.specs.Calls.{same_call}
 use Rattle.sequential_signer.specs.Transcript.{call_of}
 use Rattle.sequential_signer.specs.Phase.{Phase, phase_of, is_begun, is_new_number}
-use Rattle.sequential_signer.specs.Turn.{poll_order, hold_is_finished, ends_hold, is_fitting_poll, is_poll_at}
+use Rattle.sequential_signer.specs.Turn.{poll_order, hold_is_finished, ends_hold, is_fitting_poll, is_poll_at, open_calls}
 use Rattle.sequential_signer.specs.Hold.{begin_of}
 use Rattle.sequential_signer.specs.declared.event.Entry.{Entry}
-use Rattle.sequential_signer.proofs.Lists.{filter-more_yes, filter-more_no, or_true, or_false, and_false}
+use Rattle.sequential_signer.proofs.Lists.{filter-more_yes, filter-more_no, or_true, and_false}
 use Rattle.wake_lock.proofs.Calls.{same_call-eq, same_call-refl, absent-filter}
 use Rattle.wake_lock.proofs.Lines.{absent-leaves}
 use Rattle.wake_lock.proofs.Truth.{number_refl, same_number}
-use Rattle.sequential_signer.proofs.PollOrder.{is_polled, OrderAfter, stays, grows, order_after, poll_order-same, poll_order-poll, hold_is_finished-own, hold_is_finished-other, hold_is_finished-more}
+use Rattle.sequential_signer.proofs.PollOrder.{is_polled, OrderAfter, stays, grows, order_after, poll_order-same, poll_order-poll, hold_is_finished-own, hold_is_finished-more}
 use Rattle.sequential_signer.proofs.Run.{IsRun}
 use Rattle.sequential_signer.proofs.CacheLaw.{order_of_cache, list_all-member}
-use Rattle.sequential_signer.proofs.Queue.{queue-leaves}
+use Rattle.sequential_signer.proofs.Queue.{queue-leaves, finished_same}
 use Rattle.sign_desk.specs.Queue.{Queue, entered, passed, left, expected}
-use Rattle.sign_desk.specs.QueueDue.{is_fresh, fresh_calls, open_calls, queue_due}
+use Rattle.sign_desk.specs.QueueDue.{is_fresh, fresh_calls, queue_due}
 use Rattle.sign_desk.proofs.BegunCalls.{filter-agree, passing-same, passing-fewer, passing-more, passing-no_more}
 
 queue_is : (q : Queue) (line : List CallId) (unpolled : ℕ) → line ≡ q.line → unpolled ≡ q.unpolled → record { line = line; unpolled = unpolled } ≡ q
@@ -38,24 +38,16 @@ failing-absent x q (y ∷ ys) h =
     by_place false s e later = ap (λ v. v || list_any (same_call x) (filter q ys)) s ∙ later
 
 module _ {K D : Type 0} (policy : Policy K D) (setup : Setup D) (entries : List (Entry K)) (run : IsRun policy setup entries) (e : Entry K) where
-  -- whose hold is finished stays where no hold ends
-  finished-same : ends_hold e.reply ≡ false → (call : CallId) → hold_is_finished (entries ++ e ∷ []) call ≡ hold_is_finished entries call
-  finished-same h call = same_by (same_call call (call_of e.event)) refl
-    where
-      same_by : (s : Bool) → same_call call (call_of e.event) ≡ s → hold_is_finished (entries ++ e ∷ []) call ≡ hold_is_finished entries call
-      same_by true s = hold_is_finished-own setup entries e call s ∙ ap (λ v. hold_is_finished entries call || v) h ∙ or_false _
-      same_by false s = hold_is_finished-other setup entries e call s
-
   -- the line where no hold ends
   open-same : ends_hold e.reply ≡ false → (j : ℕ) → poll_order setup (entries ++ e ∷ []) j ≡ poll_order setup entries j → open_calls setup (entries ++ e ∷ []) j ≡ open_calls setup entries j
-  open-same h j o = rw o (filter-agree (λ call. not (hold_is_finished (entries ++ e ∷ []) call)) (λ call. not (hold_is_finished entries call)) (poll_order setup entries j) (λ call m. ap not (finished-same h call)))
+  open-same h j o = rw o (filter-agree (λ call. not (hold_is_finished (entries ++ e ∷ []) call)) (λ call. not (hold_is_finished entries call)) (poll_order setup entries j) (λ call m. ap not (finished_same setup entries 0 e h call)))
 
   -- a call that was not polled comes
   open-enters : ends_hold e.reply ≡ false → hold_is_finished entries (call_of e.event) ≡ false → (i : ℕ) → poll_order setup (entries ++ e ∷ []) i ≡ poll_order setup entries i ++ call_of e.event ∷ []
       → open_calls setup (entries ++ e ∷ []) i ≡ open_calls setup entries i ++ call_of e.event ∷ []
   open-enters h f i o =
       rw o
-      (filter-agree (λ call. not (hold_is_finished (entries ++ e ∷ []) call)) (λ call. not (hold_is_finished entries call)) (poll_order setup entries i ++ call_of e.event ∷ []) (λ call m. ap not (finished-same h call))
+      (filter-agree (λ call. not (hold_is_finished (entries ++ e ∷ []) call)) (λ call. not (hold_is_finished entries call)) (poll_order setup entries i ++ call_of e.event ∷ []) (λ call m. ap not (finished_same setup entries 0 e h call))
       ∙ filter-more_yes (λ call. not (hold_is_finished entries call)) (poll_order setup entries i) (call_of e.event) (ap not f))
 
   -- a line that was empty stays so

@@ -6,6 +6,7 @@ use Rattle.wake_lock.specs.declared.CallId.{CallId}
 use Rattle.sequential_signer.specs.Policy.{Policy}
 use Rattle.sequential_signer.specs.Setup.{Handle}
 use Rattle.wake_lock.specs.Calls.{same_call}
+use Rattle.sequential_signer.specs.Turn.{open_calls}
 use Rattle.sequential_signer.specs.Transcript.{kept, call_of, entries_of, is_out_of_memory}
 use Rattle.sequential_signer.specs.Phase.{Phase, Fresh, Queued, Loading, Signing, Ended, phase_of, is_live, is_signing, is_waiting_poll, is_begun, is_mark, phase_by}
 use Rattle.sequential_signer.specs.Hold.{begin_of}
@@ -27,7 +28,7 @@ use Rattle.sequential_signer.proofs.Standing.{Stands, IsServed, fresh_call, sign
 use Rattle.sequential_signer.proofs.CacheRows.{stays_other, stays_served}
 use Rattle.sequential_signer.proofs.WakeLaw.{wakes}
 use Rattle.sign_desk.specs.Queue.{woken, passed, left, line_at}
-use Rattle.sign_desk.specs.QueueDue.{is_fresh, open_calls}
+use Rattle.sign_desk.specs.QueueDue.{is_fresh}
 use Rattle.sign_desk.specs.Kept.{Kept, setup_of, find_call, live_view, phase_of_stage, Represents}
 use Rattle.sign_desk.specs.declared.calls.CallRecord.{CallRecord}
 use Rattle.sign_desk.specs.declared.calls.Stage.{Stage}

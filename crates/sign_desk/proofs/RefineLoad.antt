@@ -10,7 +10,7 @@ use Rattle.sequential_signer.specs.SequentialCall.{HoldInput, Progress, Asking, 
 use Rattle.sequential_signer.specs.Setup.{Handle, rule_of}
 use Rattle.sequential_signer.specs.Transcript.{kept, entries_of, last_of}
 use Rattle.sequential_signer.specs.Phase.{Loading, Signing, Ended, phase_of, is_live, is_loading, is_waiting_poll, is_begun, is_mark, is_not_now, phase_by}
-use Rattle.sequential_signer.specs.Turn.{serves, ends_hold}
+use Rattle.sequential_signer.specs.Turn.{serves, ends_hold, open_calls}
 use Rattle.sequential_signer.specs.Hold.{begin_of, answers_of, answers_in, turn_moment, input_by, hold_input}
 use Rattle.sequential_signer.specs.SequentialCache.{sequential_cache}
 use Rattle.sequential_signer.specs.Wake.{call_to_wake}
@@ -37,7 +37,7 @@ use Rattle.sequential_signer.proofs.CacheRows.{stays_unserved, serves_got}
 use Rattle.sequential_signer.proofs.LoadLaw.{LoadsOn, loads_on}
 use Rattle.sequential_signer.proofs.WakeLaw.{wakes}
 use Rattle.sign_desk.specs.Queue.{woken, left, line_at}
-use Rattle.sign_desk.specs.QueueDue.{is_fresh, open_calls, queue_due}
+use Rattle.sign_desk.specs.QueueDue.{is_fresh, queue_due}
 use Rattle.sign_desk.specs.Kept.{Kept, setup_of, live_view, phase_of_stage, Represents}
 use Rattle.sign_desk.specs.declared.calls.CallRecord.{CallRecord}
 use Rattle.sign_desk.specs.declared.calls.Stage.{Stage}

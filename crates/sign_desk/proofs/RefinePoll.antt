@@ -9,7 +9,7 @@ use Rattle.sequential_signer.specs.SequentialCall.{Progress, Asking, Over, seque
 use Rattle.sequential_signer.specs.Setup.{Handle, rule_of}
 use Rattle.sequential_signer.specs.Transcript.{kept, entries_of}
 use Rattle.sequential_signer.specs.Phase.{Phase, Fresh, Queued, Loading, Signing, phase_of, is_live, is_waiting, is_waiting_poll, is_begun, is_mark, is_not_now, phase_by}
-use Rattle.sequential_signer.specs.Turn.{serves, ends_hold, has_turn, is_poll_at}
+use Rattle.sequential_signer.specs.Turn.{serves, ends_hold, has_turn, is_poll_at, open_calls}
 use Rattle.sequential_signer.specs.Hold.{begin_of, answers_of, input_by}
 use Rattle.sequential_signer.specs.SequentialCache.{sequential_cache}
 use Rattle.sequential_signer.specs.Wake.{call_to_wake}
@@ -35,7 +35,7 @@ use Rattle.sequential_signer.proofs.Queue.{is_empty, has_turn-polled, has_turn-u
 use Rattle.sequential_signer.proofs.WakeLaw.{wakes, wakes-nobody}
 use Rattle.wake_lock.specs.Calls.{is_first}
 use Rattle.sign_desk.specs.Queue.{is_held_line, woken, entered, passed, left, line_at}
-use Rattle.sign_desk.specs.QueueDue.{is_fresh, live_calls, open_calls}
+use Rattle.sign_desk.specs.QueueDue.{is_fresh, live_calls}
 use Rattle.sign_desk.specs.Kept.{Kept, setup_of, find_call, live_view, phase_of_stage, Represents}
 use Rattle.sign_desk.specs.declared.calls.CallRecord.{CallRecord}
 use Rattle.sign_desk.specs.declared.calls.Stage.{Stage}

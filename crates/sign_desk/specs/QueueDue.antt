@@ -1,10 +1,10 @@
 -- The queue of a cache, and the live calls, read from a transcript.
-use Rattle.std.specs.Prelude.{ℕ, Bool, true, false, not, ◌&&◌, List, filter, map, length}
+use Rattle.std.specs.Prelude.{ℕ, Bool, true, false, ◌&&◌, List, filter, map, length}
 use Rattle.wake_lock.specs.declared.CallId.{CallId}
 use Rattle.sequential_signer.specs.Transcript.{call_of}
 use Rattle.sequential_signer.specs.Setup.{Setup, is_of_cache}
 use Rattle.sequential_signer.specs.Phase.{Phase, Fresh, phase_of, is_begun, is_live}
-use Rattle.sequential_signer.specs.Turn.{poll_order, hold_is_finished}
+use Rattle.sequential_signer.specs.Turn.{open_calls}
 use Rattle.sequential_signer.specs.declared.event.Entry.{Entry}
 use Rattle.sign_desk.specs.Queue.{Queue}
 
@@ -24,10 +24,6 @@ is_fresh _ = false
 -- the calls of cache i that were begun and not polled
 abbrev pub fresh_calls : {K D : Type 0} → Setup D → List (Entry K) → ℕ → List CallId
 fresh_calls setup entries i = filter (λ call. is_of_cache setup i call && is_fresh (phase_of entries call)) (begun_calls entries)
-
--- the calls of cache i with a first poll and an unfinished hold, in the order of first polls
-abbrev pub open_calls : {K D : Type 0} → Setup D → List (Entry K) → ℕ → List CallId
-open_calls setup entries i = filter (λ call. not (hold_is_finished entries call)) (poll_order setup entries i)
 
 -- the queue that cache i has
 abbrev pub queue_due : {K D : Type 0} → Setup D → List (Entry K) → ℕ → Queue
