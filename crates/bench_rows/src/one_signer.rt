@@ -105,8 +105,32 @@ fn plain(alloc: Global, path: &str) -> Result<Head, NoMemory<()>> {
     })
 }
 
-/// Drives one call to its end, and hands out the last reply: the provider is asked only where the
-/// desk says so, and the service signs with the credential that the desk hands out.
+/// Drives a begun call until it is signed or refused, and hands out the last reply: the provider is
+/// asked only where the desk says so, and the service signs with what the desk hands out.
+fn signed(
+    alloc: Global,
+    desk: &mut Desk<Key, ToTheEnd>,
+    keys: &mut Keys,
+    call: CallId,
+    path: &str,
+    now: Timestamp,
+) -> Result<Reply<Key>, NoMemory<()>> {
+    let mut reply = desk.step(&Event::Poll { call, now });
+    if let Reply::Ask { .. } = reply {
+        let answer = keys.answer(now);
+        reply = desk.step(&Event::Provided { call, now, answer });
+    }
+    match reply {
+        Reply::Sign { credential, .. } => Ok(desk.step(&Event::Signed {
+            call,
+            answer: Verdict::Accepted(made(alloc, path, &credential)?),
+        })),
+        other => Ok(other),
+    }
+}
+
+/// Begins a call and drives it, on a desk with no other. Where memory is wanting the call is given
+/// up, so that none stays behind.
 fn driven(
     alloc: Global,
     desk: &mut Desk<Key, ToTheEnd>,
@@ -120,20 +144,16 @@ fn driven(
         head: plain(alloc, path)?,
         expires_in: Some(Duration::from_secs(60)),
     };
-    let Reply::Begun = desk.step(&begin) else {
-        return Ok(Reply::NotNow);
-    };
-    let mut reply = desk.step(&Event::Poll { call, now });
-    if let Reply::Ask { .. } = reply {
-        let answer = keys.answer(now);
-        reply = desk.step(&Event::Provided { call, now, answer });
+    match desk.step(&begin) {
+        Reply::Begun => {}
+        other => return Ok(other),
     }
-    match reply {
-        Reply::Sign { credential, .. } => Ok(desk.step(&Event::Signed {
-            call,
-            answer: Verdict::Accepted(made(alloc, path, &credential)?),
-        })),
-        other => Ok(other),
+    match signed(alloc, desk, keys, call, path, now) {
+        Ok(Reply::OutOfMemory) | Err(_) => {
+            let _given_up = desk.step(&Event::Cancel { call });
+            Err(NoMemory { back: () })
+        }
+        ended => ended,
     }
 }
 
