@@ -1,3 +1,7 @@
+pub mod FaultCount
+pub mod LineLemmas
+pub mod TakingLemmas
+pub mod WindowLemmas
 pub mod CountingOff
 pub mod CivilTime
 pub mod CivilRead

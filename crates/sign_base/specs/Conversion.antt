@@ -11,8 +11,8 @@ abbrev pub IsOfKind : ErrorKind → ErrorParts → Type 0
 IsOfKind kind e = e ≡ new_error kind e.message
 
 -- a new error of this kind, whose message is what its cause prints, where that is known
-abbrev pub IsTold : ErrorKind → Option (List ℕ) → ErrorParts → Type 0
-IsTold kind printed e = IsOfKind kind e × IfSome printed (λ text. e.message ≡ text)
+abbrev pub IsOfKindWithText : ErrorKind → Option (List ℕ) → ErrorParts → Type 0
+IsOfKindWithText kind printed e = IsOfKind kind e × IfSome printed (λ text. e.message ≡ text)
 
 -- a missing file is a wrong setting, and one that may not be read is a permission denied
 abbrev pub kind_of_io : IoErrorKind → ErrorKind

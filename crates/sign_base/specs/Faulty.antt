@@ -1,4 +1,4 @@
--- Sources and sinks of tests, which fail where they are told to.
+-- Sources and sinks of tests, which fail where the test says.
 use Rattle.std.specs.Prelude.{ℕ, List, ◌==◌, Bool, if◌then◌else◌}
 use Rattle.std.specs.List.{list_any}
 use Rattle.sign_base.specs.Faults.{one_more}

@@ -24,14 +24,14 @@ abbrev pub read_civil : List ℕ → Option ℤ
 read_civil text = in_range (option_map (λ parts. parts_nanos parts.0 parts.1) (result_ok (parse_datetime text)))
 
 -- the message of a text that does not read
-abbrev pub not_read : List ℕ → List ℕ → List ℕ
-not_read text into = codes "parse '" ++ (text ++ (codes "' into " ++ (into ++ codes " failed")))
+abbrev pub parse_message : List ℕ → List ℕ → List ℕ
+parse_message text into = codes "parse '" ++ (text ++ (codes "' into " ++ (into ++ codes " failed")))
 
 -- the message of a date and time that reads and lies out of range
-abbrev pub out_of_range : List ℕ → List ℕ
-out_of_range text = codes "convert '" ++ (text ++ codes "' into timestamp failed")
+abbrev pub range_message : List ℕ → List ℕ
+range_message text = codes "convert '" ++ (text ++ codes "' into timestamp failed")
 
 -- the message of a text that is no date and time in UTC, for either cause
-abbrev pub not_read_civil : List ℕ → List ℕ
-not_read_civil text =
-    if is_ok (parse_datetime text) then out_of_range text else not_read text (codes "datetime")
+abbrev pub civil_parse_message : List ℕ → List ℕ
+civil_parse_message text =
+    if is_ok (parse_datetime text) then range_message text else parse_message text (codes "datetime")

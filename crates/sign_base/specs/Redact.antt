@@ -1,4 +1,4 @@
--- Secrets in print: enough to tell two apart, too little to use one.
+-- Secrets in print: the first and the last three bytes of one of at least twelve, and no more.
 use Rattle.std.specs.Prelude.{ℕ, ◌-◌, ◌==◌, nat_le, ◌&&◌, Bool, List, ◌++◌, length, take, drop, slice_index, Option, Some, None, if◌then◌else◌}
 use Rattle.std.specs.Fmt.{is_char_start}
 use lib.Chars.{codes}
@@ -14,11 +14,11 @@ shown_ends text =
     then Some (take 3 text, drop (length text - 3) text)
     else None
 
--- what stands for a secret of which these ends are shown
-abbrev pub starred : Option (List ℕ × List ℕ) → List ℕ
-starred None = codes "***"
-starred (Some ends) = ends.0 ++ (codes "***" ++ ends.1)
+-- what is printed for a secret of which these ends are shown
+abbrev pub starred_ends : Option (List ℕ × List ℕ) → List ℕ
+starred_ends None = codes "***"
+starred_ends (Some ends) = ends.0 ++ (codes "***" ++ ends.1)
 
 -- what is printed for a secret
-abbrev pub redacted : List ℕ → List ℕ
-redacted text = if length text == 0 then codes "EMPTY" else starred (shown_ends text)
+abbrev pub redacted_text : List ℕ → List ℕ
+redacted_text text = if length text == 0 then codes "EMPTY" else starred_ends (shown_ends text)

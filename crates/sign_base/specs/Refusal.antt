@@ -1,4 +1,4 @@
--- What a refusal of a call may be: want of memory, or the error with the message that tells the cause.
+-- What a refusal of a call may be: out of memory, or the error whose message names the cause.
 use Rattle.std.specs.Prelude.{◌≡◌, ◌++◌, ◌⊎◌, [], ℕ, ℤ, List}
 use Rattle.std.specs.Fmt.{signed_decimal}
 use lib.Chars.{codes}
@@ -6,7 +6,7 @@ use Rattle.sign_base.specs.declared.error_kind.ErrorKind.{ErrorKind}
 use Rattle.sign_base.specs.declared.error_kind.ErrorKind.TheVariants.{Unexpected, OutOfMemory}
 use Rattle.sign_base.specs.Error.{ErrorParts, new_error}
 
--- the error of this kind and message, or want of memory, which is always free
+-- the error of this kind and message, or out of memory, which may always be returned
 abbrev pub IsErrorOf : ErrorKind → List ℕ → ErrorParts → Type 0
 IsErrorOf kind message e = (e ≡ new_error kind message) ⊎ (e ≡ new_error OutOfMemory [])
 

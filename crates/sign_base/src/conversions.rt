@@ -1,5 +1,5 @@
-//! Errors of the libraries below, each told in this crate's words. The text stays the message; the
-//! kind says what to do. An error that is itself want of memory stays want of memory.
+//! Errors of the libraries below, as errors of this crate. The text stays the message; the
+//! kind says what to do. An error that is itself out of memory stays out of memory.
 ghost use Rattle.std.specs.Prelude.{◌≡◌, IfOk, IfErr, IsErr, Some};
 ghost use Rattle.std.specs.IoError.{error_kind};
 ghost use Rattle.std.specs.declared.io.ErrorKind.{ErrorKind as IoErrorKind};
@@ -9,7 +9,7 @@ ghost use Rattle.http_header.specs.declared.name.HeaderNameError.{HeaderNameErro
 ghost use Rattle.http_header.specs.declared.value.HeaderValueError.{HeaderValueError as ValueError};
 ghost use Rattle.http_uri.specs.Error.{IsOutOfMemory};
 ghost use Rattle.sign_base.specs.Error.{new_error};
-ghost use Rattle.sign_base.specs.Conversion.{IsTold, IsOfKind, kind_of_io, is_retried_io};
+ghost use Rattle.sign_base.specs.Conversion.{IsOfKindWithText, IsOfKind, kind_of_io, is_retried_io};
 ghost use Rattle.sign_base.specs.declared.error_kind.ErrorKind.TheVariants.{RequestInvalid, Unexpected};
 
 use crate::{Error, ErrorKind, NoMemory};
@@ -25,7 +25,7 @@ impl Error {
         ensures ok { IfOk result (λ e. e ≡ record (new_error Unexpected (error_message err)) { source = Some err }) }
         ensures back { IfErr result (λ e. e.back ≡ err) }
     {
-        match told(alloc, ErrorKind::Unexpected, &err) {
+        match error_from_display(alloc, ErrorKind::Unexpected, &err) {
             Ok(error) => Ok(error.with_source(err)),
             Err(_) => Err(NoMemory { back: err }),
         }
@@ -35,14 +35,14 @@ impl Error {
     pub fn from_fmt(alloc: Global, err: &fmt::Error) -> Result<Error, NoMemory<()>>
         ensures { IfOk result (IsOfKind Unexpected) }
     {
-        told(alloc, ErrorKind::Unexpected, err)
+        error_from_display(alloc, ErrorKind::Unexpected, err)
     }
 
     /// `Unexpected`.
     pub fn from_utf8(alloc: Global, err: &FromUtf8Error) -> Result<Error, NoMemory<()>>
         ensures { IfOk result (IsOfKind Unexpected) }
     {
-        told(alloc, ErrorKind::Unexpected, err)
+        error_from_display(alloc, ErrorKind::Unexpected, err)
     }
 
     /// `RequestInvalid`.
@@ -52,7 +52,7 @@ impl Error {
     {
         match err {
             http::Error::OutOfMemory => Err(NoMemory { back: () }),
-            _ => told(alloc, ErrorKind::RequestInvalid, err),
+            _ => error_from_display(alloc, ErrorKind::RequestInvalid, err),
         }
     }
 
@@ -63,7 +63,7 @@ impl Error {
     {
         match err {
             HeaderValueError::OutOfMemory => Err(NoMemory { back: () }),
-            HeaderValueError::Invalid => told(alloc, ErrorKind::RequestInvalid, err),
+            HeaderValueError::Invalid => error_from_display(alloc, ErrorKind::RequestInvalid, err),
         }
     }
 
@@ -74,7 +74,7 @@ impl Error {
     {
         match err {
             HeaderNameError::OutOfMemory => Err(NoMemory { back: () }),
-            HeaderNameError::Invalid => told(alloc, ErrorKind::RequestInvalid, err),
+            HeaderNameError::Invalid => error_from_display(alloc, ErrorKind::RequestInvalid, err),
         }
     }
 
@@ -82,7 +82,7 @@ impl Error {
     pub fn from_to_str(alloc: Global, err: &ToStrError) -> Result<Error, NoMemory<()>>
         ensures { IfOk result (IsOfKind RequestInvalid) }
     {
-        told(alloc, ErrorKind::RequestInvalid, err)
+        error_from_display(alloc, ErrorKind::RequestInvalid, err)
     }
 
     /// `RequestInvalid`.
@@ -92,7 +92,7 @@ impl Error {
     {
         match err {
             UriError::OutOfMemory => Err(NoMemory { back: () }),
-            UriError::Invalid(_) => told(alloc, ErrorKind::RequestInvalid, err),
+            UriError::Invalid(_) => error_from_display(alloc, ErrorKind::RequestInvalid, err),
         }
     }
 
@@ -100,7 +100,7 @@ impl Error {
     pub fn from_uri_parts(alloc: Global, err: &InvalidUriParts) -> Result<Error, NoMemory<()>>
         ensures { IfOk result (IsOfKind RequestInvalid) }
     {
-        told(alloc, ErrorKind::RequestInvalid, err)
+        error_from_display(alloc, ErrorKind::RequestInvalid, err)
     }
 
     /// `ConfigInvalid` where something was not found, `PermissionDenied` where that was the cause,
@@ -118,13 +118,17 @@ impl Error {
             | io::ErrorKind::ConnectionRefused => (ErrorKind::Unexpected, true),
             _ => (ErrorKind::Unexpected, false),
         };
-        Ok(told(alloc, kind, err)?.set_retryable(retryable))
+        Ok(error_from_display(alloc, kind, err)?.set_retryable(retryable))
     }
 }
 
 /// A new error of this kind, whose message is what its cause prints.
-fn told<D: fmt::Display>(alloc: Global, kind: ErrorKind, cause: &D) -> Result<Error, NoMemory<()>>
-    ensures { IfOk result (IsTold kind (D.output cause.now)) }
+fn error_from_display<D: fmt::Display>(
+    alloc: Global,
+    kind: ErrorKind,
+    cause: &D,
+) -> Result<Error, NoMemory<()>>
+    ensures { IfOk result (IsOfKindWithText kind (D.output cause.now)) }
 {
     let message = format!(in alloc; "{cause}")?;
     Ok(Error::of(kind, message))

@@ -1,4 +1,4 @@
-//! The error of every call that can fail by more than want of memory: a kind to act on, a message,
+//! The error of every call that can fail for more than out of memory: a kind to act on, a message,
 //! the places it came through, whether to try again, and the error below it where there is one.
 ghost use Rattle.std.specs.Prelude.{◌≡◌, ◌++◌, ◌∷◌, [], IfOk, IfErr, OnOk, OnErr, map, Some, option_map};
 ghost use Rattle.std.specs.String.{string_bytes};
@@ -12,7 +12,7 @@ use std::marker::Model;
 
 /// An error.
 ///
-/// An empty message and an empty context keep no memory, so want of memory can be told without any.
+/// An empty message and an empty context keep no memory, so out of memory is reported without any.
 #[derive(Drop)]
 pub struct Error {
     kind: ErrorKind,
@@ -99,7 +99,7 @@ impl Error {
         Error::new(alloc, ErrorKind::Unexpected, message)
     }
 
-    /// Want of memory, told without memory.
+    /// Out of memory, reported without memory.
     pub fn out_of_memory() -> Error
         ensures { result ≡ new_error OutOfMemory [] }
     {

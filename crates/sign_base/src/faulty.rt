@@ -1,9 +1,9 @@
 //! A source and a sink for tests of faults: they work in small pieces, and fail at the calls that a
 //! plan names.
-ghost use Rattle.std.specs.Prelude.{◌≡◌, Some, List, length, min, [], ◌-◌, ◌==◌, ◌||◌, ◌<◌, ◌≤◌, IfOk, IfErr, OnErr, is_err, IsTrue};
+ghost use Rattle.std.specs.Prelude.{◌≡◌, Some, List, length, min, [], ◌-◌, ◌==◌, ◌||◌, ◌<◌, ◌≤◌, IfOk, IfErr, OnErr, is_err};
 ghost use Rattle.std.specs.Io.KnownBytes.{ReadConsumes, WriteAppends};
 ghost use Rattle.std.specs.Io.{ReadsAtMost};
-ghost use Rattle.sign_base.specs.Faults.{HasRisen};
+ghost use Rattle.sign_base.specs.Faults.{CountsFault};
 ghost use Rattle.sign_base.specs.Faulty.{fails_next, one_call};
 
 use crate::source::Failed;
@@ -42,8 +42,7 @@ impl FaultPlan {
     fn fails(&mut self, unable: bool) -> bool
         ensures fails { result ≡ unable || fails_next self.old }
         ensures noted { self.new ≡ one_call result self.old }
-        ensures cause { IsTrue result → HasRisen self.old.faults self.new.faults }
-        ensures count { self.old.faults ≤ self.new.faults }
+        ensures counted { CountsFault result self.old.faults self.new.faults }
     {
         let failed = unable || self.fails.contains(&self.calls);
         self.calls = self.calls.saturating_add(1);
@@ -101,8 +100,7 @@ impl Source for FaultySource {
         ensures same { self.new.piece ≡ self.old.piece }
         ensures bound { ReadsAtMost result buf.new }
         ensures bytes { ReadConsumes (Some self.old.left) (Some self.new.left) result buf.new }
-        ensures cause { OnErr result (HasRisen self.old.plan.faults self.new.plan.faults) }
-        ensures count { self.old.plan.faults ≤ self.new.plan.faults }
+        ensures faults { CountsFault (is_err result) self.old.plan.faults self.new.plan.faults }
     {
         if self.plan.fails(false) {
             return Err(Failed);
@@ -145,14 +143,14 @@ impl FaultySink {
         ensures ok { IfOk result (λ s. s ≡ record { holds = []; room = room; piece = piece; plan = record { fails = fails.items; calls = 0; faults = 0 } }) }
         ensures back { IfErr result (λ e. e.back ≡ fails) }
     {
-        match MemorySink::new(alloc, room) {
-            Ok(bytes) => Ok(FaultySink {
-                bytes,
-                piece,
-                plan: FaultPlan::new(fails),
-            }),
-            Err(_) => Err(NoMemory { back: fails }),
-        }
+        let Ok(bytes) = MemorySink::new(alloc, room) else {
+            return Err(NoMemory { back: fails });
+        };
+        Ok(FaultySink {
+            bytes,
+            piece,
+            plan: FaultPlan::new(fails),
+        })
     }
 
     /// All that the sink holds.
@@ -179,8 +177,7 @@ impl Sink for FaultySink {
         ensures some { IfOk result (λ n. 0 < n) }
         ensures bound { IfOk result (λ n. n ≤ length piece.now) }
         ensures bytes { WriteAppends (Some self.old.holds) (Some self.new.holds) result piece.now }
-        ensures cause { OnErr result (HasRisen self.old.plan.faults self.new.plan.faults) }
-        ensures count { self.old.plan.faults ≤ self.new.plan.faults }
+        ensures faults { CountsFault (is_err result) self.old.plan.faults self.new.plan.faults }
     {
         if self.plan.fails(self.bytes.is_full()) {
             return Err(Failed);

@@ -1,11 +1,25 @@
-//! Want of memory, the one refusal that no argument explains.
-use std::alloc::{AllocError, AllocFailed};
+//! A failed allocation, the one refusal that no argument explains.
+ghost use Rattle.std.specs.Prelude.{Some, codes};
 
-/// Want of memory, with what is handed back.
+use std::alloc::{AllocError, AllocFailed};
+use std::error::Error;
+use std::fmt;
+
+/// An allocation failed; what the call had taken is handed back.
 #[derive(Debug, Drop)]
 pub struct NoMemory<B> {
     pub back: B,
 }
+
+impl<B> fmt::Display for NoMemory<B> {
+    ghost output = { λ _. Some (codes "out of memory") };
+
+    fn fmt<W: fmt::Write>(&self, f: &mut fmt::Formatter<W>) -> fmt::Result {
+        f.write_str("out of memory")
+    }
+}
+
+impl<B: fmt::Debug + Drop> Error for NoMemory<B> {}
 
 impl From<AllocError> for NoMemory<()> {
     fn from(_: AllocError) -> NoMemory<()> {

@@ -1,8 +1,8 @@
-//! Secrets in debug texts: enough to tell two apart, too little to use one.
+//! Secrets in debug texts: the first and the last three bytes of one of at least twelve, and no more.
 ghost use Rattle.std.specs.Prelude.{◌≡◌, Some, option_map};
 ghost use Rattle.std.specs.String.{string_bytes};
 ghost use Rattle.sign_base.specs.Error.{text_or_empty};
-ghost use Rattle.sign_base.specs.Redact.{redacted, shown_ends};
+ghost use Rattle.sign_base.specs.Redact.{redacted_text, shown_ends};
 
 use std::fmt;
 use std::marker::Model;
@@ -49,7 +49,7 @@ impl<'a> From<&'a Option<String>> for Redact<'a> {
 }
 
 impl fmt::Debug for Redact<'_> {
-    ghost debug_output = { λ r. Some (redacted r) };
+    ghost debug_output = { λ r. Some (redacted_text r) };
 
     fn fmt<W: fmt::Write>(&self, f: &mut fmt::Formatter<W>) -> fmt::Result {
         if self.0.is_empty() {

@@ -1,8 +1,8 @@
-//! Where bytes go. A sink takes any part of a piece, may tell in contracts what it holds, and
+//! Where bytes go. A sink takes any part of a piece, may let contracts observe what it holds, and
 //! counts its faults, so that a failed write has a cause that a caller can see.
-ghost use Rattle.std.specs.Prelude.{◌≡◌, ℕ, Option, Some, None, List, length, ◌<◌, ◌≤◌, ◌-◌, ◌==◌, ◌↔◌, OnErr, IfOk, IsErr, is_ok, min, [], if◌then◌else◌};
+ghost use Rattle.std.specs.Prelude.{◌≡◌, ℕ, Option, Some, None, List, length, ◌<◌, ◌≤◌, ◌-◌, ◌==◌, ◌↔◌, IfOk, IsErr, is_ok, is_err, min, [], if◌then◌else◌};
 ghost use Rattle.std.specs.Io.KnownBytes.{WriteAppends};
-ghost use Rattle.sign_base.specs.Faults.{HasRisen, one_more};
+ghost use Rattle.sign_base.specs.Faults.{CountsFault, one_more};
 
 use crate::NoMemory;
 use crate::source::Failed;
@@ -12,7 +12,7 @@ use std::marker::Model;
 
 /// Bytes that are written once, front to end.
 pub trait Sink {
-    /// All that was written, where the sink tells it.
+    /// All that was written, where contracts can observe it.
     ghost holds: { Self → Option (List ℕ) };
 
     /// How often a write has failed.
@@ -25,8 +25,7 @@ pub trait Sink {
         ensures some { IfOk result (λ n. 0 < n) }
         ensures bound { IfOk result (λ n. n ≤ length piece.now) }
         ensures bytes { WriteAppends (holds self.old) (holds self.new) result piece.now }
-        ensures cause { OnErr result (HasRisen (faults self.old) (faults self.new)) }
-        ensures count { faults self.old ≤ faults self.new };
+        ensures faults { CountsFault (is_err result) (faults self.old) (faults self.new) };
 }
 
 /// Bytes in memory, with room for so many and no more. A write takes what fits, and fails where
@@ -54,14 +53,11 @@ impl MemorySink {
     pub fn new(alloc: Global, room: usize) -> Result<MemorySink, NoMemory<()>>
         ensures { IfOk result (λ s. s ≡ record { holds = []; room = room; faults = 0 }) }
     {
-        match Vec::with_capacity(alloc, room) {
-            Ok(bytes) => Ok(MemorySink {
-                bytes,
-                room,
-                faults: 0,
-            }),
-            Err(_) => Err(NoMemory { back: () }),
-        }
+        Ok(MemorySink {
+            bytes: Vec::with_capacity(alloc, room)?,
+            room,
+            faults: 0,
+        })
     }
 
     /// All that the sink holds.
@@ -89,12 +85,11 @@ impl Sink for MemorySink {
         ensures taken { IfOk result (λ n. n ≡ min self.old.room (length piece.now)) }
         ensures full { IsErr result ↔ (self.old.room ≡ 0) }
         ensures room { self.new.room ≡ self.old.room - length piece.now }
-        ensures faults { self.new.faults ≡ (if is_ok result then self.old.faults else one_more self.old.faults) }
+        ensures counted { self.new.faults ≡ (if is_ok result then self.old.faults else one_more self.old.faults) }
         ensures some { IfOk result (λ n. 0 < n) }
         ensures bound { IfOk result (λ n. n ≤ length piece.now) }
         ensures bytes { WriteAppends (Some self.old.holds) (Some self.new.holds) result piece.now }
-        ensures cause { OnErr result (HasRisen self.old.faults self.new.faults) }
-        ensures count { self.old.faults ≤ self.new.faults }
+        ensures faults { CountsFault (is_err result) self.old.faults self.new.faults }
     {
         if self.room == 0 {
             self.faults = self.faults.saturating_add(1);
@@ -110,7 +105,7 @@ impl Sink for MemorySink {
     }
 }
 
-/// A writer of the standard library. It tells what its writer tells, which is nothing for a file, a
+/// A writer of the standard library. Contracts observe what its writer lets them, which is nothing for a file, a
 /// pipe or a terminal, and counts its faults up to the last number of a `u64`. Nothing is tried
 /// again, also where the writer was interrupted, and a writer that takes nothing has failed.
 #[derive(Debug, Drop)]
@@ -142,12 +137,11 @@ impl<W: Write> Sink for StdSink<W> {
 
     fn write(&mut self, piece: &[u8]) -> Result<usize, Failed>
         requires { 0 < length piece.now }
-        ensures faults { self.new.faults ≡ (if is_ok result then self.old.faults else one_more self.old.faults) }
+        ensures counted { self.new.faults ≡ (if is_ok result then self.old.faults else one_more self.old.faults) }
         ensures some { IfOk result (λ n. 0 < n) }
         ensures bound { IfOk result (λ n. n ≤ length piece.now) }
         ensures bytes { WriteAppends (W.contents self.old.stream) (W.contents self.new.stream) result piece.now }
-        ensures cause { OnErr result (HasRisen self.old.faults self.new.faults) }
-        ensures count { self.old.faults ≤ self.new.faults }
+        ensures faults { CountsFault (is_err result) self.old.faults self.new.faults }
     {
         match self.writer.write(piece) {
             Ok(n) if n > 0 => Ok(n),

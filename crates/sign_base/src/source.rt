@@ -1,10 +1,12 @@
-//! Where bytes come from. A source gives them in pieces of any size, may tell in contracts what is
+//! Where bytes come from. A source gives them in pieces of any size, may let contracts observe what is
 //! still to come, and counts its faults, so that a failed read has a cause that a caller can see.
-ghost use Rattle.std.specs.Prelude.{◌≡◌, ℕ, Option, Some, None, List, length, take, drop, ◌++◌, min, ◌<◌, ◌≤◌, OnErr, is_ok, if◌then◌else◌};
+ghost use Rattle.std.specs.Prelude.{◌≡◌, ℕ, Option, Some, None, List, length, take, drop, ◌++◌, min, ◌<◌, is_ok, is_err, codes, if◌then◌else◌};
 ghost use Rattle.std.specs.Io.KnownBytes.{ReadConsumes};
 ghost use Rattle.std.specs.Io.{ReadsAtMost};
-ghost use Rattle.sign_base.specs.Faults.{HasRisen, one_more};
+ghost use Rattle.sign_base.specs.Faults.{CountsFault, one_more};
 
+use std::error::Error;
+use std::fmt;
 use std::io::Read;
 use std::marker::Model;
 
@@ -12,9 +14,19 @@ use std::marker::Model;
 #[derive(Clone, Copy, Debug, PartialEq, Eq)]
 pub struct Failed;
 
+impl fmt::Display for Failed {
+    ghost output = { λ _. Some (codes "a read or a write failed") };
+
+    fn fmt<W: fmt::Write>(&self, f: &mut fmt::Formatter<W>) -> fmt::Result {
+        f.write_str("a read or a write failed")
+    }
+}
+
+impl Error for Failed {}
+
 /// Bytes that are read once, front to end.
 pub trait Source {
-    /// The bytes that are still to come, where the source tells them.
+    /// The bytes that are still to come, where contracts can observe them.
     ghost left: { Self → Option (List ℕ) };
 
     /// How often a read has failed.
@@ -26,8 +38,7 @@ pub trait Source {
         requires { 0 < length buf.old }
         ensures bound { ReadsAtMost result buf.new }
         ensures bytes { ReadConsumes (left self.old) (left self.new) result buf.new }
-        ensures cause { OnErr result (HasRisen (faults self.old) (faults self.new)) }
-        ensures count { faults self.old ≤ faults self.new };
+        ensures faults { CountsFault (is_err result) (faults self.old) (faults self.new) };
 }
 
 /// Bytes in memory. It never fails.
@@ -67,7 +78,7 @@ impl Source for MemorySource {
     }
 }
 
-/// A reader of the standard library. It tells what its reader tells, which is nothing for a file, a
+/// A reader of the standard library. Contracts observe what its reader lets them, which is nothing for a file, a
 /// pipe or a terminal, and counts its faults up to the last number of a `u64`. Nothing is tried
 /// again, also where the reader was interrupted.
 #[derive(Debug, Drop)]
@@ -99,11 +110,10 @@ impl<R: Read> Source for StdSource<R> {
 
     fn read(&mut self, buf: &mut [u8]) -> Result<usize, Failed>
         requires { 0 < length buf.old }
-        ensures faults { self.new.faults ≡ (if is_ok result then self.old.faults else one_more self.old.faults) }
+        ensures counted { self.new.faults ≡ (if is_ok result then self.old.faults else one_more self.old.faults) }
         ensures bound { ReadsAtMost result buf.new }
         ensures bytes { ReadConsumes (R.remaining self.old.stream) (R.remaining self.new.stream) result buf.new }
-        ensures cause { OnErr result (HasRisen self.old.faults self.new.faults) }
-        ensures count { self.old.faults ≤ self.new.faults }
+        ensures faults { CountsFault (is_err result) self.old.faults self.new.faults }
     {
         match self.reader.read(buf) {
             Ok(n) => Ok(n),

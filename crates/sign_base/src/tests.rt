@@ -13,6 +13,8 @@ use std::process::Abort;
 use std::test::Fail;
 use std::time::Duration;
 
+mod line_reader;
+
 #[test]
 fn moments_print_in_four_formats(rt: HostRuntime) {
     for (second, date, iso8601, rfc3339, http) in [
@@ -359,7 +361,7 @@ fn errors_are_made_with_their_kind(rt: HostRuntime) {
     );
 }
 
-/// Whether a cause was told by this kind and text, without a retry.
+/// Whether a cause became an error of this kind and text, without a retry.
 fn is_told(
     rt: &impl Abort,
     answer: Result<Error, NoMemory<()>>,

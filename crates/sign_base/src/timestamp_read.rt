@@ -2,7 +2,7 @@
 ghost use Rattle.std.specs.Prelude.{◌≡◌, ◌↔◌, Some, IsOk, IsSome, IfOk, IfErr, option_map};
 ghost use Rattle.jiff_core.specs.DateTime.{civil_nanos};
 ghost use lib.Chars.{codes};
-ghost use Rattle.sign_base.specs.Reading.{read_moment, read_rfc2822, read_civil, not_read, not_read_civil, out_of_range, in_range};
+ghost use Rattle.sign_base.specs.Reading.{read_moment, read_rfc2822, read_civil, parse_message, civil_parse_message, range_message, in_range};
 ghost use Rattle.sign_base.specs.Refusal.{IsErrorOf};
 ghost use Rattle.sign_base.specs.declared.error_kind.ErrorKind.TheVariants.{Unexpected};
 
@@ -19,12 +19,12 @@ impl Timestamp {
     pub fn parse(alloc: Global, s: &str) -> Result<Timestamp, Error>
         ensures ok { IsOk result ↔ IsSome (read_moment s.now) }
         ensures value { IfOk result (λ t. read_moment s.now ≡ Some t) }
-        ensures err { IfErr result (IsErrorOf Unexpected (not_read s.now (codes "timestamp"))) }
+        ensures err { IfErr result (IsErrorOf Unexpected (parse_message s.now (codes "timestamp"))) }
     {
         let read = s.parse::<jiff::Timestamp>().ok();
         match within_range(read) {
             Some(timestamp) => Ok(timestamp),
-            None => Err(not_read(alloc, s, "timestamp")),
+            None => Err(parse_message(alloc, s, "timestamp")),
         }
     }
 
@@ -34,14 +34,14 @@ impl Timestamp {
     pub fn parse_rfc2822(alloc: Global, s: &str) -> Result<Timestamp, Error>
         ensures ok { IsOk result ↔ IsSome (read_rfc2822 s.now) }
         ensures value { IfOk result (λ t. read_rfc2822 s.now ≡ Some t) }
-        ensures err { IfErr result (IsErrorOf Unexpected (not_read s.now (codes "rfc2822"))) }
+        ensures err { IfErr result (IsErrorOf Unexpected (parse_message s.now (codes "rfc2822"))) }
     {
         let read = rfc2822::DateTimeParser::new()
             .parse_timestamp(s.as_bytes())
             .ok();
         match within_range(read.map(jiff::Timestamp::from_plain)) {
             Some(timestamp) => Ok(timestamp),
-            None => Err(not_read(alloc, s, "rfc2822")),
+            None => Err(parse_message(alloc, s, "rfc2822")),
         }
     }
 
@@ -51,14 +51,14 @@ impl Timestamp {
     pub fn parse_datetime_utc(alloc: Global, s: &str) -> Result<Timestamp, Error>
         ensures ok { IsOk result ↔ IsSome (read_civil s.now) }
         ensures value { IfOk result (λ t. read_civil s.now ≡ Some t) }
-        ensures err { IfErr result (IsErrorOf Unexpected (not_read_civil s.now)) }
+        ensures err { IfErr result (IsErrorOf Unexpected (civil_parse_message s.now)) }
     {
         let Ok(civil) = s.parse::<DateTime>() else {
-            return Err(not_read(alloc, s, "datetime"));
+            return Err(parse_message(alloc, s, "datetime"));
         };
         match in_utc(civil) {
             Some(timestamp) => Ok(timestamp),
-            None => Err(out_of_range(alloc, s)),
+            None => Err(range_message(alloc, s)),
         }
     }
 }
@@ -81,8 +81,8 @@ fn in_utc(civil: DateTime) -> Option<Timestamp>
 }
 
 /// The refusal of a text that does not read.
-fn not_read(alloc: Global, text: &str, into: &str) -> Error
-    ensures { IsErrorOf Unexpected (not_read text.now into.now) result }
+fn parse_message(alloc: Global, text: &str, into: &str) -> Error
+    ensures { IsErrorOf Unexpected (parse_message text.now into.now) result }
 {
     match format!(in alloc; "parse '{text}' into {into} failed") {
         Ok(message) => Error::of(ErrorKind::Unexpected, message),
@@ -91,8 +91,8 @@ fn not_read(alloc: Global, text: &str, into: &str) -> Error
 }
 
 /// The refusal of a date and time that reads and lies out of range.
-fn out_of_range(alloc: Global, text: &str) -> Error
-    ensures { IsErrorOf Unexpected (out_of_range text.now) result }
+fn range_message(alloc: Global, text: &str) -> Error
+    ensures { IsErrorOf Unexpected (range_message text.now) result }
 {
     match format!(in alloc; "convert '{text}' into timestamp failed") {
         Ok(message) => Error::of(ErrorKind::Unexpected, message),

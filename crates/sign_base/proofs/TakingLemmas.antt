@@ -1,0 +1,43 @@
+-- Bytes that are taken of an input piece by piece.
+use Rattle.std.proofs.Common.{◌≡◌, false, ◌++◌, [], ℕ, List, Option, refl, ap, subst, ◌∙◌, inl, inr, arith, append_assoc, length-append}
+use Rattle.std.proofs.lemmas.List.{get_or_append_left}
+use Rattle.std.specs.Io.KnownBytes.{Consumes}
+use Rattle.std.proofs.KnownBytes.{Consumes-trans}
+use Rattle.sign_base.specs.Lines.{is_newline}
+use Rattle.sign_base.specs.LineInput.{LineInput, with_taken, NeedsRead, TakenByNeed}
+
+-- bytes that were taken by need, of an input and its source
+abbrev pub Takes : LineInput → LineInput → Option (List ℕ) → Option (List ℕ) → Type 0
+Takes old new before after =
+    (bytes : List ℕ) × Consumes before after bytes × TakenByNeed old bytes × (new ≡ with_taken old bytes)
+
+-- a read was needed with fewer bytes too
+pub NeedsRead-earlier : (input : LineInput) (bytes : List ℕ) → NeedsRead (with_taken input bytes) → NeedsRead input
+NeedsRead-earlier input bytes needs = (
+  needs.0,
+  omega (arith, needs.1, length-append input.held bytes),
+  (
+    λ k d below. subst (λ (b : ℕ). is_newline b ≡ false) (get_or_append_left input.held bytes d k below)
+        (needs.2.0 k d (omega (arith, length-append input.held bytes))),
+    omega (arith, needs.2.1, length-append input.held bytes),
+  ),
+)
+
+-- nothing was taken where no read was needed
+pub nothing-taken : (input : LineInput) (bytes : List ℕ) → (NeedsRead input → ⊥) → TakenByNeed input bytes → bytes ≡ []
+nothing-taken input bytes ready (inl none) = none
+nothing-taken input bytes ready (inr (earlier, piece, is, needs)) = absurd (ready (NeedsRead-earlier input earlier needs))
+
+-- one piece more was taken
+pub takes-more : (old now new : LineInput) (before middle after : Option (List ℕ)) (piece : List ℕ)
+    → Takes old now before middle → NeedsRead now → Consumes middle after piece → new ≡ with_taken now piece → Takes old new before after
+takes-more old now new before middle after piece (bytes, gave, needed, is) needs gives new_is = (
+  bytes ++ piece,
+  Consumes-trans before middle after bytes piece gave gives,
+  inr (bytes, piece, refl, subst NeedsRead is needs),
+  new_is ∙ ap (λ i. with_taken i piece) is ∙ ap (λ held. record old { held = held }) (append_assoc old.held bytes piece),
+)
+
+-- where a read is needed after some were taken, one was needed before
+pub needed-first : (old now : LineInput) (before middle : Option (List ℕ)) → Takes old now before middle → NeedsRead now → NeedsRead old
+needed-first old now before middle (bytes, gave, needed, is) needs = NeedsRead-earlier old bytes (subst NeedsRead is needs)

@@ -1,0 +1,21 @@
+use Rattle.std.proofs.Common.{◌≡◌, refl, ap, ◌∙◌}
+use Rattle.sign_base.specs.LineInput.{with_taken, NeedsRead}
+use Rattle.sign_base.proofs.TakingLemmas.{needed-first, takes-more}
+use Rattle.sign_base.proofs.line_buffer.LineBuffer.fill.Goals as goal
+
+pub loop-self-preserved : goal.loop-self-preserved
+loop-self-preserved g c =
+    let now = c.loop-self.self.input in
+    let needs : NeedsRead now = c.loop-self-test.ensures.0 refl in
+    let piece = c.in-Ok.ensures.piece in
+    let new_is : c.read.new.self.input ≡ with_taken now piece.0 = c.in-Ok.ensures.same ∙ ap (λ held. record now { held = held }) piece.1 in
+    record {
+      taken = takes-more c.args.self.now.input now c.read.new.self.input _ _ _ piece.0 c.loop-self.invariant.taken needs piece.3 new_is;
+      faults = c.in-Ok.ensures.faults ∙ c.loop-self.invariant.faults;
+      still = λ ready. absurd (ready (needed-first _ _ _ _ c.loop-self.invariant.taken needs));
+    }
+
+pub returns-in-Err-clause-still : goal.returns-in-Err-clause-still
+returns-in-Err-clause-still g c =
+    let needs : NeedsRead c.loop-self.self.input = c.loop-self-test.ensures.0 refl in
+    λ ready. absurd (ready (needed-first _ _ _ _ c.loop-self.invariant.taken needs))

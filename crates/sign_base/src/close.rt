@@ -1,0 +1,14 @@
+//! How the reading of an input came to its close.
+
+/// Why no further line of an input is handed out.
+#[derive(Clone, Copy, Debug, PartialEq, Eq)]
+pub enum Close {
+    /// A line has more bytes than a line may have.
+    TooLong,
+    /// The input has more bytes than are looked at.
+    TooMuch,
+    /// All was handed out.
+    End,
+    /// A read failed.
+    Fault,
+}
