@@ -144,12 +144,12 @@ fn hmac_in_base64(rt: HostRuntime) -> Result<(), Fail> {
 #[test]
 fn a_filled_key_is_the_key(rt: HostRuntime) -> Result<(), Fail> {
     let alloc = rt.alloc();
-    let mut filled = [0; 64];
-    for byte in &mut filled[..20] {
+    let mut filled_block = [0; 64];
+    for byte in &mut filled_block[..20] {
         *byte = 0x0b;
     }
     assert_eq!(rt;
-        hash::hex_hmac_sha256(alloc, &filled, HI_THERE)?.as_str(),
+        hash::hex_hmac_sha256(alloc, &filled_block, HI_THERE)?.as_str(),
         "b0344c61d8db38535ca8afceaf0bf12b881dc200c9833da726e9376c2e32cff7"
     );
     Ok(())

@@ -65,17 +65,18 @@ impl WaitLock {
         }
     }
 
-    /// Makes room for this many calls to enter. Without memory nothing changes.
+    /// Makes room for this many calls to enter. Holder and waiters stay, also where memory is refused,
+    /// which happens only where there is not so much room yet. The room may have grown even then, and
+    /// it never shrinks here.
     pub fn reserve(&mut self, n: usize) -> Result<(), NoMemory<()>>
         ensures room { OnOk result (n ≤ self.new.spare) }
+        ensures refused { OnErr result (self.old.spare < n) }
         ensures spare { self.old.spare ≤ self.new.spare }
         ensures holder { self.new.holder ≡ self.old.holder }
         ensures waiters { self.new.waiters ≡ self.old.waiters }
     {
-        match self.waiters.reserve(n) {
-            Ok(()) => Ok(()),
-            Err(_) => Err(NoMemory { back: () }),
-        }
+        self.waiters.reserve(n)?;
+        Ok(())
     }
 
     /// Gives the lock to a call that comes, or puts it behind all waiters. It takes no memory.
