@@ -1,4 +1,4 @@
--- Each row of the table, on the sequential caches; and what a load goes on from.
+-- What each entry does to the sequential caches, and the input of a hold after one more entry.
 use Rattle.std.proofs.Common.{◌≡◌, ℕ, ℤ, Bool, true, false, cond, ◌||◌, List, [], ◌∷◌, ◌++◌, Option, Some, None, is_some, refl, sym, ◌∙◌, ap, slice_get, ◌⊎◌, inl, inr}
 use Rattle.std.specs.List.{list_any}
 use Rattle.wake_lock.specs.declared.CallId.{CallId}
@@ -10,9 +10,9 @@ use Rattle.wake_lock.specs.Calls.{same_call}
 use Rattle.sequential_signer.specs.Transcript.{call_of, entries_of}
 use Rattle.sequential_signer.specs.Phase.{is_not_now}
 use Rattle.sequential_signer.specs.Turn.{before_call, poll_order, calls_ahead, is_fitting_poll, serves, hold_is_finished, is_served, has_turn}
-use Rattle.sequential_signer.specs.Hold.{begin_of, answers_of, answers_in, answer_in, turn_moment, input_by, hold_input}
+use Rattle.sequential_signer.specs.Hold.{begin_of, answers_of, answers_in, answer_in, turn_moment, input_by, look_input, answered_input, hold_input}
 use Rattle.sequential_signer.specs.SequentialCache.{cache_after, sequential_cache}
-use Rattle.sequential_signer.specs.ReplyDue.{progress_reply, with_wake}
+use Rattle.sequential_signer.specs.ExpectedReply.{progress_reply, with_wake}
 use Rattle.sequential_signer.specs.declared.event.Answer.{Answer}
 use Rattle.sequential_signer.specs.declared.event.Entry.{Entry}
 use Rattle.sequential_signer.specs.declared.event.Event.{Event}
@@ -24,15 +24,15 @@ use Rattle.sequential_signer.proofs.Lists.{or_false}
 use Rattle.wake_lock.proofs.Calls.{same_call-eq, same_call-refl}
 use Rattle.sequential_signer.proofs.OwnEntries.{entries_of-own, answers_in-more}
 use Rattle.sequential_signer.proofs.PollOrder.{is_polled, is_served-own, is_served-other, turn_moment-found}
-use Rattle.sequential_signer.proofs.Happens.{GoesOn}
+use Rattle.sequential_signer.proofs.LegalStep.{HoldReaches}
 use Rattle.sequential_signer.proofs.Run.{IsRun}
-use Rattle.sequential_signer.proofs.Standing.{Waits, Loads, answers-own_none, refused_answers, had-more, begin-kept}
-use Rattle.sequential_signer.proofs.Stands.{looked, looked_moment}
-use Rattle.sequential_signer.proofs.CacheLaw.{KeepsAnswers, cache_stays, cache_serves, list_all-member}
+use Rattle.sequential_signer.proofs.CallInvariant.{Waits, Loads, answers-own_none, refused_answers, had-more, begin-stays}
+use Rattle.sequential_signer.proofs.CallInvariantSteps.{looked, looked_moment}
+use Rattle.sequential_signer.proofs.CacheLaw.{KeepsAnswers, keeps_unserved, cache_stays, cache_serves, list_all-member}
 
 module _ {K D : Type 0} (policy : Policy K D) (setup : Setup D) where
   module _ (entries : List (Entry K)) (run : IsRun policy setup entries) where
-    -- where no reply serves, who is served stays
+    -- a reply that serves nobody leaves who was served
     served_same : (e : Entry K) → serves e.reply ≡ false → (call : CallId) → is_served (entries ++ e ∷ []) call ≡ is_served entries call
     served_same e s call = same_by (same_call call (call_of e.event)) refl
       where
@@ -40,7 +40,7 @@ module _ {K D : Type 0} (policy : Policy K D) (setup : Setup D) where
         same_by true o = is_served-own setup entries e call o ∙ ap (λ v. is_served entries call || v) s ∙ or_false _
         same_by false o = is_served-other setup entries e call o
 
-    -- nor does it where the call was served before
+    -- so does any reply to a call that was served before
     served_again : (e : Entry K) → is_served entries (call_of e.event) ≡ true → (call : CallId) → is_served (entries ++ e ∷ []) call ≡ is_served entries call
     served_again e s call = same_by (same_call call (call_of e.event)) refl
       where
@@ -53,33 +53,33 @@ module _ {K D : Type 0} (policy : Policy K D) (setup : Setup D) where
     keeps_other_event : (e : Entry K) → answer_in e.event ≡ None → KeepsAnswers policy setup entries run e
     keeps_other_event e h s = answers-own_none setup entries 0 e (call_of e.event) (same_call-refl (call_of e.event)) h
 
-    keeps_unserved : (e : Entry K) → is_served entries (call_of e.event) ≡ false → KeepsAnswers policy setup entries run e
-    keeps_unserved e h s = cc
-
-    -- the cache of the row: what a hold that ends leaves at its own, and else what it was
+    -- an entry that is answered `NotNow` leaves every cache
     pub stays_not_now : (event : Event K) (i : ℕ) → sequential_cache policy setup (entries ++ record { event = event; reply = NotNow } ∷ []) i ≡ sequential_cache policy setup entries i
     stays_not_now event i =
         cache_stays policy setup entries run (record { event = event; reply = NotNow })
         (λ _. refused_answers setup entries 0 event (call_of event) (same_call-refl (call_of event)))
         (served_same (record { event = event; reply = NotNow }) refl) i
 
+    -- an entry that is no answer and serves nobody leaves every cache
     pub stays_other : (e : Entry K) → answer_in e.event ≡ None → serves e.reply ≡ false → (i : ℕ) → sequential_cache policy setup (entries ++ e ∷ []) i ≡ sequential_cache policy setup entries i
     stays_other e a s i = cache_stays policy setup entries run e (keeps_other_event e a) (served_same e s) i
 
+    -- so does one that is no answer, about a call that was served before
     pub stays_served : (e : Entry K) → answer_in e.event ≡ None → is_served entries (call_of e.event) ≡ true → (i : ℕ) → sequential_cache policy setup (entries ++ e ∷ []) i ≡ sequential_cache policy setup entries i
     stays_served e a s i = cache_stays policy setup entries run e (keeps_other_event e a) (served_again e s) i
 
+    -- and one that serves nobody, about a call that was not served before
     pub stays_unserved : (e : Entry K) → is_served entries (call_of e.event) ≡ false → serves e.reply ≡ false → (i : ℕ) → sequential_cache policy setup (entries ++ e ∷ []) i ≡ sequential_cache policy setup entries i
-    stays_unserved e u s i = cache_stays policy setup entries run e (keeps_unserved e u) (served_same e s) i
+    stays_unserved e u s i = cache_stays policy setup entries run e (keeps_unserved policy setup entries run e u) (served_same e s) i
 
     -- the input of a hold whose turn comes by this poll
     pub input_looked : (call : CallId) (now : ℤ) (reply : Reply K) (i : ℕ) → cache_of setup call ≡ Some i → is_fitting_poll (record { event = Poll call now; reply = reply }) ≡ true
         → Waits setup entries i call → has_turn setup entries i call ≡ true → is_some (begin_of entries call) ≡ true
-        → hold_input {K = K} setup (entries ++ record { event = Poll call now; reply = reply } ∷ []) i call ≡ input_by (rule_of setup call) (begin_of entries call) (Some now) []
+        → hold_input {K = K} setup (entries ++ record { event = Poll call now; reply = reply } ∷ []) i call ≡ look_input setup entries call now
     input_looked call now reply i at t w turn b =
         let e : Entry K = record { event = Poll call now; reply = reply } in
         let own : same_call call call ≡ true = same_call-refl call in
-        let begin : begin_of (entries ++ record { event = Poll call now; reply = reply } ∷ []) call ≡ begin_of entries call = begin-kept setup entries i e call own b in
+        let begin : begin_of (entries ++ record { event = Poll call now; reply = reply } ∷ []) call ≡ begin_of entries call = begin-stays setup entries i e call own b in
         let answers : answers_of (entries ++ record { event = Poll call now; reply = reply } ∷ []) call ≡ [] = answers-own_none setup entries i e call own refl ∙ w.answers in
         let moment : turn_moment setup (entries ++ record { event = Poll call now; reply = reply } ∷ []) i call ≡ Some now = looked_moment policy setup entries i call at now reply t w turn in
         rw (begin, answers, moment) refl
@@ -87,11 +87,11 @@ module _ {K D : Type 0} (policy : Policy K D) (setup : Setup D) where
     -- the input of a hold that gets one more answer
     pub input_got : (call : CallId) (now : ℤ) (answer : Answer K) (reply : Reply K) (i : ℕ) → cache_of setup call ≡ Some i → is_not_now reply ≡ false
         → Loads setup entries i call
-        → hold_input {K = K} setup (entries ++ record { event = Provided call now answer; reply = reply } ∷ []) i call ≡ input_by (rule_of setup call) (begin_of entries call) (turn_moment setup entries i call) (answers_of entries call ++ (answer, now) ∷ [])
+        → hold_input {K = K} setup (entries ++ record { event = Provided call now answer; reply = reply } ∷ []) i call ≡ answered_input setup entries i call (answer, now)
     input_got call now answer reply i at n l =
         let e : Entry K = record { event = Provided call now answer; reply = reply } in
         let own : same_call call call ≡ true = same_call-refl call in
-        let begin : begin_of (entries ++ record { event = Provided call now answer; reply = reply } ∷ []) call ≡ begin_of entries call = begin-kept setup entries i e call own l.begun in
+        let begin : begin_of (entries ++ record { event = Provided call now answer; reply = reply } ∷ []) call ≡ begin_of entries call = begin-stays setup entries i e call own l.begun in
         let answers : answers_of (entries ++ record { event = Provided call now answer; reply = reply } ∷ []) call ≡ answers_of entries call ++ (answer, now) ∷ [] =
         ap answers_in (entries_of-own entries call e own) ∙ answers_in-more (entries_of entries call) e (answer, now) n refl in
         let moment : turn_moment setup (entries ++ record { event = Provided call now answer; reply = reply } ∷ []) i call ≡ turn_moment setup entries i call =
@@ -99,7 +99,7 @@ module _ {K D : Type 0} (policy : Policy K D) (setup : Setup D) where
         rw (begin, answers, moment) refl
 
     -- an undisturbed call on the cache leaves what the hold leaves
-    left_by : (call : CallId) (i : ℕ) (moment : Option ℤ) (answers : List (Answer K × ℤ)) (outcome : Outcome K) (left : Option K) → (g : GoesOn policy setup entries call i moment answers (Over outcome left)) → (o : Option Loader) → o ≡ slice_get setup.loaders i → (input : Option (HoldInput K D)) → input ≡ input_by (rule_of setup call) (begin_of entries call) moment answers → cache_after policy o input (sequential_cache policy setup entries i) ≡ left
+    left_by : (call : CallId) (i : ℕ) (moment : Option ℤ) (answers : List (Answer K × ℤ)) (outcome : Outcome K) (left : Option K) → (g : HoldReaches policy setup entries call i moment answers (Over outcome left)) → (o : Option Loader) → o ≡ slice_get setup.loaders i → (input : Option (HoldInput K D)) → input ≡ input_by (rule_of setup call) (begin_of entries call) moment answers → cache_after policy o input (sequential_cache policy setup entries i) ≡ left
     left_by call i moment answers outcome left g None h input k = let l = g.loads in cc
     left_by call i moment answers outcome left g (Some loader) h None k = let l = g.inputs in cc
     left_by call i moment answers outcome left g (Some loader) h (Some input) k =
@@ -107,15 +107,15 @@ module _ {K D : Type 0} (policy : Policy K D) (setup : Setup D) where
         let same : loader ≡ g.loader = cc in
         let n = g.inputs in
         let these : input ≡ g.input = cc in
-        rw (same, these, sym g.gets) refl
+        rw (same, these, sym g.reaches) refl
 
     -- a hold that a look ends leaves what the look leaves
     pub serves_looked : (call : CallId) (now : ℤ) (outcome : Outcome K) (left : Option K) (wake : Option CallId) (i : ℕ)
-        → Waits setup entries i call → has_turn setup entries i call ≡ true → (g : GoesOn policy setup entries call i (Some now) [] (Over outcome left))
+        → Waits setup entries i call → has_turn setup entries i call ≡ true → (g : HoldReaches policy setup entries call i (Some now) [] (Over outcome left))
         → sequential_cache policy setup (entries ++ record { event = Poll call now; reply = with_wake (progress_reply (Over outcome left)) wake } ∷ []) i ≡ left
     serves_looked call now outcome left wake i w turn g = by_outcome outcome g
       where
-        by_outcome : (outcome : Outcome K) → (g : GoesOn policy setup entries call i (Some now) [] (Over outcome left)) → sequential_cache policy setup (entries ++ record { event = Poll call now; reply = with_wake (progress_reply (Over outcome left)) wake } ∷ []) i ≡ left
+        by_outcome : (outcome : Outcome K) → (g : HoldReaches policy setup entries call i (Some now) [] (Over outcome left)) → sequential_cache policy setup (entries ++ record { event = Poll call now; reply = with_wake (progress_reply (Over outcome left)) wake } ∷ []) i ≡ left
         by_outcome (HandOut c) g =
             let e : Entry K = record { event = Poll call now; reply = Sign c wake } in
             cache_serves policy setup entries run e i g.at w.unserved w.unfinished refl (looked policy setup entries i call g.at now (Sign c wake) refl w turn).polled
@@ -127,11 +127,11 @@ module _ {K D : Type 0} (policy : Policy K D) (setup : Setup D) where
 
     -- a hold that an answer ends leaves what the answer leaves
     pub serves_got : (call : CallId) (now : ℤ) (answer : Answer K) (outcome : Outcome K) (left : Option K) (wake : Option CallId) (i : ℕ)
-        → Loads setup entries i call → (g : GoesOn policy setup entries call i (turn_moment setup entries i call) (answers_of entries call ++ (answer, now) ∷ []) (Over outcome left))
+        → Loads setup entries i call → (g : HoldReaches policy setup entries call i (turn_moment setup entries i call) (answers_of entries call ++ (answer, now) ∷ []) (Over outcome left))
         → sequential_cache policy setup (entries ++ record { event = Provided call now answer; reply = with_wake (progress_reply (Over outcome left)) wake } ∷ []) i ≡ left
     serves_got call now answer outcome left wake i w g = by_outcome outcome g
       where
-        by_outcome : (outcome : Outcome K) → (g : GoesOn policy setup entries call i (turn_moment setup entries i call) (answers_of entries call ++ (answer, now) ∷ []) (Over outcome left)) → sequential_cache policy setup (entries ++ record { event = Provided call now answer; reply = with_wake (progress_reply (Over outcome left)) wake } ∷ []) i ≡ left
+        by_outcome : (outcome : Outcome K) → (g : HoldReaches policy setup entries call i (turn_moment setup entries i call) (answers_of entries call ++ (answer, now) ∷ []) (Over outcome left)) → sequential_cache policy setup (entries ++ record { event = Provided call now answer; reply = with_wake (progress_reply (Over outcome left)) wake } ∷ []) i ≡ left
         by_outcome (HandOut c) g =
             let e : Entry K = record { event = Provided call now answer; reply = Sign c wake } in
             cache_serves policy setup entries run e i g.at w.unserved w.unfinished refl (had-more setup entries i e call w.had).polled

@@ -14,10 +14,12 @@ gone x (y ∷ ys) =
     (elim (same_call x y) as (λ v. same_call x y ≡ v → list_any (same_call x) (cond (not v) (y ∷ filter (λ other. not (same_call x other)) ys) (filter (λ other. not (same_call x other)) ys)) ≡ false)
     [ true ↦ λ _. gone x ys | false ↦ λ s. rw s (gone x ys) ]) refl
 
+-- each call once: no call stands twice
 pub first_of_each-once : (xs : List CallId) → IsOnce (first_of_each xs)
 first_of_each-once [] = tt
 first_of_each-once (x ∷ xs) = (gone x (first_of_each xs), once-filter (λ other. not (same_call x other)) (first_of_each xs) (first_of_each-once xs))
 
+-- what holds of all items holds of those that a test keeps
 pub list_all-filter_of : {X : Type 0} (q r : X → Bool) (xs : List X) → list_all q xs ≡ true → list_all q (filter r xs) ≡ true
 list_all-filter_of q r [] h = refl
 list_all-filter_of q r (x ∷ xs) h =
@@ -25,19 +27,21 @@ list_all-filter_of q r (x ∷ xs) h =
     let later = list_all-filter_of q r xs (and_right _ _ h) in
     elim (r x) as (λ v. list_all q (cond v (x ∷ filter r xs) (filter r xs)) ≡ true) [ true ↦ rw here later | false ↦ later ]
 
+-- what holds of all calls holds of each once
 pub list_all-first_of_each : (q : CallId → Bool) (xs : List CallId) → list_all q xs ≡ true → list_all q (first_of_each xs) ≡ true
 list_all-first_of_each q [] h = refl
 list_all-first_of_each q (x ∷ xs) h =
     let here : q x ≡ true = and_left _ _ h in
     rw here (list_all-filter_of q (λ other. not (same_call x other)) (first_of_each xs) (list_all-first_of_each q xs (and_right _ _ h)))
 
+-- what holds of what each item gives holds of the list of these
 pub list_all-map : {X Y : Type 0} (q : Y → Bool) (f : X → Y) (xs : List X) → list_all (λ x. q (f x)) xs ≡ true → list_all q (map f xs) ≡ true
 list_all-map q f [] h = refl
 list_all-map q f (x ∷ xs) h =
     let here : q (f x) ≡ true = and_left _ _ h in
     rw here (list_all-map q f xs (and_right _ _ h))
 
--- a test that is passed by one more call, whose hold is not finished, while those that passed it had their turn: the call comes last
+-- a test that one more call passes, whose hold is open, while those that passed it before had their turn
 module _ (p q fin : CallId → Bool) (c : CallId) (was : p c ≡ false) (now : q c ≡ true) (open_still : fin c ≡ false) (others : (b : CallId) → same_call c b ≡ false → q b ≡ p b) where
   -- where the call does not stand, nothing changes
   filter-absent : (xs : List CallId) → list_any (same_call c) xs ≡ false → filter q xs ≡ filter p xs
@@ -90,6 +94,7 @@ module _ (p q fin : CallId → Bool) (c : CallId) (was : p c ≡ false) (now : q
       rw (others x s, step)
       (elim (p x) as (λ v. cond v (x ∷ (filter p xs ++ c ∷ [])) (filter p xs ++ c ∷ []) ≡ cond v (x ∷ filter p xs) (filter p xs) ++ c ∷ []) [ true ↦ refl | false ↦ refl ])
 
+  -- that call passes as the last
   pub filter-newly : (xs : List CallId) → IsOnce xs → list_any (same_call c) xs ≡ true → InTurn xs → filter q xs ≡ filter p xs ++ c ∷ []
   filter-newly [] once there turn = cc
   filter-newly (x ∷ xs) once there turn = newly_by x xs once turn (same_call c x) refl there (λ m t. filter-newly xs once.1 m t)

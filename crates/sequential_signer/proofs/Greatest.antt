@@ -39,6 +39,7 @@ module _ {K : Type 0} where
   unfolding is_new_number
   is_new_number-is entries call = above_all call entries
 
+  -- a begin under the handle raises the greatest number, and any other entry leaves it
   pub greatest_begun-more : (h : ℕ) (entries : List (Entry K)) (e : Entry K) → greatest_begun h (entries ++ e ∷ []) ≡ cond (is_begin_under h e) (greater (call_of e.event).number (greatest_begun h entries)) (greatest_begun h entries)
   greatest_begun-more h [] e = refl
   greatest_begun-more h (x ∷ xs) e =

@@ -1,25 +1,25 @@
 -- The refresh lock of a cache is handed over exactly: who loads, who has the turn, and when a load begins.
-use Rattle.std.proofs.Common.{◌≡◌, ℕ, Bool, true, false, not, cond, ◌&&◌, ◌||◌, List, [], ◌∷◌, Some, refl, sym, ◌∙◌, ap, find}
+use Rattle.std.proofs.Common.{◌≡◌, ℕ, Bool, true, false, not, cond, ◌&&◌, ◌||◌, List, [], ◌∷◌, Some, refl, sym, ◌∙◌, ap, filter}
 use Rattle.std.specs.List.{list_any, list_all}
 use Rattle.wake_lock.specs.declared.CallId.{CallId}
 use Rattle.sequential_signer.specs.Policy.{Policy}
 use Rattle.sequential_signer.specs.Setup.{Setup, cache_of}
-use Rattle.wake_lock.specs.Calls.{same_call}
-use Rattle.sequential_signer.specs.Transcript.{kept}
-use Rattle.sequential_signer.specs.Phase.{Phase, Unknown, Fresh, Queued, Loading, Signing, Ended, phase_of, is_queued, is_loading}
+use Rattle.wake_lock.specs.Calls.{same_call, first_of}
+use Rattle.sequential_signer.specs.Transcript.{committed_entries}
+use Rattle.sequential_signer.specs.Phase.{Phase, Unknown, Unpolled, Queued, Loading, Signing, Ended, phase_of, is_queued}
 use Rattle.sequential_signer.specs.Turn.{poll_order, hold_is_finished, has_turn, before_call}
 use Rattle.sequential_signer.specs.LawsOfHandOver.{OneCallLoads, SomebodyHasTheTurn, first_open}
 use Rattle.sequential_signer.specs.declared.event.Entry.{Entry}
 use Rattle.wake_lock.proofs.Calls.{same_call-eq, same_call-refl}
 use Rattle.sequential_signer.proofs.PollOrder.{is_polled}
 use Rattle.sequential_signer.proofs.Run.{IsRun, legal_run}
-use Rattle.sequential_signer.proofs.Standing.{Stands, Loads, queued_call}
-use Rattle.sequential_signer.proofs.Stands.{stands, loading_loads}
+use Rattle.sequential_signer.proofs.CallInvariant.{CallInvariant, Loads, queued_call}
+use Rattle.sequential_signer.proofs.CallInvariantSteps.{stands, run_loads}
 use Rattle.sequential_signer.proofs.CacheRows.{one_turn}
 
--- the first call of a list that passes the test stands behind none that does
+-- the first call of a list that passes the test: none before it does
 pub record IsFirstThat (p : CallId → Bool) (xs : List CallId) (first : CallId) : Type 0 where
-  pub found : find p xs ≡ Some first
+  pub found : first_of (filter p xs) ≡ Some first
   pub passes : p first ≡ true
   pub behind : list_all (λ x. not (p x)) (before_call first xs) ≡ true
 
@@ -33,7 +33,7 @@ first_that_step p x xs fails first f = record {
 }
 
 -- where one passes, there is a first
-pub first_that : (p : CallId → Bool) (xs : List CallId) (b : CallId) → list_any (same_call b) xs ≡ true → p b ≡ true → (first : CallId) × IsFirstThat p xs first
+first_that : (p : CallId → Bool) (xs : List CallId) (b : CallId) → list_any (same_call b) xs ≡ true → p b ≡ true → (first : CallId) × IsFirstThat p xs first
 first_that p [] b m h = absurd (cc)
 first_that p (x ∷ xs) b m h = by_test (p x) refl (same_call b x) refl m (λ k. first_that p xs b k h)
   where
@@ -49,44 +49,43 @@ list_all-not_not q (x ∷ xs) h =
     (elim (q x) as (λ v. (not (not v) && list_all (λ y. not (not (q y))) xs) ≡ true → (v && list_all q xs) ≡ true)
     [ true ↦ λ r. list_all-not_not q xs r | false ↦ λ r. (cc) ]) h
 
-module _ {K D : Type 0} (policy : Policy K D) (setup : Setup D) (entries : List (Entry K)) (run : IsRun policy setup entries) where
-  loads_of : (call : CallId) (i : ℕ) → cache_of setup call ≡ Some i → is_loading (phase_of entries call) ≡ true → Loads setup entries i call
-  loads_of call i at h = loading_loads policy setup entries i call (phase_of entries call) h (stands policy setup entries run call i at)
+-- a queued call was polled, and its hold is open
+pub record IsInQueue {K D : Type 0} (setup : Setup D) (entries : List (Entry K)) (i : ℕ) (call : CallId) : Type 0 where
+  pub polled : is_polled setup entries i call ≡ true
+  pub unfinished : hold_is_finished entries call ≡ false
 
+module _ {K D : Type 0} (policy : Policy K D) (setup : Setup D) (entries : List (Entry K)) (run : IsRun policy setup entries) where
   -- two calls that load are one
   loads_alone : (a b : CallId) (i : ℕ) → Loads setup entries i a → Loads setup entries i b → (s : Bool) → same_call a b ≡ s → a ≡ b
   loads_alone a b i la lb true s = same_call-eq a b s
   loads_alone a b i la lb false s = absurd (one_turn setup entries i a b s la.had.polled la.had.turn la.unfinished lb.had.turn lb.unfinished)
 
-  -- a queued call was polled, and its hold is open
-  pub record IsInQueue (i : ℕ) (call : CallId) : Type 0 where
-    pub polled : is_polled setup entries i call ≡ true
-    pub unfinished : hold_is_finished entries call ≡ false
-
-  in_queue : (call : CallId) (i : ℕ) (p : Phase) → is_queued p ≡ true → Stands setup entries i call p → IsInQueue i call
+  in_queue : (call : CallId) (i : ℕ) (p : Phase) → is_queued p ≡ true → CallInvariant setup entries i call p → IsInQueue setup entries i call
   in_queue call i Queued h (queued_call w p) = record { polled = p; unfinished = w.unfinished }
   in_queue call i Unknown h s = absurd (cc)
-  in_queue call i Fresh h s = absurd (cc)
+  in_queue call i Unpolled h s = absurd (cc)
   in_queue call i Loading h s = absurd (cc)
   in_queue call i Signing h s = absurd (cc)
   in_queue call i Ended h s = absurd (cc)
 
-  pub queued_is_in_queue : (call : CallId) (i : ℕ) → cache_of setup call ≡ Some i → is_queued (phase_of entries call) ≡ true → IsInQueue i call
+  -- after a run each queued call is in the queue of its cache
+  pub queued_is_in_queue : (call : CallId) (i : ℕ) → cache_of setup call ≡ Some i → is_queued (phase_of entries call) ≡ true → IsInQueue setup entries i call
   queued_is_in_queue call i at h = in_queue call i (phase_of entries call) h (stands policy setup entries run call i at)
 
   -- the first open hold has the turn
-  turn_of_first : (call : CallId) (i : ℕ) → IsInQueue i call → (first : CallId) × (first_open setup entries i ≡ Some first) × (has_turn setup entries i first ≡ true)
+  turn_of_first : (call : CallId) (i : ℕ) → IsInQueue setup entries i call → (first : CallId) × (first_open setup entries i ≡ Some first) × (has_turn setup entries i first ≡ true)
   unfolding has_turn
   turn_of_first call i q =
       let f = first_that (λ x. not (hold_is_finished entries x)) (poll_order setup entries i) call q.polled (ap not q.unfinished) in
       (f.0, f.1.found, list_all-not_not (hold_is_finished entries) (before_call f.0 (poll_order setup entries i)) f.1.behind)
 
+-- of one cache at most one call loads, and where a call is queued the first one whose hold is open has its turn
 pub one_call_loads : (K D : Type 0) → OneCallLoads K D
 one_call_loads K D policy setup entries a b i l ata atb ha hb =
-    let run : IsRun policy setup (kept entries) = legal_run policy setup entries l in
-    loads_alone policy setup (kept entries) run a b i (loads_of policy setup (kept entries) run a i ata ha) (loads_of policy setup (kept entries) run b i atb hb) (same_call a b) refl
+    let run : IsRun policy setup (committed_entries entries) = legal_run policy setup entries l in
+    loads_alone policy setup (committed_entries entries) run a b i (run_loads policy setup (committed_entries entries) run a i ata ha) (run_loads policy setup (committed_entries entries) run b i atb hb) (same_call a b) refl
 
 pub somebody_has_the_turn : (K D : Type 0) → SomebodyHasTheTurn K D
 somebody_has_the_turn K D policy setup entries call i l at h =
-    let run : IsRun policy setup (kept entries) = legal_run policy setup entries l in
-    turn_of_first policy setup (kept entries) run call i (queued_is_in_queue policy setup (kept entries) run call i at h)
+    let run : IsRun policy setup (committed_entries entries) = legal_run policy setup entries l in
+    turn_of_first policy setup (committed_entries entries) run call i (queued_is_in_queue policy setup (committed_entries entries) run call i at h)

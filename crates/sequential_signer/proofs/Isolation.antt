@@ -6,7 +6,7 @@ use Rattle.wake_lock.specs.declared.CallId.{CallId}
 use Rattle.sequential_signer.specs.Policy.{Policy}
 use Rattle.sequential_signer.specs.SequentialCall.{HoldInput}
 use Rattle.sequential_signer.specs.Setup.{Setup, cache_of, is_of_cache, is_number}
-use Rattle.sequential_signer.specs.Transcript.{call_of, is_about, entries_of, kept, is_out_of_memory}
+use Rattle.sequential_signer.specs.Transcript.{call_of, is_about, entries_of, committed_entries, is_out_of_memory}
 use Rattle.sequential_signer.specs.Phase.{is_begun, is_begin_under, is_new_number, phase_of, phase_in}
 use Rattle.sequential_signer.specs.Turn.{is_fitting_poll, is_poll_at, poll_order, calls_ahead, before_call, hold_is_finished, is_served, has_turn}
 use Rattle.sequential_signer.specs.Hold.{begin_in, begin_of, turn_moment, answers_of, answers_in, hold_input}
@@ -22,9 +22,9 @@ use Rattle.sequential_signer.proofs.Lists.{filter-more_yes, filter-more_no, filt
 use Rattle.wake_lock.proofs.Calls.{same_call-eq}
 use Rattle.sequential_signer.proofs.Distinct.{list_all-filter_of}
 use Rattle.sequential_signer.proofs.Run.{legal-more}
-use Rattle.sequential_signer.proofs.CacheLaw.{order_of_cache, number_of}
-use Rattle.sequential_signer.proofs.SameReplies.{ReadsSame, legal_same}
-use Rattle.sequential_signer.proofs.LeftOut.{turn_moment-kept}
+use Rattle.sequential_signer.proofs.CacheLaw.{order_of_cache, is_number-eq}
+use Rattle.sequential_signer.proofs.SameReplies.{ReadsSame, IsLegalEntry-same}
+use Rattle.sequential_signer.proofs.LeftOut.{turn_moment-stays}
 use Rattle.sequential_signer.proofs.Wakings.{list_all-before}
 
 module _ {K D : Type 0} (setup : Setup D) (i : ℕ) where
@@ -36,26 +36,26 @@ module _ {K D : Type 0} (setup : Setup D) (i : ℕ) where
   own_here : (b : CallId) → is_of_cache setup i b ≡ true → (e : Entry K) → is_about b e ≡ true → is_here e ≡ true
   own_here b here e own = ap (is_of_cache setup i) (sym (same_call-eq b (call_of e.event) own)) ∙ here
 
-  pub entries_of-here : (entries : List (Entry K)) (b : CallId) → is_of_cache setup i b ≡ true → entries_of (entries_at setup i entries) b ≡ entries_of entries b
+  entries_of-here : (entries : List (Entry K)) (b : CallId) → is_of_cache setup i b ≡ true → entries_of (entries_at setup i entries) b ≡ entries_of entries b
   unfolding entries_of
   entries_of-here entries b here = filter-within (is_about b) is_here (own_here b here) entries
 
   module _ (entries : List (Entry K)) (b : CallId) (here : is_of_cache setup i b ≡ true) where
-    pub phase_of-here : phase_of (entries_at setup i entries) b ≡ phase_of entries b
+    phase_of-here : phase_of (entries_at setup i entries) b ≡ phase_of entries b
     unfolding phase_of
     phase_of-here = ap phase_in (entries_of-here entries b here)
 
-    pub begin_of-here : begin_of (entries_at setup i entries) b ≡ begin_of entries b
+    begin_of-here : begin_of (entries_at setup i entries) b ≡ begin_of entries b
     begin_of-here = ap begin_in (entries_of-here entries b here)
 
-    pub answers_of-here : answers_of (entries_at setup i entries) b ≡ answers_of entries b
+    answers_of-here : answers_of (entries_at setup i entries) b ≡ answers_of entries b
     answers_of-here = ap answers_in (entries_of-here entries b here)
 
-    pub hold_is_finished-here : hold_is_finished (entries_at setup i entries) b ≡ hold_is_finished entries b
+    hold_is_finished-here : hold_is_finished (entries_at setup i entries) b ≡ hold_is_finished entries b
     unfolding hold_is_finished
     hold_is_finished-here = rw (entries_of-here entries b here) refl
 
-    pub is_served-here : is_served (entries_at setup i entries) b ≡ is_served entries b
+    is_served-here : is_served (entries_at setup i entries) b ≡ is_served entries b
     unfolding is_served
     is_served-here = rw (entries_of-here entries b here) refl
 
@@ -70,7 +70,7 @@ module _ {K D : Type 0} (setup : Setup D) (i : ℕ) where
             let bad : is_here e ≡ true = ap (λ h. is_number i (option_map (λ r. r.cache) (slice_get setup.handles h))) same ∙ here in
             cc
 
-    pub is_new_number-here : is_new_number (entries_at setup i entries) b ≡ is_new_number entries b
+    is_new_number-here : is_new_number (entries_at setup i entries) b ≡ is_new_number entries b
     unfolding is_new_number
     is_new_number-here =
         list_all-left_out (λ (e : Entry K). not (is_begin_under b.handle e) || nat_lt (call_of e.event).number b.number) is_here entries
@@ -84,20 +84,20 @@ module _ {K D : Type 0} (setup : Setup D) (i : ℕ) where
         each [] = refl
         each (e ∷ es) = let first : (is_here e || (not (is_begin_under b.handle e) || nat_lt (call_of e.event).number b.number)) ≡ true = step e (is_here e) refl in rw (first, each es) refl
 
-  pub poll_order-here : (entries : List (Entry K)) → poll_order setup (entries_at setup i entries) i ≡ poll_order setup entries i
+  poll_order-here : (entries : List (Entry K)) → poll_order setup (entries_at setup i entries) i ≡ poll_order setup entries i
   unfolding poll_order
   poll_order-here entries = rw (filter-within (is_poll_at setup i) is_here (λ e h. and_right (is_fitting_poll e) (is_of_cache setup i (call_of e.event)) h) entries) refl
 
-  pub has_turn-here : (entries : List (Entry K)) (b : CallId) → has_turn setup (entries_at setup i entries) i b ≡ has_turn setup entries i b
+  has_turn-here : (entries : List (Entry K)) (b : CallId) → has_turn setup (entries_at setup i entries) i b ≡ has_turn setup entries i b
   unfolding has_turn
   has_turn-here entries b =
       ap (λ order. list_all (hold_is_finished (entries_at setup i entries)) (before_call b order)) (poll_order-here entries)
       ∙ list_all-same_on (hold_is_finished (entries_at setup i entries)) (hold_is_finished entries) (is_of_cache setup i) (λ x here. hold_is_finished-here entries x here) (calls_ahead setup entries i b)
       (list_all-before (is_of_cache setup i) b (poll_order setup entries i) (order_of_cache setup entries i))
 
-  pub turn_moment-here : (entries : List (Entry K)) (b : CallId) → is_of_cache setup i b ≡ true → turn_moment setup (entries_at setup i entries) i b ≡ turn_moment setup entries i b
+  turn_moment-here : (entries : List (Entry K)) (b : CallId) → is_of_cache setup i b ≡ true → turn_moment setup (entries_at setup i entries) i b ≡ turn_moment setup entries i b
   turn_moment-here entries b here =
-      turn_moment-kept setup is_here (λ _. true) i b (λ before _. has_turn-here before b)
+      turn_moment-stays setup is_here (λ _. true) i b (λ before _. has_turn-here before b)
       (λ before x s. ap (λ v. (v && is_fitting_poll x) && has_turn setup before i b) (not_about x s (is_about b x) refl))
       entries (all_true entries)
     where
@@ -109,10 +109,10 @@ module _ {K D : Type 0} (setup : Setup D) (i : ℕ) where
       all_true [] = refl
       all_true (e ∷ es) = all_true es
 
-  pub hold_input-here : (entries : List (Entry K)) (b : CallId) → is_of_cache setup i b ≡ true → hold_input {K = K} setup (entries_at setup i entries) i b ≡ hold_input setup entries i b
+  hold_input-here : (entries : List (Entry K)) (b : CallId) → is_of_cache setup i b ≡ true → hold_input {K = K} setup (entries_at setup i entries) i b ≡ hold_input setup entries i b
   hold_input-here entries b here = rw (begin_of-here entries b here, turn_moment-here entries b here, answers_of-here entries b here) refl
 
-  pub sequential_cache-here : (policy : Policy K D) (entries : List (Entry K)) → sequential_cache policy setup (entries_at setup i entries) i ≡ sequential_cache policy setup entries i
+  sequential_cache-here : (policy : Policy K D) (entries : List (Entry K)) → sequential_cache policy setup (entries_at setup i entries) i ≡ sequential_cache policy setup entries i
   unfolding sequential_cache
   sequential_cache-here policy entries =
       ap (fold (λ cache b. cache_after policy (slice_get setup.loaders i) (hold_input setup (entries_at setup i entries) i b) cache) None) served_same
@@ -130,7 +130,7 @@ module _ {K D : Type 0} (setup : Setup D) (i : ℕ) where
           ap (filter (is_served (entries_at setup i entries))) (poll_order-here entries)
           ∙ filter-same_on (is_served (entries_at setup i entries)) (is_served entries) (is_of_cache setup i) (λ b here. is_served-here entries b here) (poll_order setup entries i) (order_of_cache setup entries i)
 
--- what is due to an event of the cache is told by the entries of the cache
+-- the expected reply to an event of the cache depends on the entries of the cache alone
 module _ {K D : Type 0} (policy : Policy K D) (setup : Setup D) (i : ℕ) (entries : List (Entry K)) where
   module _ (event : Event K) (here : is_of_cache setup i (call_of event) ≡ true) where
     wake_here : (r : Reply K) → call_to_wake setup (entries_at setup i entries) i (record { event = event; reply = r }) ≡ call_to_wake setup entries i (record { event = event; reply = r })
@@ -160,23 +160,23 @@ module _ {K D : Type 0} (policy : Policy K D) (setup : Setup D) (i : ℕ) (entri
     where
       here_alone : (j : ℕ) → cache_of setup (call_of event) ≡ Some j → (P : ℕ → Type 0) → P i → P j
       here_alone j at P p =
-          let own : cache_of setup (call_of event) ≡ Some i = number_of i (cache_of setup (call_of event)) here in
+          let own : cache_of setup (call_of event) ≡ Some i = is_number-eq i (cache_of setup (call_of event)) here in
           let same : i ≡ j = cc in
           subst P same p
 
   legal_here : (e : Entry K) → is_of_cache setup i (call_of e.event) ≡ true → IsLegalEntry policy setup entries e → IsLegalEntry policy setup (entries_at setup i entries) e
-  legal_here e here legal = legal_same policy setup (entries_at setup i entries) entries e (reads_here e.event here) legal
+  legal_here e here legal = IsLegalEntry-same policy setup (entries_at setup i entries) entries e (reads_here e.event here) legal
 
-kept-here : {K D : Type 0} (setup : Setup D) (i : ℕ) (entries : List (Entry K)) → kept (entries_at setup i entries) ≡ entries_at setup i (kept entries)
-unfolding kept
-kept-here {K = K} setup i entries = filter-swap (λ (e : Entry K). not (is_out_of_memory e.reply)) (is_here setup i) entries
+committed_entries-here : {K D : Type 0} (setup : Setup D) (i : ℕ) (entries : List (Entry K)) → committed_entries (entries_at setup i entries) ≡ entries_at setup i (committed_entries entries)
+unfolding committed_entries
+committed_entries-here {K = K} setup i entries = filter-swap (λ (e : Entry K). not (is_out_of_memory e.reply)) (is_here setup i) entries
 
 module _ {K D : Type 0} (policy : Policy K D) (setup : Setup D) (i : ℕ) where
-  legal_at_step : (before : List (Entry K)) (e : Entry K) → IsLegal policy setup (entries_at setup i before) → IsLegalEntry policy setup (kept before) e → (s : Bool) → is_here setup i e ≡ s → IsLegal policy setup (entries_at setup i (before ++ e ∷ []))
+  legal_at_step : (before : List (Entry K)) (e : Entry K) → IsLegal policy setup (entries_at setup i before) → IsLegalEntry policy setup (committed_entries before) e → (s : Bool) → is_here setup i e ≡ s → IsLegal policy setup (entries_at setup i (before ++ e ∷ []))
   legal_at_step before e l legal true s =
       subst (λ v. IsLegal policy setup v) (sym (filter-more_yes (is_here setup i) before e s))
       (legal-more policy setup (entries_at setup i before) e l
-      (subst (λ v. IsLegalEntry policy setup v e) (sym (kept-here setup i before)) (legal_here policy setup i (kept before) e s legal)))
+      (subst (λ v. IsLegalEntry policy setup v e) (sym (committed_entries-here setup i before)) (legal_here policy setup i (committed_entries before) e s legal)))
   legal_at_step before e l legal false s = subst (λ v. IsLegal policy setup v) (sym (filter-more_no (is_here setup i) before e s)) l
 
   legal_at_after : (before rest : List (Entry K)) → IsLegal policy setup (entries_at setup i before) → IsLegalAfter policy setup before rest → IsLegal policy setup (entries_at setup i (before ++ rest))
@@ -185,6 +185,7 @@ module _ {K D : Type 0} (policy : Policy K D) (setup : Setup D) (i : ℕ) where
       subst (λ v. IsLegal policy setup (entries_at setup i v)) (append_assoc before (e ∷ []) rest)
       (legal_at_after (before ++ e ∷ []) rest (legal_at_step before e l after.0 (is_here setup i e) refl) after.1)
 
+-- the entries of one cache are a legal transcript by themselves
 pub caches_are_isolated : (K D : Type 0) → CachesAreIsolated K D
 unfolding IsLegal
 caches_are_isolated K D policy setup entries i l = legal_at_after policy setup i [] entries tt l

@@ -6,7 +6,8 @@ use Rattle.sequential_signer.specs.Policy.{Policy}
 use Rattle.sequential_signer.specs.Setup.{Setup}
 use Rattle.sequential_signer.specs.SequentialCall.{HoldInput}
 use Rattle.wake_lock.specs.Calls.{same_call}
-use Rattle.sequential_signer.specs.Transcript.{call_of, is_about, entries_of, each_after}
+use Rattle.sign_base.specs.EachAfter.{each_after}
+use Rattle.sequential_signer.specs.Transcript.{call_of, is_about, entries_of}
 use Rattle.sequential_signer.specs.Phase.{is_poll, is_pending, is_begun, is_not_now, is_begin_under, is_new_number, is_waiting_poll}
 use Rattle.sequential_signer.specs.Turn.{is_fitting_poll, is_poll_at, poll_order, calls_ahead, before_call, ends_hold, serves, hold_is_finished, is_served, has_turn}
 use Rattle.sequential_signer.specs.Hold.{begun_with, begin_in, begin_of, poll_moment, is_poll_at_turn, turn_moment, answers_of, answers_in, hold_input}
@@ -51,11 +52,12 @@ module _ {K D : Type 0} (setup : Setup D) (keep ok : Entry K → Bool) (i : ℕ)
       let here : ok x ≡ true = and_left _ _ k in
       moment_by before xs x h (keep x) refl (moment_after (before ++ x ∷ []) xs (list_all-more ok before x ∙ rw (h, here) refl) (and_right _ _ k))
 
-  pub turn_moment-kept : (entries : List (Entry K)) → list_all ok entries ≡ true → turn_moment setup (filter keep entries) i b ≡ turn_moment setup entries i b
+  -- the moment of the turn is the same in both
+  pub turn_moment-stays : (entries : List (Entry K)) → list_all ok entries ≡ true → turn_moment setup (filter keep entries) i b ≡ turn_moment setup entries i b
   unfolding turn_moment
-  turn_moment-kept entries h = moment_after [] entries refl h
+  turn_moment-stays entries h = moment_after [] entries refl h
 
--- what leaves its call as it is: no begin, and no end of a hold
+-- a reply that leaves its call as it is: no begin, and no end of a hold
 abbrev pub is_quiet : {K : Type 0} → Reply K → Bool
 is_quiet NotNow = true
 is_quiet (Ask provider) = true
@@ -110,27 +112,28 @@ or_else : (a b : Bool) → (a || b) ≡ true → a ≡ false → b ≡ true
 or_else a b h f = cc
 
 module _ {K : Type 0} (call : CallId) where
-  -- whether the entry stays
-  abbrev pub stays : Entry K → Bool
-  stays e = not (is_about call e && is_answer e.event)
+  -- whether the entry is left in
+  abbrev pub is_left_in : Entry K → Bool
+  is_left_in e = not (is_about call e && is_answer e.event)
 
-  -- whether the entry stays, or is quiet
+  -- whether the entry is left in, or is quiet
   abbrev pub is_harmless : Entry K → Bool
-  is_harmless e = stays e || is_quiet e.reply
+  is_harmless e = is_left_in e || is_quiet e.reply
 
+  -- all of these entries are harmless
   abbrev pub AreHarmless : List (Entry K) → Type 0
   AreHarmless entries = list_all is_harmless entries ≡ true
 
-  left_quiet : (e : Entry K) → is_harmless e ≡ true → stays e ≡ false → is_quiet e.reply ≡ true
-  left_quiet e h s = or_else (stays e) (is_quiet e.reply) h s
+  left_quiet : (e : Entry K) → is_harmless e ≡ true → is_left_in e ≡ false → is_quiet e.reply ≡ true
+  left_quiet e h s = or_else (is_left_in e) (is_quiet e.reply) h s
 
-  left_no_poll : (e : Entry K) → stays e ≡ false → is_poll e.event ≡ false
+  left_no_poll : (e : Entry K) → is_left_in e ≡ false → is_poll e.event ≡ false
   left_no_poll e s = answer_no_poll e.event (and_right (is_about call e) (is_answer e.event) (not_false _ s))
 
   -- a test that no quiet entry passes
-  unpassed : (t : Entry K → Bool) → ((e : Entry K) → stays e ≡ false → is_quiet e.reply ≡ true → t e ≡ false) → (entries : List (Entry K)) → AreHarmless entries → list_all (λ e. stays e || not (t e)) entries ≡ true
+  unpassed : (t : Entry K → Bool) → ((e : Entry K) → is_left_in e ≡ false → is_quiet e.reply ≡ true → t e ≡ false) → (entries : List (Entry K)) → AreHarmless entries → list_all (λ e. is_left_in e || not (t e)) entries ≡ true
   unpassed t f entries h =
-      list_all-by is_harmless (λ e. stays e || not (t e)) (λ e k. or_by (stays e) (not (t e)) (λ s. ap not (f e s (left_quiet e k s)))) entries h
+      list_all-by is_harmless (λ e. is_left_in e || not (t e)) (λ e k. or_by (is_left_in e) (not (t e)) (λ s. ap not (f e s (left_quiet e k s)))) entries h
 
   module _ (entries : List (Entry K)) (harmless : AreHarmless entries) where
     of_harmless : (b : CallId) → AreHarmless (entries_of entries b)
@@ -138,43 +141,44 @@ module _ {K : Type 0} (call : CallId) where
     of_harmless b = list_all-filter_of is_harmless (is_about b) entries harmless
 
     -- the entries of one call, without those left out
-    of_without : (b : CallId) → entries_of (without_answers call entries) b ≡ filter stays (entries_of entries b)
+    of_without : (b : CallId) → entries_of (without_answers call entries) b ≡ filter is_left_in (entries_of entries b)
     unfolding entries_of
-    of_without b = filter-swap (is_about b) stays entries
+    of_without b = filter-swap (is_about b) is_left_in entries
 
+    -- without the answers the same numbers are new, and each call was begun and waited as before
     pub is_new_number-left_out : (b : CallId) → is_new_number (without_answers call entries) b ≡ is_new_number entries b
     unfolding is_new_number
     is_new_number-left_out b =
-        list_all-left_out (λ (e : Entry K). not (is_begin_under b.handle e) || nat_lt (call_of e.event).number b.number) stays entries
-        (list_all-by is_harmless (λ (e : Entry K). stays e || (not (is_begin_under b.handle e) || nat_lt (call_of e.event).number b.number))
-        (λ e k. or_by (stays e) _ (λ s. let n : is_begun e.reply ≡ false = quiet_begins e.reply (left_quiet e k s) in rw n refl)) entries harmless)
+        list_all-left_out (λ (e : Entry K). not (is_begin_under b.handle e) || nat_lt (call_of e.event).number b.number) is_left_in entries
+        (list_all-by is_harmless (λ (e : Entry K). is_left_in e || (not (is_begin_under b.handle e) || nat_lt (call_of e.event).number b.number))
+        (λ e k. or_by (is_left_in e) _ (λ s. let n : is_begun e.reply ≡ false = quiet_begins e.reply (left_quiet e k s) in rw n refl)) entries harmless)
 
-    pub hold_is_finished-left_out : (b : CallId) → hold_is_finished (without_answers call entries) b ≡ hold_is_finished entries b
+    hold_is_finished-left_out : (b : CallId) → hold_is_finished (without_answers call entries) b ≡ hold_is_finished entries b
     unfolding hold_is_finished
     hold_is_finished-left_out b =
         ap (list_any (λ (e : Entry K). ends_hold e.reply)) (of_without b)
-        ∙ list_any-left_out (λ (e : Entry K). ends_hold e.reply) stays (entries_of entries b) (unpassed (λ e. ends_hold e.reply) (λ e _ q. quiet_ends e.reply q) (entries_of entries b) (of_harmless b))
+        ∙ list_any-left_out (λ (e : Entry K). ends_hold e.reply) is_left_in (entries_of entries b) (unpassed (λ e. ends_hold e.reply) (λ e _ q. quiet_ends e.reply q) (entries_of entries b) (of_harmless b))
 
-    pub is_served-left_out : (b : CallId) → is_served (without_answers call entries) b ≡ is_served entries b
+    is_served-left_out : (b : CallId) → is_served (without_answers call entries) b ≡ is_served entries b
     unfolding is_served
     is_served-left_out b =
         ap (list_any (λ (e : Entry K). serves e.reply)) (of_without b)
-        ∙ list_any-left_out (λ (e : Entry K). serves e.reply) stays (entries_of entries b) (unpassed (λ e. serves e.reply) (λ e _ q. quiet_serves e.reply q) (entries_of entries b) (of_harmless b))
+        ∙ list_any-left_out (λ (e : Entry K). serves e.reply) is_left_in (entries_of entries b) (unpassed (λ e. serves e.reply) (λ e _ q. quiet_serves e.reply q) (entries_of entries b) (of_harmless b))
 
     pub begin_of-left_out : (b : CallId) → begin_of (without_answers call entries) b ≡ begin_of entries b
     unfolding begin_in
     begin_of-left_out b =
         ap begin_in (of_without b)
-        ∙ ap (option_and_then (λ (e : Entry K). begun_with e.event)) (find-left_out (λ (e : Entry K). is_begun e.reply) stays (entries_of entries b) (unpassed (λ e. is_begun e.reply) (λ e _ q. quiet_begins e.reply q) (entries_of entries b) (of_harmless b)))
+        ∙ ap (option_and_then (λ (e : Entry K). begun_with e.event)) (find-left_out (λ (e : Entry K). is_begun e.reply) is_left_in (entries_of entries b) (unpassed (λ e. is_begun e.reply) (λ e _ q. quiet_begins e.reply q) (entries_of entries b) (of_harmless b)))
 
     pub waited-left_out : (b : CallId) → list_any is_waiting_poll (entries_of (without_answers call entries) b) ≡ list_any is_waiting_poll (entries_of entries b)
     waited-left_out b =
         ap (list_any is_waiting_poll) (of_without b)
-        ∙ list_any-left_out is_waiting_poll stays (entries_of entries b) (unpassed is_waiting_poll (λ e s _. ap (λ v. v && is_pending e.reply) (left_no_poll e s)) (entries_of entries b) (of_harmless b))
+        ∙ list_any-left_out is_waiting_poll is_left_in (entries_of entries b) (unpassed is_waiting_poll (λ e s _. ap (λ v. v && is_pending e.reply) (left_no_poll e s)) (entries_of entries b) (of_harmless b))
 
-  -- of another call every entry stays
-  other_stays : (b : CallId) → same_call b call ≡ false → (e : Entry K) → is_about b e ≡ true → stays e ≡ true
-  other_stays b differ e h = by_name (is_about call e) refl
+  -- of another call every entry is left in
+  other_call_left_in : (b : CallId) → same_call b call ≡ false → (e : Entry K) → is_about b e ≡ true → is_left_in e ≡ true
+  other_call_left_in b differ e h = by_name (is_about call e) refl
     where
       by_name : (s : Bool) → is_about call e ≡ s → not (s && is_answer e.event) ≡ true
       by_name false s = refl
@@ -183,23 +187,25 @@ module _ {K : Type 0} (call : CallId) where
           let e2 : call ≡ call_of e.event = same_call-eq call (call_of e.event) s in
           let bad : same_call b call ≡ true = ap (same_call b) (e2 ∙ sym e1) ∙ same_call-refl b in cc
 
-  pub entries_of-left_out : (entries : List (Entry K)) (b : CallId) → same_call b call ≡ false → entries_of (without_answers call entries) b ≡ entries_of entries b
+  entries_of-left_out : (entries : List (Entry K)) (b : CallId) → same_call b call ≡ false → entries_of (without_answers call entries) b ≡ entries_of entries b
   unfolding entries_of
-  entries_of-left_out entries b differ = filter-within (is_about b) stays (other_stays b differ) entries
+  entries_of-left_out entries b differ = filter-within (is_about b) is_left_in (other_call_left_in b differ) entries
 
 module _ {K D : Type 0} (setup : Setup D) (call : CallId) where
+  -- the order of first polls is the same
   pub poll_order-left_out : (entries : List (Entry K)) (i : ℕ) → poll_order setup (without_answers call entries) i ≡ poll_order setup entries i
   unfolding poll_order
   poll_order-left_out entries i =
-      rw (filter-within (is_poll_at setup i) (stays call) (λ e h. poll_stays e (and_left _ _ (and_left _ _ h))) entries) refl
+      rw (filter-within (is_poll_at setup i) (is_left_in call) (λ e h. poll_stays e (and_left _ _ (and_left _ _ h))) entries) refl
     where
-      poll_stays : (e : Entry K) → is_poll e.event ≡ true → stays call e ≡ true
-      poll_stays e h = by_stay (stays call e) refl
+      poll_stays : (e : Entry K) → is_poll e.event ≡ true → is_left_in call e ≡ true
+      poll_stays e h = by_stay (is_left_in call e) refl
         where
-          by_stay : (s : Bool) → stays call e ≡ s → s ≡ true
+          by_stay : (s : Bool) → is_left_in call e ≡ s → s ≡ true
           by_stay true s = refl
           by_stay false s = let bad : is_poll e.event ≡ false = left_no_poll call e s in cc
 
+  -- and so are the turns, and their moments
   pub has_turn-left_out : (entries : List (Entry K)) → AreHarmless call entries → (i : ℕ) (b : CallId) → has_turn setup (without_answers call entries) i b ≡ has_turn setup entries i b
   unfolding has_turn
   has_turn-left_out entries harmless i b =
@@ -208,7 +214,7 @@ module _ {K D : Type 0} (setup : Setup D) (call : CallId) where
 
   pub turn_moment-left_out : (entries : List (Entry K)) → AreHarmless call entries → (i : ℕ) (b : CallId) → turn_moment setup (without_answers call entries) i b ≡ turn_moment setup entries i b
   turn_moment-left_out entries harmless i b =
-      turn_moment-kept setup (stays call) (is_harmless call) i b (λ before h. has_turn-left_out before h i b)
+      turn_moment-stays setup (is_left_in call) (is_harmless call) i b (λ before h. has_turn-left_out before h i b)
       (λ before x s. no_poll (is_about b x) (has_turn setup before i b) (is_poll x.event) (not (is_not_now x.reply)) (left_no_poll call x s))
       entries harmless
     where
@@ -217,10 +223,11 @@ module _ {K D : Type 0} (setup : Setup D) (call : CallId) where
       no_poll true t false n h = refl
       no_poll false t false n h = refl
 
+  -- the answers to another call are the same
   pub answers_of-left_out : (entries : List (Entry K)) (b : CallId) → same_call b call ≡ false → answers_of (without_answers call entries) b ≡ answers_of entries b
   answers_of-left_out entries b differ = ap answers_in (entries_of-left_out call entries b differ)
 
-  pub hold_input-left_out : (entries : List (Entry K)) → AreHarmless call entries → (i : ℕ) (b : CallId) → same_call b call ≡ false → hold_input {K = K} setup (without_answers call entries) i b ≡ hold_input setup entries i b
+  hold_input-left_out : (entries : List (Entry K)) → AreHarmless call entries → (i : ℕ) (b : CallId) → same_call b call ≡ false → hold_input {K = K} setup (without_answers call entries) i b ≡ hold_input setup entries i b
   hold_input-left_out entries harmless i b differ =
       rw (begin_of-left_out call entries harmless b, turn_moment-left_out entries harmless i b, answers_of-left_out entries b differ) refl
 

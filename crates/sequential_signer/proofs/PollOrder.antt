@@ -5,7 +5,8 @@ use Rattle.std.proofs.lemmas.List.{map-append}
 use Rattle.wake_lock.specs.declared.CallId.{CallId}
 use Rattle.sequential_signer.specs.Setup.{Setup}
 use Rattle.wake_lock.specs.Calls.{same_call}
-use Rattle.sequential_signer.specs.Transcript.{call_of, entries_of, each_after}
+use Rattle.sign_base.specs.EachAfter.{each_after}
+use Rattle.sequential_signer.specs.Transcript.{call_of, entries_of}
 use Rattle.sequential_signer.specs.Turn.{before_call, is_poll_at, poll_order, calls_ahead, ends_hold, serves, hold_is_finished, is_served, has_turn}
 use Rattle.sequential_signer.specs.Hold.{poll_moment, is_poll_at_turn, turn_moment}
 use Rattle.sequential_signer.specs.declared.event.Entry.{Entry}
@@ -19,6 +20,7 @@ module _ {K D : Type 0} (setup : Setup D) where
   abbrev pub is_polled : List (Entry K) → ℕ → CallId → Bool
   is_polled entries i call = list_any (same_call call) (poll_order setup entries i)
 
+  -- the order of first polls grows by a poll at the cache, of a call that was not polled there, and by nothing else
   pub poll_order-same : (entries : List (Entry K)) (i : ℕ) (e : Entry K) → is_poll_at setup i e ≡ false → poll_order setup (entries ++ e ∷ []) i ≡ poll_order setup entries i
   unfolding poll_order
   poll_order-same entries i e h = rw (filter-more_no (is_poll_at setup i) entries e h) refl
@@ -43,10 +45,11 @@ module _ {K D : Type 0} (setup : Setup D) where
   order_cases entries i e true h = order_by entries i e h _ refl
   order_cases entries i e false h = stays (poll_order-same entries i e h)
 
+  -- each entry leaves the order, or its call comes last in it
   pub order_after : (entries : List (Entry K)) (i : ℕ) (e : Entry K) → OrderAfter entries i e
   order_after entries i e = order_cases entries i e _ refl
 
-  -- who was polled stays so
+  -- a call that was polled stays so
   pub is_polled-more : (entries : List (Entry K)) (i : ℕ) (e : Entry K) (call : CallId) → is_polled entries i call ≡ true → is_polled (entries ++ e ∷ []) i call ≡ true
   is_polled-more entries i e call h = polled_by (order_after entries i e)
     where
@@ -54,6 +57,7 @@ module _ {K D : Type 0} (setup : Setup D) where
       polled_by (stays o) = rw o h
       polled_by (grows _ _ o) = rw (o, list_any-more (same_call call) (poll_order setup entries i) (call_of e.event), h) refl
 
+  -- an entry of another call leaves whether a call was polled
   pub is_polled-other : (entries : List (Entry K)) (i : ℕ) (e : Entry K) (call : CallId) → same_call call (call_of e.event) ≡ false → is_polled (entries ++ e ∷ []) i call ≡ is_polled entries i call
   is_polled-other entries i e call h = polled_by (order_after entries i e)
     where
@@ -68,7 +72,7 @@ module _ {K D : Type 0} (setup : Setup D) where
       ((elim (is_polled entries i (call_of e.event)) as (λ v. is_polled entries i (call_of e.event) ≡ v → list_any (same_call (call_of e.event)) (cond v (poll_order setup entries i) (poll_order setup entries i ++ call_of e.event ∷ [])) ≡ true)
       [ true ↦ λ p. p | false ↦ λ p. rw (list_any-more (same_call (call_of e.event)) (poll_order setup entries i) (call_of e.event), same_call-refl (call_of e.event)) (or_true _) ]) refl)
 
-  -- who is ahead of a call that was polled stays so
+  -- the calls ahead of one that was polled stay the same
   pub calls_ahead-more : (entries : List (Entry K)) (i : ℕ) (e : Entry K) (call : CallId) → is_polled entries i call ≡ true → calls_ahead setup (entries ++ e ∷ []) i call ≡ calls_ahead setup entries i call
   calls_ahead-more entries i e call h = ahead_by (order_after entries i e)
     where
@@ -76,7 +80,7 @@ module _ {K D : Type 0} (setup : Setup D) where
       ahead_by (stays o) = ap (before_call call) o
       ahead_by (grows _ _ o) = ap (before_call call) o ∙ before_call-more_there call (poll_order setup entries i) (call_of e.event) h
 
-  -- and of one that is polled now
+  -- and so do those ahead of one that is polled now
   pub calls_ahead-own : (entries : List (Entry K)) (i : ℕ) (e : Entry K) → calls_ahead setup (entries ++ e ∷ []) i (call_of e.event) ≡ calls_ahead setup entries i (call_of e.event)
   calls_ahead-own entries i e = ahead_by (order_after entries i e)
     where
@@ -87,6 +91,7 @@ module _ {K D : Type 0} (setup : Setup D) where
           ∙ before_call-last (call_of e.event) (poll_order setup entries i) p
           ∙ sym (before_call-absent (call_of e.event) (poll_order setup entries i) p)
 
+  -- an entry of another call leaves whether the hold is over and whether it served; one of the call itself adds what its reply says
   pub hold_is_finished-other : (entries : List (Entry K)) (e : Entry K) (call : CallId) → same_call call (call_of e.event) ≡ false → hold_is_finished (entries ++ e ∷ []) call ≡ hold_is_finished entries call
   unfolding hold_is_finished
   hold_is_finished-other entries e call h = rw (entries_of-other entries call e h) refl
@@ -133,6 +138,7 @@ module _ {K D : Type 0} (setup : Setup D) where
       moment_by None f g = cc
       moment_by (Some p) f g = rw (each_after-more [] entries e, find-more_found (is_poll_at_turn setup i call) (each_after [] entries) (entries, e) p f) g
 
+  -- what is no poll of the call at its turn leaves the moment
   pub turn_moment-no : (entries : List (Entry K)) (i : ℕ) (e : Entry K) (call : CallId) → is_poll_at_turn setup i call (entries, e) ≡ false → turn_moment setup (entries ++ e ∷ []) i call ≡ turn_moment setup entries i call
   unfolding turn_moment
   turn_moment-no entries i e call h = rw (each_after-more [] entries e, find-more_no (is_poll_at_turn setup i call) (each_after [] entries) (entries, e) h) refl
@@ -141,10 +147,12 @@ module _ {K D : Type 0} (setup : Setup D) where
   pub record HadNoTurn (entries : List (Entry K)) (i : ℕ) (call : CallId) : Type 0 where
     pub none : find (is_poll_at_turn setup i call) (each_after [] entries) ≡ None
 
+  -- nor does it bring the turn
   pub had_no_turn-more : (entries : List (Entry K)) (i : ℕ) (e : Entry K) (call : CallId) → is_poll_at_turn setup i call (entries, e) ≡ false → HadNoTurn entries i call → HadNoTurn (entries ++ e ∷ []) i call
   had_no_turn-more entries i e call h n =
       record { none = rw (each_after-more [] entries e, find-more_no (is_poll_at_turn setup i call) (each_after [] entries) (entries, e) h) n.none }
 
+  -- the first poll of the call at its turn sets the moment
   pub turn_moment-yes : (entries : List (Entry K)) (i : ℕ) (e : Entry K) (call : CallId) → HadNoTurn entries i call → is_poll_at_turn setup i call (entries, e) ≡ true → turn_moment setup (entries ++ e ∷ []) i call ≡ poll_moment e.event
   unfolding turn_moment
   turn_moment-yes entries i e call n h =

@@ -12,9 +12,10 @@ use Rattle.sequential_signer.proofs.CallNames.{before_call-absent}
 use Rattle.sequential_signer.proofs.Lists.{or_false}
 use Rattle.sequential_signer.proofs.PollOrder.{is_polled, hold_is_finished-own, hold_is_finished-other}
 
-abbrev pub is_empty : List CallId → Bool
-is_empty [] = true
-is_empty (x ∷ rest) = false
+-- whether there is no call in the list
+abbrev pub has_nobody : List CallId → Bool
+has_nobody [] = true
+has_nobody (x ∷ rest) = false
 
 module _ (fin : CallId → Bool) where
   -- the open holds of the list, in order
@@ -32,7 +33,7 @@ module _ (fin : CallId → Bool) where
   first_later call x xs s false h rest = rw (s, h, s) refl
 
   -- of an open hold that is in the list, all before it are finished exactly where it is the first open one
-  pub first-open : (call : CallId) (xs : List CallId) → fin call ≡ false → list_any (same_call call) xs ≡ true → list_all fin (before_call call xs) ≡ is_first call (open_holds xs)
+  first-open : (call : CallId) (xs : List CallId) → fin call ≡ false → list_any (same_call call) xs ≡ true → list_all fin (before_call call xs) ≡ is_first call (open_holds xs)
   first-open call [] o m = cc
   first-open call (x ∷ xs) o m = by_place (same_call call x) refl m (λ k. first-open call xs o k)
     where
@@ -40,11 +41,11 @@ module _ (fin : CallId → Bool) where
       by_place true e m rest = first_here call x xs o e
       by_place false e m rest = first_later call x xs e (fin x) refl (rest m)
 
-  -- where no hold of the list is open, all are finished, and the other way round
-  pub all-finished : (xs : List CallId) → list_all fin xs ≡ is_empty (open_holds xs)
+  -- all holds of the list are finished exactly where none is open
+  pub all-finished : (xs : List CallId) → list_all fin xs ≡ has_nobody (open_holds xs)
   all-finished [] = refl
   all-finished (x ∷ xs) =
-      (elim (fin x) as (λ v. (v && list_all fin xs) ≡ is_empty (cond (not v) (x ∷ open_holds xs) (open_holds xs)))
+      (elim (fin x) as (λ v. (v && list_all fin xs) ≡ has_nobody (cond (not v) (x ∷ open_holds xs) (open_holds xs)))
       [ true ↦ all-finished xs | false ↦ refl ])
 
 -- what stands after the call, where it stands first; else nothing
@@ -59,14 +60,15 @@ module _ {K D : Type 0} (setup : Setup D) where
   has_turn-polled entries i call o m = first-open (hold_is_finished entries) call (poll_order setup entries i) o m
 
   -- a call that was not polled has its turn exactly where nobody holds
-  pub has_turn-unpolled : (entries : List (Entry K)) (i : ℕ) (call : CallId) → is_polled setup entries i call ≡ false → has_turn setup entries i call ≡ is_empty (open_calls setup entries i)
+  pub has_turn-unpolled : (entries : List (Entry K)) (i : ℕ) (call : CallId) → is_polled setup entries i call ≡ false → has_turn setup entries i call ≡ has_nobody (open_calls setup entries i)
   unfolding has_turn
   has_turn-unpolled entries i call u =
       ap (list_all (hold_is_finished entries)) (before_call-absent call (poll_order setup entries i) u)
       ∙ all-finished (hold_is_finished entries) (poll_order setup entries i)
 
--- where no hold ends, whose hold is finished stays
+-- where no hold ends
 module _ {K D : Type 0} (setup : Setup D) (entries : List (Entry K)) (i : ℕ) (e : Entry K) (stays_open : ends_hold e.reply ≡ false) where
+  -- a hold is finished exactly where it was before
   pub finished_same : (b : CallId) → hold_is_finished (entries ++ e ∷ []) b ≡ hold_is_finished entries b
   finished_same b = same_by (same_call b (call_of e.event)) refl
     where
@@ -91,5 +93,6 @@ module _ {K D : Type 0} (setup : Setup D) (entries : List (Entry K)) (i : ℕ) (
       ≡ filter (λ y. not (same_call y (call_of e.event))) (cond (not v) (x ∷ filter (λ y. not (hold_is_finished entries y)) xs) (filter (λ y. not (hold_is_finished entries y)) xs)))
       [ true ↦ refl | false ↦ refl ])
 
+  -- the call of an entry that ends its hold leaves the open calls
   pub queue-leaves : poll_order setup (entries ++ e ∷ []) i ≡ poll_order setup entries i → open_calls setup (entries ++ e ∷ []) i ≡ filter (λ x. not (same_call x (call_of e.event))) (open_calls setup entries i)
   queue-leaves o = ap (filter (λ x. not (hold_is_finished (entries ++ e ∷ []) x))) o ∙ out_of (poll_order setup entries i)

@@ -1,10 +1,11 @@
 -- What a call's hold of its cache works with, read from a transcript.
-use Rattle.std.specs.Prelude.{ℕ, ℤ, Bool, ◌&&◌, not, List, [], Option, Some, None, find, filter, filter_map, option_map, option_and_then}
+use Rattle.std.specs.Prelude.{ℕ, ℤ, Bool, ◌&&◌, not, List, [], ◌∷◌, ◌++◌, Option, Some, None, find, filter, filter_map, option_map, option_and_then}
 use Rattle.std.specs.Duration.{as_nanos}
 use Rattle.sign_base.specs.declared.head.Head.{Head}
 use Rattle.wake_lock.specs.declared.CallId.{CallId}
 use Rattle.sequential_signer.specs.SequentialCall.{HoldInput}
-use Rattle.sequential_signer.specs.Transcript.{is_about, entries_of, each_after}
+use Rattle.sign_base.specs.EachAfter.{each_after}
+use Rattle.sequential_signer.specs.Transcript.{is_about, entries_of}
 use Rattle.sequential_signer.specs.Setup.{Setup, rule_of}
 use Rattle.sequential_signer.specs.Phase.{is_begun, is_not_now}
 use Rattle.sequential_signer.specs.Turn.{is_fitting_poll, has_turn}
@@ -50,7 +51,7 @@ abbrev pub answer_in : {K : Type 0} → Event K → Option (Answer K × ℤ)
 answer_in (Provided call now answer) = Some (answer, now)
 answer_in _ = None
 
--- the providers' answers among these entries that fitted, in order
+-- the providers' answers among these entries that fitted their call, in order
 unfoldable pub answers_in : {K : Type 0} → List (Entry K) → List (Answer K × ℤ)
 answers_in entries = filter_map (λ e. answer_in e.event) (filter (λ e. not (is_not_now e.reply)) entries)
 
@@ -58,11 +59,21 @@ answers_in entries = filter_map (λ e. answer_in e.event) (filter (λ e. not (is
 abbrev pub answers_of : {K : Type 0} → List (Entry K) → CallId → List (Answer K × ℤ)
 answers_of entries call = answers_in (entries_of entries call)
 
--- the input of a hold, where each part of it is there
+-- the input of a hold, where each of its parts is known
 abbrev pub input_by : {K D : Type 0} → Option D → Option BeginInput → Option ℤ → List (Answer K × ℤ) → Option (HoldInput K D)
 input_by (Some rule) (Some begin) (Some now) answers =
     Some (record { rule = rule; duration = begin.duration; now = now; answers = answers })
 input_by _ _ _ answers = None
+
+-- the input of the call's look at this moment
+abbrev pub look_input : {K D : Type 0} → Setup D → List (Entry K) → CallId → ℤ → Option (HoldInput K D)
+look_input setup entries call now = input_by (rule_of setup call) (begin_of entries call) (Some now) []
+
+-- the input of the call's hold at cache i, with one more answer
+abbrev pub answered_input : {K D : Type 0} → Setup D → List (Entry K) → ℕ → CallId → Answer K × ℤ → Option (HoldInput K D)
+answered_input setup entries i call answer =
+    input_by (rule_of setup call) (begin_of entries call) (turn_moment setup entries i call)
+    (answers_of entries call ++ answer ∷ [])
 
 -- the input of the call's hold at cache i, once the call had its turn
 abbrev pub hold_input : {K D : Type 0} → Setup D → List (Entry K) → ℕ → CallId → Option (HoldInput K D)

@@ -1,19 +1,23 @@
--- Laws of legal transcripts: caches stand apart, and a credential that lasts is loaded once.
-use Rattle.std.specs.Prelude.{◌≡◌, ℕ, ℤ, Bool, true, false, not, ◌&&◌, List, [], ◌∷◌, ◌++◌, Option, Some, None, IsTrue, filter}
+-- Laws of legal transcripts: caches stand apart, a credential that lasts is loaded once, and a cache holds what was last
+-- handed out.
+use Rattle.std.specs.Prelude.{◌≡◌, ℕ, ℤ, Bool, true, false, not, ◌&&◌, List, [], ◌∷◌, ◌++◌, Option, Some, None, IsTrue, filter, filter_map}
 use Rattle.std.specs.List.{list_all}
 use Rattle.wake_lock.specs.declared.CallId.{CallId}
 use Rattle.sequential_signer.specs.Policy.{Policy}
 use Rattle.sequential_signer.specs.Setup.{Setup, cache_of, rule_of, is_of_cache}
-use Rattle.sequential_signer.specs.Transcript.{call_of, kept}
+use Rattle.sequential_signer.specs.Transcript.{call_of, last_of, committed_entries}
 use Rattle.sequential_signer.specs.Phase.{phase_of, is_waiting}
 use Rattle.sequential_signer.specs.Turn.{has_turn}
 use Rattle.sequential_signer.specs.Hold.{BeginInput, begin_of}
+use Rattle.sequential_signer.specs.SequentialCache.{sequential_cache}
 use Rattle.sequential_signer.specs.Legal.{IsLegal}
+use Rattle.sequential_signer.specs.LawsOfCancel.{SameCaches}
 use Rattle.sequential_signer.specs.declared.event.Answer.TheVariants.{Found}
 use Rattle.sequential_signer.specs.declared.event.Entry.{Entry}
 use Rattle.sequential_signer.specs.declared.event.Event.TheVariants.{Poll, Provided}
 use Rattle.sequential_signer.specs.declared.event.Reply.{Reply}
-use Rattle.sequential_signer.specs.declared.event.Reply.TheVariants.{Ask, Sign}
+use Rattle.sequential_signer.specs.declared.event.Reply.TheVariants.{Ask, Sign, Refused}
+use Rattle.sequential_signer.specs.declared.event.Why.{Why}
 
 -- the entries about calls of cache i
 abbrev pub entries_at : {K D : Type 0} → Setup D → ℕ → List (Entry K) → List (Entry K)
@@ -34,7 +38,7 @@ lasts_to policy c now (Some deadline) = policy.valid_at c deadline now
 abbrev pub serves_at : {K D : Type 0} → Policy K D → K → D → Option ℕ → ℤ → Bool
 serves_at policy c rule duration now = policy.valid c now && lasts_to policy c now (policy.deadline rule c duration now)
 
--- where the entry, after those that count, is a look at cache i, the credential serves it
+-- where the entry, after the committed entries, is a look at cache i, the credential serves it
 abbrev pub ServesLook : {K D : Type 0} → Policy K D → Setup D → ℕ → K → List (Entry K) → Entry K → Type 0
 ServesLook {D = D} policy setup i c entries entry =
     (call : CallId) (now : ℤ) (rule : D) (begin : BeginInput)
@@ -47,21 +51,51 @@ ServesLook {D = D} policy setup i c entries entry =
 abbrev pub ServesLooks : {K D : Type 0} → Policy K D → Setup D → ℕ → K → List (Entry K) → List (Entry K) → Type 0
 ServesLooks policy setup i c before [] = Unit {0}
 ServesLooks policy setup i c before (entry ∷ rest) =
-    ServesLook policy setup i c (kept before) entry × ServesLooks policy setup i c (before ++ entry ∷ []) rest
+    ServesLook policy setup i c (committed_entries before) entry × ServesLooks policy setup i c (before ++ entry ∷ []) rest
 
 -- whether the reply asks a provider
 abbrev pub is_ask : {K : Type 0} → Reply K → Bool
 is_ask (Ask provider) = true
 is_ask _ = false
 
--- a credential is found, and one is handed out
-abbrev pub found_entry : {K : Type 0} → CallId → ℤ → K → K → Option CallId → Entry K
-found_entry call now c handed wake = record { event = Provided call now (Found c); reply = Sign handed wake }
+-- a provider found a credential, with this reply
+abbrev pub found_entry : {K : Type 0} → CallId → ℤ → K → Reply K → Entry K
+found_entry call now c reply = record { event = Provided call now (Found c); reply = reply }
 
 -- once a credential was found and handed out at a cache, no provider of that cache is asked while it serves each look
 abbrev pub OneLoadServesAll : Type 0 → Type 0 → Type 0
 OneLoadServesAll K D =
     (policy : Policy K D) (setup : Setup D) (before after : List (Entry K)) (call : CallId) (now : ℤ) (c handed : K) (wake : Option CallId) (i : ℕ)
-    → IsLegal policy setup (before ++ found_entry call now c handed wake ∷ after) → cache_of setup call ≡ Some i
-    → ServesLooks policy setup i c (before ++ found_entry call now c handed wake ∷ []) after
+    → IsLegal policy setup (before ++ found_entry call now c (Sign handed wake) ∷ after) → cache_of setup call ≡ Some i
+    → ServesLooks policy setup i c (before ++ found_entry call now c (Sign handed wake) ∷ []) after
     → IsTrue (list_all (λ e. not (is_of_cache setup i (call_of e.event) && is_ask e.reply)) after)
+
+-- the credential that a reply hands out
+abbrev pub handed_out : {K : Type 0} → Reply K → Option K
+handed_out (Sign credential wake) = Some credential
+handed_out _ = None
+
+-- the credential that these entries handed out last
+abbrev pub last_handed_out : {K : Type 0} → List (Entry K) → Option K
+last_handed_out entries = last_of (filter_map (λ e. handed_out e.reply) entries)
+
+-- a cache holds the credential that was last handed out to one of its calls
+abbrev pub CacheHoldsTheLastHandedOut : Type 0 → Type 0 → Type 0
+CacheHoldsTheLastHandedOut K D =
+    (policy : Policy K D) (setup : Setup D) (entries : List (Entry K)) (i : ℕ)
+    → IsLegal policy setup entries
+    → sequential_cache policy setup (committed_entries entries) i ≡ last_handed_out (entries_at setup i entries)
+
+-- a credential that is found and refused changes no cache
+abbrev pub RefusedRefreshIsNotCached : Type 0 → Type 0 → Type 0
+RefusedRefreshIsNotCached K D =
+    (policy : Policy K D) (setup : Setup D) (before : List (Entry K)) (call : CallId) (now : ℤ) (c : K) (cause : Why) (wake : Option CallId)
+    → IsLegal policy setup (before ++ found_entry call now c (Refused cause wake) ∷ [])
+    → SameCaches policy setup (before ++ found_entry call now c (Refused cause wake) ∷ []) before
+
+-- a credential that is found and not refused is the one that is handed out, and its call's cache holds it
+abbrev pub FoundCredentialIsCached : Type 0 → Type 0 → Type 0
+FoundCredentialIsCached K D =
+    (policy : Policy K D) (setup : Setup D) (before : List (Entry K)) (call : CallId) (now : ℤ) (c handed : K) (wake : Option CallId) (i : ℕ)
+    → IsLegal policy setup (before ++ found_entry call now c (Sign handed wake) ∷ []) → cache_of setup call ≡ Some i
+    → (handed ≡ c) × (sequential_cache policy setup (committed_entries (before ++ found_entry call now c (Sign handed wake) ∷ [])) i ≡ Some c)

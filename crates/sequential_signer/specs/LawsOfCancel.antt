@@ -3,7 +3,7 @@ use Rattle.std.specs.Prelude.{◌≡◌, ℕ, ℤ, Bool, true, false, not, ◌&&
 use Rattle.wake_lock.specs.declared.CallId.{CallId}
 use Rattle.sequential_signer.specs.Policy.{Policy}
 use Rattle.sequential_signer.specs.Setup.{Setup, cache_of}
-use Rattle.sequential_signer.specs.Transcript.{is_about, kept}
+use Rattle.sequential_signer.specs.Transcript.{is_about, committed_entries}
 use Rattle.sequential_signer.specs.Phase.{phase_of, is_loading}
 use Rattle.sequential_signer.specs.Turn.{hold_is_finished, is_served}
 use Rattle.sequential_signer.specs.SequentialCache.{sequential_cache}
@@ -25,7 +25,7 @@ without_answers call entries = filter (λ e. not (is_about call e && is_answer e
 -- the two transcripts leave the same in every cache
 abbrev pub SameCaches : {K D : Type 0} → Policy K D → Setup D → List (Entry K) → List (Entry K) → Type 0
 SameCaches policy setup a b =
-    (i : ℕ) → sequential_cache policy setup (kept a) i ≡ sequential_cache policy setup (kept b) i
+    (i : ℕ) → sequential_cache policy setup (committed_entries a) i ≡ sequential_cache policy setup (committed_entries b) i
 
 -- where a call's hold ended by a cancel, and not by a credential or a refusal, the transcript without the providers'
 -- answers to it is legal too, and leaves the same caches
@@ -33,7 +33,7 @@ abbrev pub CancelledLoadLeavesNoTrace : Type 0 → Type 0 → Type 0
 CancelledLoadLeavesNoTrace K D =
     (policy : Policy K D) (setup : Setup D) (entries : List (Entry K)) (call : CallId)
     → IsLegal policy setup entries
-    → IsTrue (hold_is_finished (kept entries) call) → IsFalse (is_served (kept entries) call)
+    → IsTrue (hold_is_finished (committed_entries entries) call) → IsFalse (is_served (committed_entries entries) call)
     → IsLegal policy setup (without_answers call entries)
     × SameCaches policy setup (without_answers call entries) entries
 
@@ -58,6 +58,6 @@ CancelledLoadLeavesTheCache K D =
     (policy : Policy K D) (setup : Setup D) (before between : List (Entry K)) (call : CallId) (now : ℤ) (wake : Option CallId) (i : ℕ)
     → IsLegal policy setup (before ++ look_entry call now ∷ (between ++ cancel_entry call wake ∷ []))
     → cache_of setup call ≡ Some i
-    → IsTrue (is_loading (phase_of (kept (before ++ look_entry call now ∷ between)) call))
-    → sequential_cache policy setup (kept (before ++ look_entry call now ∷ (between ++ cancel_entry call wake ∷ []))) i
-    ≡ sequential_cache policy setup (kept before) i
+    → IsTrue (is_loading (phase_of (committed_entries (before ++ look_entry call now ∷ between)) call))
+    → sequential_cache policy setup (committed_entries (before ++ look_entry call now ∷ (between ++ cancel_entry call wake ∷ []))) i
+    ≡ sequential_cache policy setup (committed_entries before) i

@@ -1,13 +1,13 @@
 -- Laws of legal transcripts: the refresh lock of a cache is handed over exactly.
-use Rattle.std.specs.Prelude.{◌≡◌, ℕ, ℤ, Bool, false, not, ◌&&◌, ◌==◌, List, [], ◌∷◌, ◌++◌, Option, Some, None, IsTrue, filter, find, length, is_none, slice_get}
+use Rattle.std.specs.Prelude.{◌≡◌, ℕ, ℤ, Bool, false, not, ◌&&◌, ◌==◌, List, [], ◌∷◌, ◌++◌, Option, Some, None, IsTrue, filter, length, is_none, slice_get}
 use Rattle.wake_lock.specs.declared.CallId.{CallId}
 use Rattle.sequential_signer.specs.Policy.{Policy}
 use Rattle.sequential_signer.specs.Lookup.{cache_lookup}
 use Rattle.sequential_signer.specs.Setup.{Setup, cache_of, rule_of}
-use Rattle.wake_lock.specs.Calls.{same_call}
-use Rattle.sequential_signer.specs.Transcript.{kept}
+use Rattle.wake_lock.specs.Calls.{same_call, first_of}
+use Rattle.sequential_signer.specs.Transcript.{committed_entries}
 use Rattle.sequential_signer.specs.Phase.{phase_of, is_waiting, is_queued, is_loading}
-use Rattle.sequential_signer.specs.Turn.{poll_order, hold_is_finished, has_turn}
+use Rattle.sequential_signer.specs.Turn.{open_calls, has_turn}
 use Rattle.sequential_signer.specs.Hold.{BeginInput, begin_of}
 use Rattle.sequential_signer.specs.SequentialCache.{sequential_cache}
 use Rattle.sequential_signer.specs.Legal.{IsLegal}
@@ -40,7 +40,7 @@ abbrev pub QueuedAtTurnWasWokenOnce : Type 0 → Type 0 → Type 0
 QueuedAtTurnWasWokenOnce K D =
     (policy : Policy K D) (setup : Setup D) (entries : List (Entry K)) (call : CallId) (i : ℕ)
     → IsLegal policy setup entries → cache_of setup call ≡ Some i
-    → IsTrue (is_queued (phase_of (kept entries) call)) → IsTrue (has_turn setup (kept entries) i call)
+    → IsTrue (is_queued (phase_of (committed_entries entries) call)) → IsTrue (has_turn setup (committed_entries entries) i call)
     → times_woken entries call ≡ 1
 
 -- no call was named that was not queued then
@@ -48,28 +48,27 @@ abbrev pub OnlyQueuedCallsAreWoken : Type 0 → Type 0 → Type 0
 OnlyQueuedCallsAreWoken K D =
     (policy : Policy K D) (setup : Setup D) (before : List (Entry K)) (entry : Entry K) (call : CallId)
     → IsLegal policy setup (before ++ entry ∷ []) → wake_of entry.reply ≡ Some call
-    → IsTrue (is_queued (phase_of (kept before) call))
+    → IsTrue (is_queued (phase_of (committed_entries before) call))
 
 -- of one cache at most one call is loading
 abbrev pub OneCallLoads : Type 0 → Type 0 → Type 0
 OneCallLoads K D =
     (policy : Policy K D) (setup : Setup D) (entries : List (Entry K)) (a b : CallId) (i : ℕ)
     → IsLegal policy setup entries → cache_of setup a ≡ Some i → cache_of setup b ≡ Some i
-    → IsTrue (is_loading (phase_of (kept entries) a)) → IsTrue (is_loading (phase_of (kept entries) b))
+    → IsTrue (is_loading (phase_of (committed_entries entries) a)) → IsTrue (is_loading (phase_of (committed_entries entries) b))
     → a ≡ b
 
 -- the first call in the order of first polls whose hold is open
 abbrev pub first_open : {K D : Type 0} → Setup D → List (Entry K) → ℕ → Option CallId
-first_open setup entries i = find (λ call. not (hold_is_finished entries call)) (poll_order setup entries i)
+first_open setup entries i = first_of (open_calls setup entries i)
 
--- where a call of a cache is queued, the first one whose hold is open has its turn. So while no hold is open
--- nobody waits
+-- where a call of a cache is queued, the first one whose hold is open has its turn: so nobody waits while no hold is open
 abbrev pub SomebodyHasTheTurn : Type 0 → Type 0 → Type 0
 SomebodyHasTheTurn K D =
     (policy : Policy K D) (setup : Setup D) (entries : List (Entry K)) (call : CallId) (i : ℕ)
     → IsLegal policy setup entries → cache_of setup call ≡ Some i
-    → IsTrue (is_queued (phase_of (kept entries) call))
-    → (first : CallId) × (first_open setup (kept entries) i ≡ Some first) × IsTrue (has_turn setup (kept entries) i first)
+    → IsTrue (is_queued (phase_of (committed_entries entries) call))
+    → (first : CallId) × (first_open setup (committed_entries entries) i ≡ Some first) × IsTrue (has_turn setup (committed_entries entries) i first)
 
 -- a chain of no providers
 abbrev pub is_empty_chain : Loader → Bool
@@ -89,6 +88,6 @@ LoadsExactlyWhereTheLookFails K D =
     (i : ℕ) (loader : Loader) (rule : D) (begin : BeginInput)
     → IsLegal policy setup (entries ++ record { event = Poll call now; reply = reply } ∷ [])
     → cache_of setup call ≡ Some i → slice_get setup.loaders i ≡ Some loader → rule_of setup call ≡ Some rule
-    → begin_of (kept entries) call ≡ Some begin
-    → IsTrue (is_waiting (phase_of (kept entries) call)) → IsTrue (has_turn setup (kept entries) i call)
-    → begins_load loader reply ≡ is_none (cache_lookup policy (sequential_cache policy setup (kept entries) i) rule begin.duration now)
+    → begin_of (committed_entries entries) call ≡ Some begin
+    → IsTrue (is_waiting (phase_of (committed_entries entries) call)) → IsTrue (has_turn setup (committed_entries entries) i call)
+    → begins_load loader reply ≡ is_none (cache_lookup policy (sequential_cache policy setup (committed_entries entries) i) rule begin.duration now)

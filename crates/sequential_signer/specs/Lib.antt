@@ -8,7 +8,7 @@ pub mod Turn
 pub mod Hold
 pub mod SequentialCache
 pub mod Wake
-pub mod ReplyDue
+pub mod ExpectedReply
 pub mod Legal
 pub mod LiveCall
 pub mod LawsOfReplies

@@ -18,7 +18,7 @@ live_in Unknown count begin = None
 live_in Ended count begin = None
 live_in phase count begin = Some (record { phase = phase; begin = begin; answers = count })
 
--- the same, where it was begun at all
+-- the call in this phase, where it was begun at all
 abbrev pub live_by : Phase → ℕ → Option BeginInput → Option LiveCall
 live_by phase count None = None
 live_by phase count (Some begin) = live_in phase count begin
@@ -27,7 +27,7 @@ live_by phase count (Some begin) = live_in phase count begin
 abbrev pub live_call : {K : Type 0} → List (Entry K) → CallId → Option LiveCall
 live_call entries call = live_by (phase_of entries call) (length (answers_of entries call)) (begin_of entries call)
 
--- the greater of a number and one that may be there
+-- the greater of a number and another, if there is one
 abbrev pub greater : ℕ → Option ℕ → Option ℕ
 greater n None = Some n
 greater n (Some m) = Some (max n m)
@@ -40,7 +40,7 @@ greatest_begun handle (e ∷ rest) =
     then greater (call_of e.event).number (greatest_begun handle rest)
     else greatest_begun handle rest
 
--- whether a number is above one that may be there
+-- whether a number is above another, if there is one
 abbrev pub is_above : ℕ → Option ℕ → Bool
 is_above n None = true
 is_above n (Some m) = nat_lt m n

@@ -10,10 +10,10 @@ use Rattle.sequential_signer.specs.declared.event.Event.TheVariants.{Begin, Poll
 use Rattle.sequential_signer.specs.declared.event.Reply.{Reply}
 use Rattle.sequential_signer.specs.declared.event.Reply.TheVariants.{Begun, Pending, NotNow, OutOfMemory, Ask, Sign, Refused, Done, Cancelled}
 
--- not begun; begun; begun and told to wait; asking a provider; handed to the service; over
+-- not begun; begun and not polled; polled and waiting; asking a provider; handed to the service; over
 pub data Phase : Type 0 where
   Unknown : Phase
-  Fresh : Phase
+  Unpolled : Phase
   Queued : Phase
   Loading : Phase
   Signing : Phase
@@ -45,13 +45,13 @@ abbrev pub is_poll : {K : Type 0} → Event K → Bool
 is_poll (Poll call now) = true
 is_poll _ = false
 
--- whether the entry is a poll that was told to wait
+-- whether the entry is a poll that was answered `Pending`
 abbrev pub is_waiting_poll : {K : Type 0} → Entry K → Bool
 is_waiting_poll e = is_poll e.event && is_pending e.reply
 
--- how far a call with this mark is; `waited` tells whether a poll of it was told to wait
+-- how far a call with this mark is; `waited` says whether a poll of it was answered `Pending`
 abbrev pub phase_by : {K : Type 0} → Bool → Reply K → Phase
-phase_by waited Begun = if waited then Queued else Fresh
+phase_by waited Begun = if waited then Queued else Unpolled
 phase_by waited (Ask provider) = Loading
 phase_by waited (Sign credential wake) = Signing
 phase_by waited (Done head) = Ended
@@ -82,11 +82,11 @@ is_live _ = true
 
 -- begun, and its turn has not been answered yet
 abbrev pub is_waiting : Phase → Bool
-is_waiting Fresh = true
+is_waiting Unpolled = true
 is_waiting Queued = true
 is_waiting _ = false
 
--- told to wait for its turn
+-- polled, and waiting for its turn
 abbrev pub is_queued : Phase → Bool
 is_queued Queued = true
 is_queued _ = false

@@ -1,7 +1,7 @@
 -- What one call gets that no other call disturbs.
 use Rattle.std.specs.Prelude.{ℕ, ℤ, List, Option, Some, None, if◌then◌else◌, length, nat_lt}
 use Rattle.sequential_signer.specs.Policy.{Policy}
-use Rattle.sequential_signer.specs.Lookup.{Outcome, Refuse, cache_lookup, check_refreshed}
+use Rattle.sequential_signer.specs.Lookup.{Outcome, HandOut, Refuse, cache_lookup, check_refreshed}
 use Rattle.sequential_signer.specs.Transcript.{last_of}
 use Rattle.sequential_signer.specs.declared.event.Answer.{Answer}
 use Rattle.sequential_signer.specs.declared.event.Answer.TheVariants.{Found, Missing, Failed}
@@ -18,10 +18,15 @@ pub data Progress (K : Type 0) : Type 0 where
 abbrev pub next_of_chain : {K : Type 0} → ℕ → Option K → ℕ → Progress K
 next_of_chain n cache count = if nat_lt count n then Asking count else Over (Refuse why.Missing) cache
 
--- the load, by the number of answers and the last of them: what was found is cached, and then checked
+-- what was found, by its check: a credential that is handed out is cached, and a refusal leaves the cache
+abbrev pub found_progress : {K : Type 0} → Outcome K → Option K → Progress K
+found_progress (HandOut c) cache = Over (HandOut c) (Some c)
+found_progress (Refuse cause) cache = Over (Refuse cause) cache
+
+-- the load, by the number of answers and the last of them
 abbrev pub load_progress : {K D : Type 0} → Policy K D → Loader → D → Option ℕ → Option K → ℕ → Option (Answer K × ℤ) → Progress K
 load_progress policy loader rule duration cache count (Some (Found c, now)) =
-    Over (check_refreshed policy c rule duration now) (Some c)
+    found_progress (check_refreshed policy c rule duration now) cache
 load_progress policy Single rule duration cache count None = Asking 0
 load_progress policy Single rule duration cache count (Some (Missing, now)) = Over (Refuse why.Missing) cache
 load_progress policy Single rule duration cache count (Some (Failed e, now)) = Over (Refuse (why.Loader e)) cache

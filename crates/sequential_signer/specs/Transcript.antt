@@ -1,5 +1,5 @@
 -- Transcripts: what happened so far, the oldest entry first.
-use Rattle.std.specs.Prelude.{Bool, true, false, not, List, [], ◌∷◌, ◌++◌, Option, Some, None, filter}
+use Rattle.std.specs.Prelude.{Bool, true, false, not, List, [], ◌∷◌, Option, Some, None, filter}
 use Rattle.wake_lock.specs.declared.CallId.{CallId}
 use Rattle.wake_lock.specs.Calls.{same_call}
 use Rattle.sequential_signer.specs.declared.event.Entry.{Entry}
@@ -22,19 +22,14 @@ last_of [] = None
 last_of (x ∷ []) = Some x
 last_of (x ∷ (y ∷ rest)) = last_of (y ∷ rest)
 
--- each item of a list, with the items before it; these come after `before`
-abbrev pub each_after : {A : Type 0} → List A → List A → List (List A × A)
-each_after before [] = []
-each_after before (x ∷ rest) = (before, x) ∷ each_after (before ++ x ∷ []) rest
-
--- whether the reply says that memory was wanting
+-- whether the reply says that an allocation failed
 abbrev pub is_out_of_memory : {K : Type 0} → Reply K → Bool
 is_out_of_memory OutOfMemory = true
 is_out_of_memory _ = false
 
--- the entries that count: an event that was answered `OutOfMemory` changed nothing
-unfoldable pub kept : {K : Type 0} → List (Entry K) → List (Entry K)
-kept entries = filter (λ e. not (is_out_of_memory e.reply)) entries
+-- the committed entries: an event that was answered `OutOfMemory` changed nothing
+unfoldable pub committed_entries : {K : Type 0} → List (Entry K) → List (Entry K)
+committed_entries entries = filter (λ e. not (is_out_of_memory e.reply)) entries
 
 -- whether an entry is about the call
 abbrev pub is_about : {K : Type 0} → CallId → Entry K → Bool

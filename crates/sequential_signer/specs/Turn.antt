@@ -24,7 +24,7 @@ before_call call (x ∷ rest) = if same_call call x then [] else x ∷ before_ca
 abbrev pub is_fitting_poll : {K : Type 0} → Entry K → Bool
 is_fitting_poll e = is_poll e.event && not (is_not_now e.reply)
 
--- whether it is one of a call of cache i
+-- whether it is such a poll, of a call of cache i
 abbrev pub is_poll_at : {K D : Type 0} → Setup D → ℕ → Entry K → Bool
 is_poll_at setup i e = is_fitting_poll e && is_of_cache setup i (call_of e.event)
 
@@ -33,7 +33,7 @@ unfoldable pub poll_order : {K D : Type 0} → Setup D → List (Entry K) → �
 poll_order setup entries i =
     first_of_each (map (λ e. call_of e.event) (filter (is_poll_at setup i) entries))
 
--- the other calls of cache i that were polled before this one first was
+-- the calls of cache i whose first polls came before this one's
 abbrev pub calls_ahead : {K D : Type 0} → Setup D → List (Entry K) → ℕ → CallId → List CallId
 calls_ahead setup entries i call = before_call call (poll_order setup entries i)
 
@@ -54,13 +54,13 @@ serves _ = false
 unfoldable pub hold_is_finished : {K : Type 0} → List (Entry K) → CallId → Bool
 hold_is_finished entries call = list_any (λ e. ends_hold e.reply) (entries_of entries call)
 
--- the calls of cache i whose holds are open, in the order of their first polls: the one that holds, then those that wait
-abbrev pub open_calls : {K D : Type 0} → Setup D → List (Entry K) → ℕ → List CallId
-open_calls setup entries i = filter (λ call. not (hold_is_finished entries call)) (poll_order setup entries i)
-
 -- whether it ended in a credential or a refusal
 unfoldable pub is_served : {K : Type 0} → List (Entry K) → CallId → Bool
 is_served entries call = list_any (λ e. serves e.reply) (entries_of entries call)
+
+-- the calls of cache i whose holds are open, in the order of their first polls: the one that holds, then those that wait
+abbrev pub open_calls : {K D : Type 0} → Setup D → List (Entry K) → ℕ → List CallId
+open_calls setup entries i = filter (λ call. not (hold_is_finished entries call)) (poll_order setup entries i)
 
 -- whether it is the call's turn at cache i: the hold of each call ahead of it is over
 unfoldable pub has_turn : {K D : Type 0} → Setup D → List (Entry K) → ℕ → CallId → Bool

@@ -1,11 +1,11 @@
--- Scripts of more than one cache, handle or rule, and of chains.
+-- Scripts of more than one cache, handle or rule.
 use Rattle.std.specs.Prelude.{[], ◌∷◌, Some, None}
 use Rattle.sequential_signer.specs.Setup.{Setup}
-use Rattle.sequential_signer.specs.declared.event.Loader.TheVariants.{Single, Chain}
+use Rattle.sequential_signer.specs.declared.event.Loader.TheVariants.{Single}
 use Rattle.sequential_signer.specs.declared.event.Reply.TheVariants.{Begun, Pending, Ask}
 use Rattle.sequential_signer.specs.declared.event.Why.TheVariants.{Missing}
-use Rattle.worked_scripts.specs.Script.{Rule, Now, Cred}
-use Rattle.worked_scripts.specs.Words.{◌gets◌, credential, begin, poll, found, missing, failed, sign, refused, handle_on, IsWorked}
+use Rattle.worked_scripts.specs.WorkedPolicy.{Rule, Now, Cred}
+use Rattle.worked_scripts.specs.Words.{◌gets◌, credential, lasting, begin, poll, found, missing, sign, refused, handle_on, IsWorked}
 
 -- two caches, each with a handle
 abbrev pub two_caches : Setup Rule
@@ -19,27 +19,10 @@ CachesStandApart =
     ∷ begin 1 1 gets Begun
     ∷ poll 0 1 5 gets Ask 0
     ∷ poll 1 1 5 gets Ask 0
-    ∷ found 1 1 6 (credential 2 900 1000 0) gets sign (credential 2 900 1000 0)
+    ∷ found 1 1 6 (lasting 2) gets sign (lasting 2)
     ∷ poll 0 1 7 gets Pending
     ∷ missing 0 1 8 gets refused Missing
-    ∷ []) (None ∷ Some (credential 2 900 1000 0) ∷ [])
-
--- a cache with a chain of four providers, and one with a chain of none
-abbrev pub two_chains : Setup Rule
-two_chains = record { loaders = Chain 4 ∷ Chain 0 ∷ []; rules = Now ∷ []; handles = handle_on 0 0 ∷ handle_on 1 0 ∷ [] }
-
--- a chain passes over failures until one provider finds a credential; a chain of none has none
-abbrev pub ChainAsksUntilOneFinds : Type 0
-ChainAsksUntilOneFinds =
-    IsWorked two_chains (
-    begin 0 1 gets Begun
-    ∷ poll 0 1 5 gets Ask 0
-    ∷ failed 0 1 5 3 gets Ask 1
-    ∷ missing 0 1 5 gets Ask 2
-    ∷ found 0 1 5 (credential 8 900 1000 0) gets sign (credential 8 900 1000 0)
-    ∷ begin 1 1 gets Begun
-    ∷ poll 1 1 5 gets refused Missing
-    ∷ []) (Some (credential 8 900 1000 0) ∷ None ∷ [])
+    ∷ []) (None ∷ Some (lasting 2) ∷ [])
 
 -- two handles on one cache, each with a rule of its own
 abbrev pub two_rules : Setup Rule

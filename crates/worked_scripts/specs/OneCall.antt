@@ -1,11 +1,11 @@
 -- Scripts of one call, and of calls one after another.
-use Rattle.std.specs.Prelude.{List, [], ◌∷◌, ◌++◌, Some, codes}
+use Rattle.std.specs.Prelude.{List, [], ◌∷◌, ◌++◌, Some, None, codes}
 use Rattle.sign_base.specs.declared.head.Head.{Head}
 use Rattle.sign_base.specs.declared.head.Version.TheVariants.{V11, V2}
 use Rattle.sequential_signer.specs.declared.event.Entry.{Entry}
 use Rattle.sequential_signer.specs.declared.event.Reply.TheVariants.{Begun, Pending, NotNow, Ask, Done}
 use Rattle.sequential_signer.specs.declared.event.Why.TheVariants.{Short, Service}
-use Rattle.worked_scripts.specs.Script.{Credential, Cred, at}
+use Rattle.worked_scripts.specs.WorkedPolicy.{Credential, Cred, at}
 use Rattle.worked_scripts.specs.Words.{◌gets◌, credential, begin, begin_with, poll, found, accept, reject, cancel, plain_head, sign, refused, cancelled, one_cache, IsWorked}
 
 -- the head that the call begins with
@@ -58,16 +58,40 @@ StaleCredentialIsLoadedAgain =
 
 -- a credential that expires at its deadline
 abbrev pub short : Credential
-short = credential 7 900 600 600
+short = credential 8 1200 600 600
 
--- it is refused, and stays cached
+-- it is refused, and not cached
 abbrev pub ShortCredentialIsRefused : Type 0
 ShortCredentialIsRefused =
     IsWorked (one_cache Cred) (
     begin_with 0 1 begun_head gets Begun
     ∷ poll 0 1 500 gets Ask 0
     ∷ found 0 1 501 short gets refused (Short (at 600))
-    ∷ []) (Some short ∷ [])
+    ∷ []) (None ∷ [])
+
+-- a refused refresh leaves the credential that was cached
+abbrev pub RefusedRefreshLeavesTheCache : Type 0
+RefusedRefreshLeavesTheCache =
+    IsWorked (one_cache Cred) (signed
+    ++ begin 0 2 gets Begun
+    ∷ poll 0 2 900 gets Ask 0
+    ∷ found 0 2 901 short gets refused (Short (at 600))
+    ∷ []) (Some seven ∷ [])
+
+-- a credential that is never fresh, and lasts
+abbrev pub never_fresh : Credential
+never_fresh = credential 7 0 1000 600
+
+-- whether a found credential is fresh is not asked: it is handed out and cached, and the next call loads again
+abbrev pub StaleRefreshIsHandedOut : Type 0
+StaleRefreshIsHandedOut =
+    IsWorked (one_cache Cred) (
+    begin 0 1 gets Begun
+    ∷ poll 0 1 500 gets Ask 0
+    ∷ found 0 1 501 never_fresh gets sign never_fresh
+    ∷ begin 0 2 gets Begun
+    ∷ poll 0 2 502 gets Ask 0
+    ∷ []) (Some never_fresh ∷ [])
 
 -- a cancel while the service signs leaves the cache, and no verdict fits any more
 abbrev pub CancelWhileSigningLeavesTheCache : Type 0

@@ -1,19 +1,17 @@
 -- Scripts of three calls that want one cache.
 use Rattle.std.specs.Prelude.{List, [], ◌∷◌, ◌++◌, Some, None}
 use Rattle.sequential_signer.specs.declared.event.Entry.{Entry}
+use Rattle.sequential_signer.specs.declared.event.Event.{Event}
 use Rattle.sequential_signer.specs.declared.event.Reply.TheVariants.{Begun, Pending, Ask}
-use Rattle.sequential_signer.specs.declared.event.Why.TheVariants.{Missing, Short, Loader}
-use Rattle.worked_scripts.specs.Script.{Credential, Now, at}
-use Rattle.worked_scripts.specs.Words.{◌gets◌, credential, begin, poll, found, missing, failed, cancel, sign, sign_wake, refused_wake, cancelled, cancelled_wake, one_cache, IsWorked}
+use Rattle.sequential_signer.specs.declared.event.Why.{Why}
+use Rattle.sequential_signer.specs.declared.event.Why.TheVariants.{Missing, Short, Range, Loader}
+use Rattle.worked_scripts.specs.WorkedPolicy.{Credential, Now, at}
+use Rattle.worked_scripts.specs.Words.{◌gets◌, credential, lasting, longest, begin, begin_for, poll, found, missing, failed, cancel, sign, sign_wake, refused_wake, cancelled, cancelled_wake, one_cache, IsWorked}
 
--- what the provider finds
-abbrev pub one : Credential
-one = credential 1 900 1000 0
-
--- the first call asks, and the others wait
-abbrev pub two_wait : List (Entry Credential)
-two_wait =
-    begin 0 1 gets Begun
+-- the first call, begun by this event, asks, and the others wait
+abbrev pub two_wait_behind : Event Credential → List (Entry Credential)
+two_wait_behind first =
+    first gets Begun
     ∷ begin 0 2 gets Begun
     ∷ begin 0 3 gets Begun
     ∷ poll 0 1 5 gets Ask 0
@@ -21,24 +19,20 @@ two_wait =
     ∷ poll 0 3 5 gets Pending
     ∷ []
 
+-- the first call asks, and the others wait
+abbrev pub two_wait : List (Entry Credential)
+two_wait = two_wait_behind (begin 0 1)
+
 -- each is handed what the first one found, and wakes the next
 abbrev pub WaitersReuseTheFoundCredential : Type 0
 WaitersReuseTheFoundCredential =
     IsWorked (one_cache Now) (two_wait
-    ++ found 0 1 6 one gets sign_wake one 0 2
-    ∷ poll 0 2 7 gets sign_wake one 0 3
-    ∷ poll 0 3 7 gets sign one
-    ∷ []) (Some one ∷ [])
+    ++ found 0 1 6 (lasting 1) gets sign_wake (lasting 1) 0 2
+    ∷ poll 0 2 7 gets sign_wake (lasting 1) 0 3
+    ∷ poll 0 3 7 gets sign (lasting 1)
+    ∷ []) (Some (lasting 1) ∷ [])
 
--- a failed load wakes the next call, which loads for itself
-abbrev pub FailedLoadWakesTheNext : Type 0
-FailedLoadWakesTheNext =
-    IsWorked (one_cache Now) (two_wait
-    ++ failed 0 1 6 42 gets refused_wake (Loader 42) 0 2
-    ∷ poll 0 2 7 gets Ask 0
-    ∷ []) (None ∷ [])
-
--- so does a cancel of the call that loads
+-- a cancel of the call that loads wakes the next call, which loads for itself
 abbrev pub CancelledLoadWakesTheNext : Type 0
 CancelledLoadWakesTheNext =
     IsWorked (one_cache Now) (two_wait
@@ -50,20 +44,20 @@ CancelledLoadWakesTheNext =
 abbrev pub CancelledTurnWakesTheNext : Type 0
 CancelledTurnWakesTheNext =
     IsWorked (one_cache Now) (two_wait
-    ++ found 0 1 6 one gets sign_wake one 0 2
+    ++ found 0 1 6 (lasting 1) gets sign_wake (lasting 1) 0 2
     ∷ cancel 0 2 gets cancelled_wake 0 3
-    ∷ poll 0 3 7 gets sign one
-    ∷ []) (Some one ∷ [])
+    ∷ poll 0 3 7 gets sign (lasting 1)
+    ∷ []) (Some (lasting 1) ∷ [])
 
 -- a waiter that is cancelled wakes nobody, and is passed over
 abbrev pub CancelledWaiterIsPassedOver : Type 0
 CancelledWaiterIsPassedOver =
     IsWorked (one_cache Now) (two_wait
     ++ cancel 0 2 gets cancelled
-    ∷ found 0 1 6 one gets sign_wake one 0 3
-    ∷ []) (Some one ∷ [])
+    ∷ found 0 1 6 (lasting 1) gets sign_wake (lasting 1) 0 3
+    ∷ []) (Some (lasting 1) ∷ [])
 
--- the order of first polls counts, and not that of begins
+-- the calls stand in the order of their first polls, and not of their begins
 abbrev pub FirstPollsSetTheOrder : Type 0
 FirstPollsSetTheOrder =
     IsWorked (one_cache Now) (
@@ -77,26 +71,26 @@ FirstPollsSetTheOrder =
 abbrev pub WokenCallKeepsItsTurn : Type 0
 WokenCallKeepsItsTurn =
     IsWorked (one_cache Now) (two_wait
-    ++ found 0 1 6 one gets sign_wake one 0 2
+    ++ found 0 1 6 (lasting 1) gets sign_wake (lasting 1) 0 2
     ∷ begin 0 4 gets Begun
     ∷ poll 0 4 7 gets Pending
     ∷ cancel 0 2 gets cancelled_wake 0 3
-    ∷ poll 0 3 8 gets sign_wake one 0 4
-    ∷ poll 0 4 9 gets sign one
-    ∷ []) (Some one ∷ [])
+    ∷ poll 0 3 8 gets sign_wake (lasting 1) 0 4
+    ∷ poll 0 4 9 gets sign (lasting 1)
+    ∷ []) (Some (lasting 1) ∷ [])
 
--- one that expires at the moment of its answer
-abbrev pub expiring : Credential
-expiring = credential 2 900 6 0
-
--- each refusal of a load wakes the next call: a miss, and a credential that does not last
-abbrev pub EachRefusalWakesTheNext : Type 0
-EachRefusalWakesTheNext =
-    IsWorked (one_cache Now) (two_wait
-    ++ missing 0 1 6 gets refused_wake Missing 0 2
+-- a call whose load is refused for this cause wakes the next, which loads for itself
+abbrev pub RefusalWakesTheNext : Event Credential → Event Credential → Why → Type 0
+RefusalWakesTheNext first answer cause =
+    IsWorked (one_cache Now) (two_wait_behind first
+    ++ answer gets refused_wake cause 0 2
     ∷ poll 0 2 7 gets Ask 0
     ∷ []) (None ∷ [])
-    × IsWorked (one_cache Now) (two_wait
-    ++ found 0 1 6 expiring gets refused_wake (Short (at 6)) 0 2
-    ∷ poll 0 2 7 gets Ask 0
-    ∷ []) (Some expiring ∷ [])
+
+-- so it is for each cause: no credential, a failure, one that expires at its deadline, and a deadline out of range
+abbrev pub EachRefusalWakesTheNext : Type 0
+EachRefusalWakesTheNext =
+    RefusalWakesTheNext (begin 0 1) (missing 0 1 6) Missing
+    × RefusalWakesTheNext (begin 0 1) (failed 0 1 6 42) (Loader 42)
+    × RefusalWakesTheNext (begin 0 1) (found 0 1 6 (credential 2 900 6 0)) (Short (at 6))
+    × RefusalWakesTheNext (begin_for 0 1 longest) (found 0 1 6 (lasting 2)) Range

@@ -6,17 +6,17 @@ use Rattle.sign_base.specs.declared.head.Version.TheVariants.{V11}
 use Rattle.wake_lock.specs.declared.CallId.{CallId}
 use Rattle.sequential_signer.specs.Setup.{Setup, Handle}
 use Rattle.sequential_signer.specs.SequentialCache.{sequential_cache}
-use Rattle.sequential_signer.specs.Legal.{entries_due}
+use Rattle.sequential_signer.specs.Legal.{expected_entries}
 use Rattle.sequential_signer.specs.declared.event.Entry.{Entry}
 use Rattle.sequential_signer.specs.declared.event.Event.{Event}
 use Rattle.sequential_signer.specs.declared.event.Event.TheVariants.{Begin, Poll, Provided, Signed, Cancel}
 use Rattle.sequential_signer.specs.declared.event.Answer.TheVariants as answer
-use Rattle.sequential_signer.specs.declared.event.Loader.TheVariants.{Single}
+use Rattle.sequential_signer.specs.declared.event.Loader.TheVariants.{Single, Chain}
 use Rattle.sequential_signer.specs.declared.event.Reply.{Reply}
 use Rattle.sequential_signer.specs.declared.event.Reply.TheVariants.{Sign, Refused, Cancelled}
 use Rattle.sequential_signer.specs.declared.event.Verdict.TheVariants as verdict
 use Rattle.sequential_signer.specs.declared.event.Why.{Why}
-use Rattle.worked_scripts.specs.Script.{Credential, Rule, at, script_policy}
+use Rattle.worked_scripts.specs.WorkedPolicy.{Credential, Rule, Now, at, worked_policy}
 
 infix 70 ◌gets◌
 -- an event with its reply
@@ -27,6 +27,14 @@ event gets reply = record { event = event; reply = reply }
 abbrev pub credential : ℕ → ℕ → ℕ → ℕ → Credential
 credential generation fresh expires required =
     record { generation = generation; fresh = at fresh; expires = at expires; required = at required }
+
+-- a credential that is fresh until second 900 and expires at second 1000, by its number
+abbrev pub lasting : ℕ → Credential
+lasting generation = credential generation 900 1000 0
+
+-- the greatest number of seconds that a duration has
+abbrev pub longest : ℕ
+longest = 18_446_744_073_709_551_615
 
 -- the call of the handle and the number
 abbrev pub call : ℕ → ℕ → CallId
@@ -108,12 +116,16 @@ handle_on cache rule = record { cache = cache; rule = rule }
 abbrev pub one_cache : Rule → Setup Rule
 one_cache rule = record { loaders = Single ∷ []; rules = rule ∷ []; handles = handle_on 0 0 ∷ [] }
 
+-- one cache with a chain of so many providers, and one handle with the rule by which a credential must outlast the operation
+abbrev pub one_chain : ℕ → Setup Rule
+one_chain providers = record { loaders = Chain providers ∷ []; rules = Now ∷ []; handles = handle_on 0 0 ∷ [] }
+
 -- the caches that a transcript leaves
 abbrev pub caches_left : Setup Rule → List (Entry Credential) → List (Option Credential)
 caches_left setup entries =
-    map (λ i. sequential_cache script_policy setup entries i) (range_with_len 0 (length setup.loaders))
+    map (λ i. sequential_cache worked_policy setup entries i) (range_with_len 0 (length setup.loaders))
 
 -- each event of the table gets the reply beside it, and these caches are left
 abbrev pub IsWorked : Setup Rule → List (Entry Credential) → List (Option Credential) → Type 0
 IsWorked setup table caches =
-    (entries_due script_policy setup (map (λ e. e.event) table) ≡ table) × (caches_left setup table ≡ caches)
+    (expected_entries worked_policy setup (map (λ e. e.event) table) ≡ table) × (caches_left setup table ≡ caches)

@@ -1,6 +1,6 @@
 //! One call, and calls one after another.
 
-ghost use Rattle.worked_scripts.specs.OneCall.{OneCallIsSigned, SecondCallReusesTheCache, StaleCredentialIsLoadedAgain, ShortCredentialIsRefused, CancelWhileSigningLeavesTheCache, ServiceFailureLeavesTheCache, MomentsMayGoBack};
+ghost use Rattle.worked_scripts.specs.OneCall.{OneCallIsSigned, SecondCallReusesTheCache, StaleCredentialIsLoadedAgain, ShortCredentialIsRefused, RefusedRefreshLeavesTheCache, StaleRefreshIsHandedOut, CancelWhileSigningLeavesTheCache, ServiceFailureLeavesTheCache, MomentsMayGoBack};
 
 /// A call on an empty cache loads a credential, and its head is signed.
 pub fn one_call_is_signed()
@@ -17,9 +17,19 @@ pub fn stale_credential_is_loaded_again()
     ensures { StaleCredentialIsLoadedAgain }
 {}
 
-/// A credential that expires at its deadline is refused, and stays cached.
+/// A credential that expires at its deadline is refused, and not cached.
 pub fn short_credential_is_refused()
     ensures { ShortCredentialIsRefused }
+{}
+
+/// A refused refresh leaves the credential that was cached.
+pub fn refused_refresh_leaves_the_cache()
+    ensures { RefusedRefreshLeavesTheCache }
+{}
+
+/// A found credential that is not fresh is handed out where it lasts; the next call loads again.
+pub fn stale_refresh_is_handed_out()
+    ensures { StaleRefreshIsHandedOut }
 {}
 
 /// A cancel while the service signs leaves the cache.

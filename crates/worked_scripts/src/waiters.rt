@@ -1,18 +1,13 @@
 //! Three calls that want one cache.
 
-ghost use Rattle.worked_scripts.specs.Waiters.{WaitersReuseTheFoundCredential, FailedLoadWakesTheNext, CancelledLoadWakesTheNext, CancelledTurnWakesTheNext, CancelledWaiterIsPassedOver, FirstPollsSetTheOrder, WokenCallKeepsItsTurn, EachRefusalWakesTheNext};
+ghost use Rattle.worked_scripts.specs.Waiters.{WaitersReuseTheFoundCredential, CancelledLoadWakesTheNext, CancelledTurnWakesTheNext, CancelledWaiterIsPassedOver, FirstPollsSetTheOrder, WokenCallKeepsItsTurn, EachRefusalWakesTheNext};
 
 /// Each waiter is handed what the first call found.
 pub fn waiters_reuse_the_found_credential()
     ensures { WaitersReuseTheFoundCredential }
 {}
 
-/// A failed load wakes the next call, which loads for itself.
-pub fn failed_load_wakes_the_next()
-    ensures { FailedLoadWakesTheNext }
-{}
-
-/// A cancel of the call that loads wakes the next.
+/// A cancel of the call that loads wakes the next call, which loads for itself.
 pub fn cancelled_load_wakes_the_next()
     ensures { CancelledLoadWakesTheNext }
 {}
@@ -27,7 +22,7 @@ pub fn cancelled_waiter_is_passed_over()
     ensures { CancelledWaiterIsPassedOver }
 {}
 
-/// The order of first polls counts, and not that of begins.
+/// Calls stand in the order of their first polls, and not of their begins.
 pub fn first_polls_set_the_order()
     ensures { FirstPollsSetTheOrder }
 {}
@@ -37,7 +32,7 @@ pub fn woken_call_keeps_its_turn()
     ensures { WokenCallKeepsItsTurn }
 {}
 
-/// Each refusal of a load wakes the next call.
+/// A refusal of a load, for whichever cause, wakes the next call, which loads for itself.
 pub fn each_refusal_wakes_the_next()
     ensures { EachRefusalWakesTheNext }
 {}

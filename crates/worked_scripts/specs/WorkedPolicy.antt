@@ -20,18 +20,18 @@ pub data Rule : Type 0 where
   Cred : Rule
 
 -- now, or the end of an operation that takes so long
-abbrev pub end_of : ℤ → Option ℕ → Option ℤ
-end_of now None = Some now
-end_of now (Some duration) = add_moment now duration
+abbrev pub end_of_operation : ℤ → Option ℕ → Option ℤ
+end_of_operation now None = Some now
+end_of_operation now (Some duration) = add_moment now duration
 
 -- the deadline by the rule
 abbrev pub deadline_of : Rule → Credential → Option ℕ → ℤ → Option ℤ
-deadline_of Now c duration now = end_of now duration
+deadline_of Now c duration now = end_of_operation now duration
 deadline_of Cred c duration now = Some c.required
 
 -- fresh before its moment, and lasting to each deadline before it expires
-abbrev pub script_policy : Policy Credential Rule
-script_policy = record {
+abbrev pub worked_policy : Policy Credential Rule
+worked_policy = record {
   valid = λ c now. int_lt now c.fresh;
   valid_at = λ c deadline now. int_lt deadline c.expires;
   deadline = deadline_of;
