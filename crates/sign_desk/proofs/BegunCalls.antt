@@ -18,13 +18,13 @@ use Rattle.sequential_signer.specs.declared.event.Reply.TheVariants.{Begun, Pend
 use Rattle.sequential_signer.proofs.Lists.{filter-more_yes, filter-more_no, or_true, list_any-more}
 use Rattle.wake_lock.proofs.Calls.{same_call-eq, same_call-refl, same_call-comm}
 use Rattle.wake_lock.proofs.Truth.{number_refl, and_left, and_right, or_left, or_right}
-use Rattle.sequential_signer.proofs.Happens.{Happens, misfits, begins, waits, idles, looks, gets, accepts, fails, cancels}
+use Rattle.sequential_signer.proofs.LegalStep.{LegalStep, not_now, begins, waits, pending, looks, takes_effect, accepts, fails, cancels}
 use Rattle.sequential_signer.proofs.Run.{IsRun, start, more}
 use Rattle.sequential_signer.specs.SequentialCall.{Progress, Asking, Over}
 use Rattle.sequential_signer.specs.Lookup.{HandOut, Refuse}
-use Rattle.sequential_signer.specs.ReplyDue.{progress_reply, with_wake}
-use Rattle.sequential_signer.proofs.Standing.{phase-other}
-use Rattle.sign_desk.specs.QueueDue.{begun_calls}
+use Rattle.sequential_signer.specs.ExpectedReply.{progress_reply, with_wake}
+use Rattle.sequential_signer.proofs.CallInvariant.{phase-other}
+use Rattle.sign_desk.specs.TranscriptQueue.{begun_calls}
 
 once-more : (call : CallId) (xs : List CallId) → IsOnce xs → list_any (same_call call) xs ≡ false → IsOnce (xs ++ call ∷ [])
 once-more call [] o h = (refl, tt)
@@ -75,11 +75,13 @@ not_below : (n : ℕ) → nat_lt n n ≡ false
 not_below n = grind (arith, nat_tests)
 
 module _ {K : Type 0} where
+  -- an accepted begin adds its call
   pub begun_calls-begun : (entries : List (Entry K)) (e : Entry K) → is_begun e.reply ≡ true → begun_calls (entries ++ e ∷ []) ≡ begun_calls entries ++ call_of e.event ∷ []
   unfolding begun_calls
   begun_calls-begun entries e h =
       rw (filter-more_yes (λ (x : Entry K). is_begun x.reply) entries e h) (map-append (λ (x : Entry K). call_of x.event) (filter (λ (x : Entry K). is_begun x.reply) entries) (e ∷ []))
 
+  -- every other entry adds none
   pub begun_calls-same : (entries : List (Entry K)) (e : Entry K) → is_begun e.reply ≡ false → begun_calls (entries ++ e ∷ []) ≡ begun_calls entries
   unfolding begun_calls
   begun_calls-same entries e h = rw (filter-more_no (λ (x : Entry K). is_begun x.reply) entries e h) refl
@@ -141,20 +143,20 @@ wake_begun (Over (HandOut c) cache) wake = refl
 wake_begun (Over (Refuse why) cache) wake = refl
 
 module _ {K D : Type 0} (policy : Policy K D) (setup : Setup D) where
-  once_row : (entries : List (Entry K)) (event : Event K) (reply : Reply K) → IsOnce (begun_calls entries) → Happens policy setup entries event reply → IsOnce (begun_calls (entries ++ record { event = event; reply = reply } ∷ []))
+  once_row : (entries : List (Entry K)) (event : Event K) (reply : Reply K) → IsOnce (begun_calls entries) → LegalStep policy setup entries event reply → IsOnce (begun_calls (entries ++ record { event = event; reply = reply } ∷ []))
   once_row entries event reply o row = by_row event reply row
     where
       same : (event : Event K) (reply : Reply K) → is_begun reply ≡ false → IsOnce (begun_calls (entries ++ record { event = event; reply = reply } ∷ []))
       same event reply h = rw (begun_calls-same entries (record { event = event; reply = reply }) h) o
 
-      by_row : (event : Event K) (reply : Reply K) → Happens policy setup entries event reply → IsOnce (begun_calls (entries ++ record { event = event; reply = reply } ∷ []))
-      by_row event NotNow (misfits _) = same event NotNow refl
+      by_row : (event : Event K) (reply : Reply K) → LegalStep policy setup entries event reply → IsOnce (begun_calls (entries ++ record { event = event; reply = reply } ∷ []))
+      by_row event NotNow (not_now _) = same event NotNow refl
       by_row event Begun (begins call head expires_in i at new) =
           rw (begun_calls-begun entries (record { event = Begin call head expires_in; reply = Begun }) refl) (once-more call (begun_calls entries) o (new_absent call entries new))
       by_row event Pending (waits call now i _ _ _) = same (Poll call now) Pending refl
-      by_row event Pending (idles call now _) = same (Poll call now) Pending refl
+      by_row event Pending (pending call now _) = same (Poll call now) Pending refl
       by_row event reply (looks call now i progress wake _ _ _) = same (Poll call now) (with_wake (progress_reply progress) wake) (wake_begun progress wake)
-      by_row event reply (gets call now answer i progress wake _ _) = same (Provided call now answer) (with_wake (progress_reply progress) wake) (wake_begun progress wake)
+      by_row event reply (takes_effect call now answer i progress wake _ _) = same (Provided call now answer) (with_wake (progress_reply progress) wake) (wake_begun progress wake)
       by_row event reply (accepts call candidate _) = same event reply refl
       by_row event reply (fails call e i _ _) = same event reply refl
       by_row event reply (cancels call wake _) = same event reply refl
@@ -173,6 +175,7 @@ module _ {K D : Type 0} (policy : Policy K D) (setup : Setup D) where
     abbrev passing : List (Entry K) → List CallId
     passing es = filter (λ call. t call (phase_of es call)) (begun_calls es)
 
+    -- the same ones, where the test of the entry's call gives the same
     pub passing-same : is_begun e.reply ≡ false → t (call_of e.event) (phase_of entries (call_of e.event)) ≡ t (call_of e.event) (phase_of (entries ++ e ∷ []) (call_of e.event)) → passing (entries ++ e ∷ []) ≡ passing entries
     passing-same b h =
         rw (begun_calls-same entries e b)
@@ -182,6 +185,7 @@ module _ {K D : Type 0} (policy : Policy K D) (setup : Setup D) where
         agree call true s = rw (same_call-eq call (call_of e.event) s) (sym h)
         agree call false s = ap (t call) (phase-other setup entries 0 e call s)
 
+    -- one fewer, where the entry's call passed and does not any more
     pub passing-fewer : IsRun policy setup entries → is_begun e.reply ≡ false → is_some (begin_of entries (call_of e.event)) ≡ true
         → t (call_of e.event) (phase_of entries (call_of e.event)) ≡ true → t (call_of e.event) (phase_of (entries ++ e ∷ []) (call_of e.event)) ≡ false
         → length (passing entries) ≡ length (passing (entries ++ e ∷ [])) + 1
@@ -200,6 +204,7 @@ module _ {K D : Type 0} (policy : Policy K D) (setup : Setup D) where
             let out : list_any (same_call call) (begun_calls entries) ≡ false = ap (λ c. list_any (same_call c) (begun_calls entries)) (same_call-eq call (call_of e.event) s) ∙ new_absent (call_of e.event) entries new in
             absurd (cc)
 
+    -- one more, where a begun call passes
     pub passing-more : is_begun e.reply ≡ true → is_new_number entries (call_of e.event) ≡ true → t (call_of e.event) (phase_of (entries ++ e ∷ []) (call_of e.event)) ≡ true → length (passing (entries ++ e ∷ [])) ≡ length (passing entries) + 1
     passing-more b new passes =
         rw (begun_calls-begun entries e b)
@@ -207,6 +212,7 @@ module _ {K D : Type 0} (policy : Policy K D) (setup : Setup D) where
         ∙ length-append (filter (λ call. t call (phase_of (entries ++ e ∷ []) call)) (begun_calls entries)) (call_of e.event ∷ [])
         ∙ ap (λ (xs : List CallId). length xs + 1) (new_agree new))
 
+    -- the same ones, where a begun call does not pass
     pub passing-no_more : is_begun e.reply ≡ true → is_new_number entries (call_of e.event) ≡ true → t (call_of e.event) (phase_of (entries ++ e ∷ []) (call_of e.event)) ≡ false → passing (entries ++ e ∷ []) ≡ passing entries
     passing-no_more b new misses =
         rw (begun_calls-begun entries e b)

@@ -9,8 +9,8 @@ use Rattle.std.specs.Map.{lookup}
 use Rattle.std.specs.Option.{option_copied_mut}
 use Rattle.wake_lock.specs.declared.CallId.{CallId}
 use Rattle.wake_lock.specs.Calls.{same_call}
-use Rattle.sign_desk.specs.Kept.{Kept, find_call}
-use Rattle.sign_desk.specs.Moves.{Keeps, one_if}
+use Rattle.sign_desk.specs.DeskState.{DeskState, find_call}
+use Rattle.sign_desk.specs.Change.{ChangesOnlyCall, one_if}
 use Rattle.sign_desk.specs.declared.calls.CallRecord.{CallRecord}
 use Rattle.wake_lock.proofs.Calls.{same_call-refl}
 
@@ -19,6 +19,7 @@ module _ (cmp : CallId → CallId → Ordering) (same : (a b : CallId) → is_eq
   lookup_is q [] = refl
   lookup_is q (e ∷ es) = rw (same q e.0, lookup_is q es) refl
 
+  -- what the map has under a name is what is found under it
   pub get_is : (m : BTreeMap CallId CallRecord) (q : CallId) → get cmp m q ≡ find_call q m.entries
   get_is m q = lookup_is q m.entries
 
@@ -27,11 +28,11 @@ module _ (cmp : CallId → CallId → Ordering) (same : (a b : CallId) → is_eq
   find_call-after m n k w h q = sym (get_is n q) ∙ h q ∙ ap (λ v. cond v w (get cmp m q)) (same k q) ∙ ap (λ v. cond (same_call k q) w v) (get_is m q)
 
 -- a desk in whose map one call changed keeps all else
-pub calls-keep : {K D : Type 0} (base : Kept K D) (entries : List (CallId × CallRecord)) (call : CallId) (w : Option CallRecord)
+pub calls-insert_record : {K D : Type 0} (base : DeskState K D) (entries : List (CallId × CallRecord)) (call : CallId) (w : Option CallRecord)
     → ((q : CallId) → find_call q entries ≡ cond (same_call call q) w (find_call q base.calls))
     → length entries + one_if (find_call call base.calls) ≡ length base.calls + one_if w
-    → Keeps base call w (record base { calls = entries })
-calls-keep base entries call w after count = record {
+    → ChangesOnlyCall base call w (record base { calls = entries })
+calls-insert_record base entries call w after count = record {
   loaders = refl;
   rules = refl;
   handles = refl;
@@ -69,6 +70,7 @@ pub count-removed : {X : Type 0} (n m : ℕ) (result kept : Option X) → result
 count-removed n m None kept e h = rw (← e) (h ∙ sym (add-zero m))
 count-removed n m (Some x) kept e h = rw (← e) (h ∙ sym (add-zero m))
 
+-- the same, where the call is added
 pub count-added : {X : Type 0} (n m : ℕ) (old kept : Option X) → old ≡ kept → n ≡ m + (if is_some old then 0 else 1) → n + one_if kept ≡ m + 1
 count-added n m None kept e h = rw (← e) (ap (λ k. k + 0) h ∙ add-zero (m + 1))
 count-added n m (Some x) kept e h = rw (← e) (ap (λ k. k + 1) h ∙ ap (λ k. k + 1) (add-zero m))

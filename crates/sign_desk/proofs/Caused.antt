@@ -1,132 +1,114 @@
--- What a desk answers, by its cause.
-use Rattle.std.proofs.Common.{ℕ, ℤ, Bool, true, false, cond, ◌+◌, nat_lt, Option, Some, None, slice_get, refl, inl, inr}
-use Rattle.std.specs.declared.time.Duration.{Duration}
-use Rattle.sign_base.specs.declared.head.Head.{Head}
+-- What a desk replies, by its cause.
+use Rattle.std.proofs.Common.{◌≡◌, ℤ, Bool, true, false, cond, Option, Some, None, slice_get, refl, sym, subst, inl, inr}
 use Rattle.wake_lock.specs.declared.CallId.{CallId}
+use Rattle.wake_lock.specs.Calls.{is_first}
 use Rattle.sequential_signer.specs.Policy.{Policy}
-use Rattle.sequential_signer.specs.Lookup.{Outcome, HandOut, Refuse}
+use Rattle.sequential_signer.specs.Lookup.{HandOut, Refuse}
 use Rattle.sequential_signer.specs.SequentialCall.{Progress, Asking, Over}
 use Rattle.sequential_signer.specs.Setup.{Handle}
-use Rattle.sequential_signer.specs.declared.event.Answer.{Answer}
-use Rattle.sequential_signer.specs.declared.event.Answer.TheVariants.{Found, Missing, Failed}
+use Rattle.sequential_signer.specs.Transcript.{call_of}
 use Rattle.sequential_signer.specs.declared.event.Event.{Event}
 use Rattle.sequential_signer.specs.declared.event.Event.TheVariants.{Begin, Poll, Provided, Signed, Cancel}
-use Rattle.sequential_signer.specs.declared.event.Loader.{Loader}
-use Rattle.sequential_signer.specs.declared.event.Loader.TheVariants.{Single, Chain}
 use Rattle.sequential_signer.specs.declared.event.Reply.{Reply}
-use Rattle.sequential_signer.specs.declared.event.Reply.TheVariants.{Begun, Pending, NotNow, OutOfMemory, Ask, Sign, Refused, Done, Cancelled}
+use Rattle.sequential_signer.specs.declared.event.Reply.TheVariants.{Begun, NotNow, OutOfMemory}
 use Rattle.sequential_signer.specs.declared.event.Verdict.{Verdict}
-use Rattle.sequential_signer.specs.declared.event.Verdict.TheVariants.{Accepted}
-use Rattle.sequential_signer.specs.declared.event.Verdict.TheVariants as verdict
-use Rattle.sequential_signer.specs.declared.event.Why.{Why}
-use Rattle.sequential_signer.specs.declared.event.Why.TheVariants as why
-use Rattle.wake_lock.specs.Calls.{is_first}
-use Rattle.sign_desk.specs.Queue.{is_held_line, woken, entered, passed, left, line_at}
-use Rattle.sign_desk.specs.Kept.{Kept, find_call}
+use Rattle.sequential_signer.specs.declared.event.Verdict.TheVariants.{Accepted, Failed}
+use Rattle.sign_desk.specs.Queue.{is_held_line, line_at}
+use Rattle.sign_desk.specs.DeskState.{DeskState, find_call}
+use Rattle.sign_desk.specs.LiveCallView.{stored_view, find_view}
+use Rattle.sign_desk.specs.Action.{Action, Leaves, Does, Allocates, Performs}
+use Rattle.sign_desk.specs.BeginAction.{can_begin, with_begin, new_record}
+use Rattle.sign_desk.specs.HoldProgress.{desk_lookup, desk_load}
+use Rattle.sign_desk.specs.HoldAction.{Hold, first_hold, waited_hold, loading_hold, hold_action}
+use Rattle.sign_desk.specs.Transition.{first_poll_action, later_poll_action, poll_action, load_action, provided_action, accept_action, signed_action, cancel_action, live_action, action_of, with_answer, Transition}
+use Rattle.sign_desk.specs.Cause.{Cause, DoesNotFit, MustWait, Proceeds, TakesMemory, progress_cause, poll_cause, provided_cause, signed_cause, live_cause, cause_of, IsCaused}
 use Rattle.sign_desk.specs.declared.calls.CallRecord.{CallRecord}
 use Rattle.sign_desk.specs.declared.calls.Stage.{Stage}
 use Rattle.sign_desk.specs.declared.calls.Stage.TheVariants as stage
-use Rattle.sign_desk.specs.Moves.{BeginMoves, LookMoves, FirstPollMoves, NextPollMoves, PollAt, FoundMoves, NextMoves, LoadMoves, ProvidedAt, SignedAt, CancelAt, MovesBy, Moves, begin_fits_kept, with_queue, kept_look, kept_found, next_load}
-use Rattle.sign_desk.specs.Cause.{DoesNotFit, MustWait, GoesOn, TakesMemory, progress_cause, found_cause, poll_cause, load_cause, provided_cause, signed_cause, live_cause, cause_of, IsCaused}
+use Rattle.sign_desk.specs.declared.state.LiveCallView.{LiveCallView}
+use Rattle.sign_desk.proofs.Views.{find_view-no_record, find_view-no_handle, find_view-is}
 
-module _ {K D : Type 0} (policy : Policy K D) (old new : Kept K D) where
-  look_caused : (asked over : Kept K D) (call : CallId) (r : CallRecord) (wake : Option CallId) (o : Option (Progress K)) (reply : Reply K) → LookMoves old asked over call r wake o reply new → IsCaused (progress_cause o) reply
-  look_caused asked over call r wake None reply m = absurd m
-  look_caused asked over call r wake (Some (Asking n)) reply m = rw (m.0) refl
-  look_caused asked over call r wake (Some (Over (HandOut c) after)) reply (inl m) = inl (rw (m.0) refl)
-  look_caused asked over call r wake (Some (Over (HandOut c) after)) reply (inr m) = inr m.0
-  look_caused asked over call r wake (Some (Over (Refuse y) after)) reply m = (wake, m.0)
+module _ {K D : Type 0} where
+  -- what is done has this cause: each reply that it may give
+  abbrev pub HasCause : Cause → Action K D → Type 0
+  HasCause cause (Leaves reply) = IsCaused cause reply
+  HasCause cause (Does effect) = IsCaused cause effect.reply
+  HasCause cause (Allocates effect) = IsCaused cause effect.reply × IsCaused {K = K} cause OutOfMemory
 
-  first_caused : (call : CallId) (h : Handle) (r : CallRecord) (held : Bool) (o : Option (Progress K)) (reply : Reply K) → FirstPollMoves old call h r held o reply new → IsCaused (cond held MustWait (progress_cause o)) reply
-  first_caused call h r true o reply m = m.0
-  first_caused call h r false o reply m = look_caused (with_queue (entered call) h.cache old) (with_queue passed h.cache old) call r None o reply m
+  performed-caused : (cause : Cause) (action : Action K D) → HasCause cause action → (call : CallId) (old : DeskState K D) (reply : Reply K) (new : DeskState K D) → Performs action call old reply new → IsCaused cause reply
+  performed-caused cause (Leaves given) k call old reply new m = rw (m.0) k
+  performed-caused cause (Does effect) k call old reply new m = rw (m.0) k
+  performed-caused cause (Allocates effect) k call old reply new (inl m) = rw (m.0) (k.0)
+  performed-caused cause (Allocates effect) k call old reply new (inr m) = rw (m.0) (k.1)
 
-  next_caused : (call : CallId) (h : Handle) (r : CallRecord) (holds : Bool) (o : Option (Progress K)) (reply : Reply K) → NextPollMoves old call h r holds o reply new → IsCaused (cond holds (progress_cause o) MustWait) reply
-  next_caused call h r false o reply m = m.0
-  next_caused call h r true o reply m = look_caused old (with_queue (left call) h.cache old) call r (woken call (line_at h.cache old.queues)) o reply m
+  hold_caused : (hold : Hold K D) (view : LiveCallView) (progress : Option (Progress K)) → HasCause (progress_cause progress) (hold_action hold view progress)
+  hold_caused hold view None = refl
+  hold_caused hold view (Some (Asking k)) = refl
+  hold_caused hold view (Some (Over (HandOut c) left)) = (inl refl, inr refl)
+  hold_caused hold view (Some (Over (Refuse why) left)) = (hold.wake, refl)
 
-  poll_caused : (call : CallId) (now : ℤ) (h : Handle) (r : CallRecord) (s : Stage) (reply : Reply K) → PollAt policy old call now h r s reply new → IsCaused (poll_cause policy old call now h r s) reply
-  poll_caused call now h r stage.Fresh reply m = first_caused call h r (is_held_line (line_at h.cache old.queues)) (kept_look policy old h r now) reply m
-  poll_caused call now h r stage.Queued reply m = next_caused call h r (is_first call (line_at h.cache old.queues)) (kept_look policy old h r now) reply m
-  poll_caused call now h r stage.Loading reply m = m.0
-  poll_caused call now h r stage.Signing reply m = m.0
+  module _ (policy : Policy K D) (desk : DeskState K D) where
+    begin_caused : (b : Bool) (call : CallId) (live : CallRecord) → HasCause (cond b TakesMemory DoesNotFit) (cond b (Allocates (record { reply = Begun; desk = with_begin call desk; live = Some live })) (Leaves NotNow))
+    begin_caused true call live = (inl refl, inr refl)
+    begin_caused false call live = refl
 
-  found_caused : (call : CallId) (h : Handle) (r : CallRecord) (c : K) (o : Option (Outcome K)) (reply : Reply K) → FoundMoves old call h r c o reply new → IsCaused (found_cause o) reply
-  found_caused call h r c None reply m = absurd m
-  found_caused call h r c (Some (HandOut d)) reply (inl m) = inl (rw (m.0) refl)
-  found_caused call h r c (Some (HandOut d)) reply (inr m) = inr m.0
-  found_caused call h r c (Some (Refuse y)) reply (inl m) = inl (woken call (line_at h.cache old.queues), m.0)
-  found_caused call h r c (Some (Refuse y)) reply (inr m) = inr m.0
+    first_caused : (b : Bool) (view : LiveCallView) (look : Option (Progress K)) → HasCause (cond b MustWait (progress_cause look)) (first_poll_action desk view b look)
+    first_caused true view look = refl
+    first_caused false view look = hold_caused (first_hold desk view) view look
 
-  chain_caused : (call : CallId) (h : Handle) (r : CallRecord) (n : ℕ) (b : Bool) (reply : Reply K) → NextMoves old call h r (Some (cond b (Asking n) (Over (Refuse why.Missing) None))) reply new → IsCaused (progress_cause {K = Unit {0}} (Some (cond b (Asking n) (Over (Refuse why.Missing) None)))) reply
-  chain_caused call h r n true reply m = rw (m.0) refl
-  chain_caused call h r n false reply m = (woken call (line_at h.cache old.queues), m.0)
+    later_caused : (b : Bool) (view : LiveCallView) (look : Option (Progress K)) → HasCause (cond b (progress_cause look) MustWait) (later_poll_action desk view b look)
+    later_caused true view look = hold_caused (waited_hold desk view) view look
+    later_caused false view look = refl
 
-  more_caused : (call : CallId) (h : Handle) (r : CallRecord) (l : Option Loader) (count : ℕ) (cause : Why) (reply : Reply K) → NextMoves old call h r (next_load l count cause) reply new → IsCaused (progress_cause {K = Unit {0}} (next_load l count cause)) reply
-  more_caused call h r None count cause reply m = absurd m
-  more_caused call h r (Some Single) count cause reply m = (woken call (line_at h.cache old.queues), m.0)
-  more_caused call h r (Some (Chain n)) count cause reply m = chain_caused call h r count (nat_lt count n) reply m
+    poll_caused : (now : ℤ) (view : LiveCallView) (s : Stage) → HasCause (poll_cause policy desk now view s) (poll_action policy desk now view s)
+    poll_caused now view stage.Unpolled = first_caused (is_held_line (line_at view.cache desk.queues)) view (desk_lookup policy desk now view)
+    poll_caused now view stage.Queued = later_caused (is_first view.call (line_at view.cache desk.queues)) view (desk_lookup policy desk now view)
+    poll_caused now view stage.Loading = refl
+    poll_caused now view stage.Signing = refl
 
-  load_caused : (call : CallId) (now : ℤ) (h : Handle) (r : CallRecord) (answer : Answer K) (reply : Reply K) → LoadMoves policy old call now h r answer reply new → IsCaused (load_cause policy old now h r answer) reply
-  load_caused call now h r (Found c) reply m = found_caused call h r c (kept_found policy old h r c now) reply m
-  load_caused call now h r Missing reply m = more_caused call h r (slice_get old.loaders h.cache) (r.answers + 1) why.Missing reply m
-  load_caused call now h r (Failed e) reply m = more_caused call h r (slice_get old.loaders h.cache) (r.answers + 1) (why.Loader e) reply m
+    provided_caused : (cause : Cause) (load : Action K D) → HasCause cause load → (s : Stage) → HasCause (provided_cause cause s) (provided_action load s)
+    provided_caused cause load k stage.Loading = k
+    provided_caused cause load k stage.Unpolled = refl
+    provided_caused cause load k stage.Queued = refl
+    provided_caused cause load k stage.Signing = refl
 
-  provided_caused : (call : CallId) (now : ℤ) (h : Handle) (r : CallRecord) (answer : Answer K) (s : Stage) (reply : Reply K) → ProvidedAt policy old call now h r answer s reply new → IsCaused (provided_cause policy old now h r answer s) reply
-  provided_caused call now h r answer stage.Loading reply m = load_caused call now h r answer reply m
-  provided_caused call now h r answer stage.Fresh reply m = m.0
-  provided_caused call now h r answer stage.Queued reply m = m.0
-  provided_caused call now h r answer stage.Signing reply m = m.0
+    -- a service's answer at a call that has a record
+    signed_caused : (answer : Verdict) (view : LiveCallView) (r : CallRecord) → find_call view.call desk.calls ≡ Some r → (s : Stage) → HasCause (signed_cause answer s) (signed_action desk answer view s)
+    signed_caused (Accepted candidate) view r f stage.Signing = subst (λ (o : Option CallRecord). HasCause TakesMemory (accept_action desk candidate o)) (sym f) (inl refl, inr refl)
+    signed_caused (Failed e) view r f stage.Signing = (None, refl)
+    signed_caused (Accepted candidate) view r f stage.Unpolled = refl
+    signed_caused (Accepted candidate) view r f stage.Queued = refl
+    signed_caused (Accepted candidate) view r f stage.Loading = refl
+    signed_caused (Failed e) view r f stage.Unpolled = refl
+    signed_caused (Failed e) view r f stage.Queued = refl
+    signed_caused (Failed e) view r f stage.Loading = refl
 
-  signed_caused : (call : CallId) (r : CallRecord) (answer : Verdict) (s : Stage) (reply : Reply K) → SignedAt old call r answer s reply new → IsCaused (signed_cause answer s) reply
-  signed_caused call r (Accepted candidate) stage.Signing reply (inl m) = inl (rw (m.0) refl)
-  signed_caused call r (Accepted candidate) stage.Signing reply (inr m) = inr m.0
-  signed_caused call r (verdict.Failed e) stage.Signing reply m = (None, m.0)
-  signed_caused call r (Accepted candidate) stage.Fresh reply m = m.0
-  signed_caused call r (Accepted candidate) stage.Queued reply m = m.0
-  signed_caused call r (Accepted candidate) stage.Loading reply m = m.0
-  signed_caused call r (verdict.Failed e) stage.Fresh reply m = m.0
-  signed_caused call r (verdict.Failed e) stage.Queued reply m = m.0
-  signed_caused call r (verdict.Failed e) stage.Loading reply m = m.0
+    cancel_caused : (view : LiveCallView) (s : Stage) → HasCause Proceeds (cancel_action desk view s)
+    cancel_caused view stage.Unpolled = refl
+    cancel_caused view stage.Queued = refl
+    cancel_caused view stage.Loading = refl
+    cancel_caused view stage.Signing = refl
 
-  cancel_caused : (call : CallId) (h : Handle) (s : Stage) (reply : Reply K) → CancelAt old call h s reply new → IsCaused GoesOn reply
-  cancel_caused call h stage.Fresh reply m = rw (m.0) refl
-  cancel_caused call h stage.Queued reply m = rw (m.0) refl
-  cancel_caused call h stage.Loading reply m = rw (m.0) refl
-  cancel_caused call h stage.Signing reply m = rw (m.0) refl
+    -- what is done at a live call has its cause, where it has at a handle and a record
+    live_caused : (call : CallId) (cause : LiveCallView → Cause) (action : LiveCallView → Action K D)
+        → ((h : Handle) (r : CallRecord) → find_call call desk.calls ≡ Some r → HasCause (cause (stored_view call h r)) (action (stored_view call h r)))
+        → HasCause (live_cause cause (find_view desk call)) (live_action action (find_view desk call))
+    live_caused call cause action each = by_view (slice_get desk.handles call.handle) refl (find_call call desk.calls) refl
+      where
+        by_view : (o : Option Handle) → slice_get desk.handles call.handle ≡ o → (f : Option CallRecord) → find_call call desk.calls ≡ f → HasCause (live_cause cause (find_view desk call)) (live_action action (find_view desk call))
+        by_view None under f found = rw (find_view-no_handle desk call under) refl
+        by_view (Some h) under None found = rw (find_view-no_record desk call found) refl
+        by_view (Some h) under (Some r) found = rw (find_view-is desk call h r under found) (each h r found)
 
-  begin_caused : (call : CallId) (head : Head) (expires_in : Option Duration) (reply : Reply K) → BeginMoves old call head expires_in reply new → IsCaused (cond (begin_fits_kept old call) TakesMemory DoesNotFit) reply
-  begin_caused call head expires_in Begun m = rw (m.0) (inl refl)
-  begin_caused call head expires_in NotNow m = rw (m.0) refl
-  begin_caused call head expires_in OutOfMemory m = rw (m.0) (inr refl)
-  begin_caused call head expires_in Pending m = absurd m
-  begin_caused call head expires_in (Ask k) m = absurd m
-  begin_caused call head expires_in (Sign c w) m = absurd m
-  begin_caused call head expires_in (Refused y w) m = absurd m
-  begin_caused call head expires_in (Done x) m = absurd m
-  begin_caused call head expires_in (Cancelled w) m = absurd m
+    action_caused : (event : Event K) → HasCause (cause_of policy desk event) (action_of policy desk event)
+    action_caused (Begin call head expires_in) = begin_caused (can_begin desk call) call (new_record head expires_in)
+    action_caused (Poll call now) = live_caused call (λ view. poll_cause policy desk now view view.stage) (λ view. poll_action policy desk now view view.stage) (λ h r f. poll_caused now (stored_view call h r) r.stage)
+    action_caused (Provided call now answer) =
+        live_caused call (λ view. provided_cause (progress_cause (desk_load policy desk now view answer)) view.stage) (λ view. provided_action (load_action policy desk now answer view) view.stage)
+        (λ h r f. provided_caused (progress_cause (desk_load policy desk now (stored_view call h r) answer)) (load_action policy desk now answer (stored_view call h r)) (hold_caused (loading_hold desk (stored_view call h r)) (with_answer (stored_view call h r)) (desk_load policy desk now (stored_view call h r) answer)) r.stage)
+    action_caused (Signed call answer) = live_caused call (λ view. signed_cause answer view.stage) (λ view. signed_action desk answer view view.stage) (λ h r f. signed_caused answer (stored_view call h r) r f r.stage)
+    action_caused (Cancel call) = live_caused call (λ view. Proceeds) (λ view. cancel_action desk view view.stage) (λ h r f. cancel_caused (stored_view call h r) r.stage)
 
-  live_caused : (event : Event K) (o : Option Handle) (f : Option CallRecord) (reply : Reply K) → MovesBy policy old event o f reply new → IsCaused (live_cause policy old event o f) reply
-  live_caused (Begin call head expires_in) (Some h) (Some r) reply m = absurd m
-  live_caused (Begin call head expires_in) (Some h) None reply m = m.0
-  live_caused (Begin call head expires_in) None f reply m = m.0
-  live_caused (Poll call now) (Some h) (Some r) reply m = poll_caused call now h r r.stage reply m
-  live_caused (Poll call now) (Some h) None reply m = m.0
-  live_caused (Poll call now) None f reply m = m.0
-  live_caused (Provided call now answer) (Some h) (Some r) reply m = provided_caused call now h r answer r.stage reply m
-  live_caused (Provided call now answer) (Some h) None reply m = m.0
-  live_caused (Provided call now answer) None f reply m = m.0
-  live_caused (Signed call answer) (Some h) (Some r) reply m = signed_caused call r answer r.stage reply m
-  live_caused (Signed call answer) (Some h) None reply m = m.0
-  live_caused (Signed call answer) None f reply m = m.0
-  live_caused (Cancel call) (Some h) (Some r) reply m = cancel_caused call h r.stage reply m
-  live_caused (Cancel call) (Some h) None reply m = m.0
-  live_caused (Cancel call) None f reply m = m.0
-
-  -- what a step answers has its cause
-  pub caused : (event : Event K) (reply : Reply K) → Moves policy old event reply new → IsCaused (cause_of policy old event) reply
-  caused (Begin call head expires_in) reply m = begin_caused call head expires_in reply m
-  caused (Poll call now) reply m = live_caused (Poll call now) (slice_get old.handles call.handle) (find_call call old.calls) reply m
-  caused (Provided call now answer) reply m = live_caused (Provided call now answer) (slice_get old.handles call.handle) (find_call call old.calls) reply m
-  caused (Signed call answer) reply m = live_caused (Signed call answer) (slice_get old.handles call.handle) (find_call call old.calls) reply m
-  caused (Cancel call) reply m = live_caused (Cancel call) (slice_get old.handles call.handle) (find_call call old.calls) reply m
+  -- what a step replies has its cause
+  pub caused : (policy : Policy K D) (event : Event K) (old : DeskState K D) (reply : Reply K) (new : DeskState K D) → Transition policy event old reply new → IsCaused (cause_of policy old event) reply
+  caused policy event old reply new m = performed-caused (cause_of policy old event) (action_of policy old event) (action_caused policy old event) (call_of event) old reply new m

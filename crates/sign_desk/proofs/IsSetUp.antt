@@ -23,6 +23,7 @@ each-by P Q f None h = tt
 each-by P Q f (Some x) h = f x h
 
 module _ {D : Type 0} (setup : Setup D) (ok : IsSetUp setup) where
+  -- one more cache
   pub set_up-cache : (loader : Loader) → length setup.loaders < 4294967295 → IsSetUp (record setup { loaders = setup.loaders ++ loader ∷ [] })
   set_up-cache loader h = record {
     caches_few = more_few setup.loaders loader h;
@@ -31,6 +32,7 @@ module _ {D : Type 0} (setup : Setup D) (ok : IsSetUp setup) where
     handles = λ i. each-by (λ (x : Handle). (x.cache < length setup.loaders) × (x.rule < length setup.rules)) (λ (x : Handle). (x.cache < length (setup.loaders ++ loader ∷ [])) × (x.rule < length setup.rules)) (λ x p. (longer x.cache setup.loaders loader p.0, p.1)) (slice_get setup.handles i) (ok.handles i);
   }
 
+  -- one more rule
   pub set_up-rule : (rule : D) → length setup.rules < 4294967295 → IsSetUp (record setup { rules = setup.rules ++ rule ∷ [] })
   set_up-rule rule h = record {
     caches_few = ok.caches_few;
@@ -39,6 +41,7 @@ module _ {D : Type 0} (setup : Setup D) (ok : IsSetUp setup) where
     handles = λ i. each-by (λ (x : Handle). (x.cache < length setup.loaders) × (x.rule < length setup.rules)) (λ (x : Handle). (x.cache < length setup.loaders) × (x.rule < length (setup.rules ++ rule ∷ []))) (λ x p. (p.0, longer x.rule setup.rules rule p.1)) (slice_get setup.handles i) (ok.handles i);
   }
 
+  -- one more handle
   pub set_up-handle : (handle : Handle) → length setup.handles < 4294967295 → handle.cache < length setup.loaders → handle.rule < length setup.rules → IsSetUp (record setup { handles = setup.handles ++ handle ∷ [] })
   set_up-handle handle h c r = record {
     caches_few = ok.caches_few;

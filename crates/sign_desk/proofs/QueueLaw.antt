@@ -18,8 +18,8 @@ use Rattle.sequential_signer.proofs.PollOrder.{is_polled, OrderAfter, stays, gro
 use Rattle.sequential_signer.proofs.Run.{IsRun}
 use Rattle.sequential_signer.proofs.CacheLaw.{order_of_cache, list_all-member}
 use Rattle.sequential_signer.proofs.Queue.{queue-leaves, finished_same}
-use Rattle.sign_desk.specs.Queue.{Queue, entered, passed, left, expected}
-use Rattle.sign_desk.specs.QueueDue.{is_fresh, fresh_calls, queue_due}
+use Rattle.sign_desk.specs.Queue.{Queue, with_last, without_room, without_call, with_room}
+use Rattle.sign_desk.specs.TranscriptQueue.{is_unpolled, unpolled_calls, queue_of}
 use Rattle.sign_desk.proofs.BegunCalls.{filter-agree, passing-same, passing-fewer, passing-more, passing-no_more}
 
 queue_is : (q : Queue) (line : List CallId) (unpolled : ℕ) → line ≡ q.line → unpolled ≡ q.unpolled → record { line = line; unpolled = unpolled } ≡ q
@@ -72,10 +72,11 @@ module _ {K D : Type 0} (policy : Policy K D) (setup : Setup D) (entries : List 
       own : hold_is_finished (entries ++ e ∷ []) (call_of e.event) ≡ true
       own = hold_is_finished-own setup entries e (call_of e.event) (same_call-refl (call_of e.event)) ∙ ap (λ v. hold_is_finished entries (call_of e.event) || v) h ∙ or_true _
 
-  -- a call whose hold is finished, or that was not polled, is not in the line
+  -- a call whose hold is finished is not in the line
   pub closed-absent : (call : CallId) (j : ℕ) → hold_is_finished entries call ≡ true → list_any (same_call call) (open_calls setup entries j) ≡ false
   closed-absent call j h = failing-absent call (λ x. not (hold_is_finished entries x)) (poll_order setup entries j) (ap not h)
 
+  -- neither is a call that was not polled
   pub unpolled-absent : (call : CallId) (j : ℕ) → is_polled setup entries j call ≡ false → list_any (same_call call) (open_calls setup entries j) ≡ false
   unpolled-absent call j h = absent-filter (λ x. not (hold_is_finished entries x)) call (poll_order setup entries j) h
 
@@ -109,87 +110,90 @@ module _ {K D : Type 0} (policy : Policy K D) (setup : Setup D) (entries : List 
         by_end true k = queue-leaves setup entries j e k (order-elsewhere j h) ∙ absent-leaves (call_of e.event) (open_calls setup entries j) (unpolled-absent (call_of e.event) j (absent-elsewhere j h))
 
     -- the calls that may still come
-    abbrev at_fresh : ℕ → CallId → Phase → Bool
-    at_fresh j call p = is_of_cache setup j call && is_fresh p
+    abbrev at_unpolled : ℕ → CallId → Phase → Bool
+    at_unpolled j call p = is_of_cache setup j call && is_unpolled p
 
-    fresh-elsewhere : is_begun e.reply ≡ false → (j : ℕ) → (i ≡ j → ⊥) → fresh_calls setup (entries ++ e ∷ []) j ≡ fresh_calls setup entries j
-    fresh-elsewhere b j h =
-        passing-same policy setup (at_fresh j) entries e b
-        (ap (λ v. v && is_fresh (phase_of entries (call_of e.event))) (elsewhere j h) ∙ sym (ap (λ v. v && is_fresh (phase_of (entries ++ e ∷ []) (call_of e.event))) (elsewhere j h)))
+    unpolled-elsewhere : is_begun e.reply ≡ false → (j : ℕ) → (i ≡ j → ⊥) → unpolled_calls setup (entries ++ e ∷ []) j ≡ unpolled_calls setup entries j
+    unpolled-elsewhere b j h =
+        passing-same policy setup (at_unpolled j) entries e b
+        (ap (λ v. v && is_unpolled (phase_of entries (call_of e.event))) (elsewhere j h) ∙ sym (ap (λ v. v && is_unpolled (phase_of (entries ++ e ∷ []) (call_of e.event))) (elsewhere j h)))
 
-    pub queue-elsewhere : is_begun e.reply ≡ false → (j : ℕ) → (i ≡ j → ⊥) → queue_due setup (entries ++ e ∷ []) j ≡ queue_due setup entries j
-    queue-elsewhere b j h = queue_is (queue_due setup entries j) _ _ (open-elsewhere j h) (ap length (fresh-elsewhere b j h))
+    -- the queues of other caches stay
+    pub queue-elsewhere : is_begun e.reply ≡ false → (j : ℕ) → (i ≡ j → ⊥) → queue_of setup (entries ++ e ∷ []) j ≡ queue_of setup entries j
+    queue-elsewhere b j h = queue_is (queue_of setup entries j) _ _ (open-elsewhere j h) (ap length (unpolled-elsewhere b j h))
 
     here : is_of_cache setup i (call_of e.event) ≡ true
     here = ap (is_number i) at ∙ number_refl i
 
-    fresh-same : is_begun e.reply ≡ false → is_fresh (phase_of entries (call_of e.event)) ≡ is_fresh (phase_of (entries ++ e ∷ []) (call_of e.event)) → fresh_calls setup (entries ++ e ∷ []) i ≡ fresh_calls setup entries i
-    fresh-same b h = passing-same policy setup (at_fresh i) entries e b (ap (λ v. is_of_cache setup i (call_of e.event) && v) h)
+    unpolled-same : is_begun e.reply ≡ false → is_unpolled (phase_of entries (call_of e.event)) ≡ is_unpolled (phase_of (entries ++ e ∷ []) (call_of e.event)) → unpolled_calls setup (entries ++ e ∷ []) i ≡ unpolled_calls setup entries i
+    unpolled-same b h = passing-same policy setup (at_unpolled i) entries e b (ap (λ v. is_of_cache setup i (call_of e.event) && v) h)
 
-    fresh-fewer : is_begun e.reply ≡ false → is_some (begin_of entries (call_of e.event)) ≡ true → is_fresh (phase_of entries (call_of e.event)) ≡ true → is_fresh (phase_of (entries ++ e ∷ []) (call_of e.event)) ≡ false
-        → length (fresh_calls setup (entries ++ e ∷ []) i) ≡ length (fresh_calls setup entries i) - 1
-    fresh-fewer b there passes fails =
-        let fewer : length (fresh_calls setup entries i) ≡ length (fresh_calls setup (entries ++ e ∷ []) i) + 1 =
-        passing-fewer policy setup (at_fresh i) entries e run b there (rw (here, passes) refl) (ap (λ v. is_of_cache setup i (call_of e.event) && v) fails ∙ and_false (is_of_cache setup i (call_of e.event))) in
+    unpolled-fewer : is_begun e.reply ≡ false → is_some (begin_of entries (call_of e.event)) ≡ true → is_unpolled (phase_of entries (call_of e.event)) ≡ true → is_unpolled (phase_of (entries ++ e ∷ []) (call_of e.event)) ≡ false
+        → length (unpolled_calls setup (entries ++ e ∷ []) i) ≡ length (unpolled_calls setup entries i) - 1
+    unpolled-fewer b there passes fails =
+        let fewer : length (unpolled_calls setup entries i) ≡ length (unpolled_calls setup (entries ++ e ∷ []) i) + 1 =
+        passing-fewer policy setup (at_unpolled i) entries e run b there (rw (here, passes) refl) (ap (λ v. is_of_cache setup i (call_of e.event) && v) fails ∙ and_false (is_of_cache setup i (call_of e.event))) in
         omega (arith, fewer)
 
     -- an entry by which the queue stays
     pub queue-stays : is_begun e.reply ≡ false → ends_hold e.reply ≡ false → poll_order setup (entries ++ e ∷ []) i ≡ poll_order setup entries i
-        → is_fresh (phase_of entries (call_of e.event)) ≡ is_fresh (phase_of (entries ++ e ∷ []) (call_of e.event)) → queue_due setup (entries ++ e ∷ []) i ≡ queue_due setup entries i
-    queue-stays b h o f = queue_is (queue_due setup entries i) _ _ (open-same h i o) (ap length (fresh-same b f))
+        → is_unpolled (phase_of entries (call_of e.event)) ≡ is_unpolled (phase_of (entries ++ e ∷ []) (call_of e.event)) → queue_of setup (entries ++ e ∷ []) i ≡ queue_of setup entries i
+    queue-stays b h o f = queue_is (queue_of setup entries i) _ _ (open-same h i o) (ap length (unpolled-same b f))
 
     -- an entry that takes its call out of the line, if it is there
-    pub queue-left : is_begun e.reply ≡ false → ends_hold e.reply ≡ true → poll_order setup (entries ++ e ∷ []) i ≡ poll_order setup entries i
-        → is_fresh (phase_of entries (call_of e.event)) ≡ is_fresh (phase_of (entries ++ e ∷ []) (call_of e.event)) → queue_due setup (entries ++ e ∷ []) i ≡ left (call_of e.event) (queue_due setup entries i)
-    queue-left b h o f = queue_is (left (call_of e.event) (queue_due setup entries i)) _ _ (queue-leaves setup entries i e h o) (ap length (fresh-same b f))
+    pub queue-without_call : is_begun e.reply ≡ false → ends_hold e.reply ≡ true → poll_order setup (entries ++ e ∷ []) i ≡ poll_order setup entries i
+        → is_unpolled (phase_of entries (call_of e.event)) ≡ is_unpolled (phase_of (entries ++ e ∷ []) (call_of e.event)) → queue_of setup (entries ++ e ∷ []) i ≡ without_call (call_of e.event) (queue_of setup entries i)
+    queue-without_call b h o f = queue_is (without_call (call_of e.event) (queue_of setup entries i)) _ _ (queue-leaves setup entries i e h o) (ap length (unpolled-same b f))
 
     -- an entry by which its call takes its place
-    pub queue-entered : is_begun e.reply ≡ false → ends_hold e.reply ≡ false → is_poll_at setup i e ≡ true → is_polled setup entries i (call_of e.event) ≡ false → hold_is_finished entries (call_of e.event) ≡ false
-        → is_some (begin_of entries (call_of e.event)) ≡ true → is_fresh (phase_of entries (call_of e.event)) ≡ true → is_fresh (phase_of (entries ++ e ∷ []) (call_of e.event)) ≡ false
-        → queue_due setup (entries ++ e ∷ []) i ≡ entered (call_of e.event) (queue_due setup entries i)
-    queue-entered b h p u f there passes fails =
-        queue_is (entered (call_of e.event) (queue_due setup entries i)) _ _ (open-enters h f i (poll_order-poll setup entries i e p ∙ ap (λ v. cond v (poll_order setup entries i) (poll_order setup entries i ++ call_of e.event ∷ [])) u)) (fresh-fewer b there passes fails)
+    pub queue-with_last : is_begun e.reply ≡ false → ends_hold e.reply ≡ false → is_poll_at setup i e ≡ true → is_polled setup entries i (call_of e.event) ≡ false → hold_is_finished entries (call_of e.event) ≡ false
+        → is_some (begin_of entries (call_of e.event)) ≡ true → is_unpolled (phase_of entries (call_of e.event)) ≡ true → is_unpolled (phase_of (entries ++ e ∷ []) (call_of e.event)) ≡ false
+        → queue_of setup (entries ++ e ∷ []) i ≡ with_last (call_of e.event) (queue_of setup entries i)
+    queue-with_last b h p u f there passes fails =
+        queue_is (with_last (call_of e.event) (queue_of setup entries i)) _ _ (open-enters h f i (poll_order-poll setup entries i e p ∙ ap (λ v. cond v (poll_order setup entries i) (poll_order setup entries i ++ call_of e.event ∷ [])) u)) (unpolled-fewer b there passes fails)
 
     -- a first poll that ends its call's hold at once
-    pub queue-passed : is_begun e.reply ≡ false → ends_hold e.reply ≡ true → is_poll_at setup i e ≡ true → is_polled setup entries i (call_of e.event) ≡ false → open_calls setup entries i ≡ []
-        → is_some (begin_of entries (call_of e.event)) ≡ true → is_fresh (phase_of entries (call_of e.event)) ≡ true → is_fresh (phase_of (entries ++ e ∷ []) (call_of e.event)) ≡ false
-        → queue_due setup (entries ++ e ∷ []) i ≡ passed (queue_due setup entries i)
-    queue-passed b h p u none there passes fails =
-        queue_is (passed (queue_due setup entries i)) _ _ (open-passes h i none (poll_order-poll setup entries i e p ∙ ap (λ v. cond v (poll_order setup entries i) (poll_order setup entries i ++ call_of e.event ∷ [])) u) ∙ sym none) (fresh-fewer b there passes fails)
+    pub queue-without_room : is_begun e.reply ≡ false → ends_hold e.reply ≡ true → is_poll_at setup i e ≡ true → is_polled setup entries i (call_of e.event) ≡ false → open_calls setup entries i ≡ []
+        → is_some (begin_of entries (call_of e.event)) ≡ true → is_unpolled (phase_of entries (call_of e.event)) ≡ true → is_unpolled (phase_of (entries ++ e ∷ []) (call_of e.event)) ≡ false
+        → queue_of setup (entries ++ e ∷ []) i ≡ without_room (queue_of setup entries i)
+    queue-without_room b h p u none there passes fails =
+        queue_is (without_room (queue_of setup entries i)) _ _ (open-passes h i none (poll_order-poll setup entries i e p ∙ ap (λ v. cond v (poll_order setup entries i) (poll_order setup entries i ++ call_of e.event ∷ [])) u) ∙ sym none) (unpolled-fewer b there passes fails)
 
     -- the end of a call that was never polled
     pub queue-unpolled : is_begun e.reply ≡ false → ends_hold e.reply ≡ true → is_fitting_poll e ≡ false → is_polled setup entries i (call_of e.event) ≡ false
-        → is_some (begin_of entries (call_of e.event)) ≡ true → is_fresh (phase_of entries (call_of e.event)) ≡ true → is_fresh (phase_of (entries ++ e ∷ []) (call_of e.event)) ≡ false
-        → queue_due setup (entries ++ e ∷ []) i ≡ passed (queue_due setup entries i)
+        → is_some (begin_of entries (call_of e.event)) ≡ true → is_unpolled (phase_of entries (call_of e.event)) ≡ true → is_unpolled (phase_of (entries ++ e ∷ []) (call_of e.event)) ≡ false
+        → queue_of setup (entries ++ e ∷ []) i ≡ without_room (queue_of setup entries i)
     queue-unpolled b h p u there passes fails =
-        queue_is (passed (queue_due setup entries i)) _ _
+        queue_is (without_room (queue_of setup entries i)) _ _
         (queue-leaves setup entries i e h (poll_order-same setup entries i e (ap (λ v. v && is_of_cache setup i (call_of e.event)) p)) ∙ absent-leaves (call_of e.event) (open_calls setup entries i) (unpolled-absent (call_of e.event) i u))
-        (fresh-fewer b there passes fails)
+        (unpolled-fewer b there passes fails)
 
     -- the end of a call that is out of the line
     pub queue-gone : is_begun e.reply ≡ false → ends_hold e.reply ≡ true → is_fitting_poll e ≡ false → hold_is_finished entries (call_of e.event) ≡ true
-        → is_fresh (phase_of entries (call_of e.event)) ≡ is_fresh (phase_of (entries ++ e ∷ []) (call_of e.event)) → queue_due setup (entries ++ e ∷ []) i ≡ queue_due setup entries i
+        → is_unpolled (phase_of entries (call_of e.event)) ≡ is_unpolled (phase_of (entries ++ e ∷ []) (call_of e.event)) → queue_of setup (entries ++ e ∷ []) i ≡ queue_of setup entries i
     queue-gone b h p f k =
-        queue_is (queue_due setup entries i) _ _
+        queue_is (queue_of setup entries i) _ _
         (queue-leaves setup entries i e h (poll_order-same setup entries i e (ap (λ v. v && is_of_cache setup i (call_of e.event)) p)) ∙ absent-leaves (call_of e.event) (open_calls setup entries i) (closed-absent (call_of e.event) i f))
-        (ap length (fresh-same b k))
+        (ap length (unpolled-same b k))
 
     -- a begin
-    pub queue-expected : is_begun e.reply ≡ true → is_new_number entries (call_of e.event) ≡ true → ends_hold e.reply ≡ false → is_fitting_poll e ≡ false → is_fresh (phase_of (entries ++ e ∷ []) (call_of e.event)) ≡ true
-        → queue_due setup (entries ++ e ∷ []) i ≡ expected (queue_due setup entries i)
-    queue-expected b new h p passes =
-        queue_is (expected (queue_due setup entries i)) _ _ (open-same h i (poll_order-same setup entries i e (ap (λ v. v && is_of_cache setup i (call_of e.event)) p)))
-        (passing-more policy setup (at_fresh i) entries e b new (rw (here, passes) refl))
+    pub queue-with_room : is_begun e.reply ≡ true → is_new_number entries (call_of e.event) ≡ true → ends_hold e.reply ≡ false → is_fitting_poll e ≡ false → is_unpolled (phase_of (entries ++ e ∷ []) (call_of e.event)) ≡ true
+        → queue_of setup (entries ++ e ∷ []) i ≡ with_room (queue_of setup entries i)
+    queue-with_room b new h p passes =
+        queue_is (with_room (queue_of setup entries i)) _ _ (open-same h i (poll_order-same setup entries i e (ap (λ v. v && is_of_cache setup i (call_of e.event)) p)))
+        (passing-more policy setup (at_unpolled i) entries e b new (rw (here, passes) refl))
 
-    pub queue-begun_elsewhere : is_begun e.reply ≡ true → is_new_number entries (call_of e.event) ≡ true → (j : ℕ) → (i ≡ j → ⊥) → queue_due setup (entries ++ e ∷ []) j ≡ queue_due setup entries j
+    -- at a begin, the queues of other caches stay
+    pub queue-begun_elsewhere : is_begun e.reply ≡ true → is_new_number entries (call_of e.event) ≡ true → (j : ℕ) → (i ≡ j → ⊥) → queue_of setup (entries ++ e ∷ []) j ≡ queue_of setup entries j
     queue-begun_elsewhere b new j h =
-        queue_is (queue_due setup entries j) _ _ (open-elsewhere j h)
-        (ap length (passing-no_more policy setup (at_fresh j) entries e b new (ap (λ v. v && is_fresh (phase_of (entries ++ e ∷ []) (call_of e.event))) (elsewhere j h))))
+        queue_is (queue_of setup entries j) _ _ (open-elsewhere j h)
+        (ap length (passing-no_more policy setup (at_unpolled j) entries e b new (ap (λ v. v && is_unpolled (phase_of (entries ++ e ∷ []) (call_of e.event))) (elsewhere j h))))
 
   -- the order where nothing is polled anew
-  pub order-kept : is_fitting_poll e ≡ false → (j : ℕ) → poll_order setup (entries ++ e ∷ []) j ≡ poll_order setup entries j
-  order-kept p j = poll_order-same setup entries j e (ap (λ v. v && is_of_cache setup j (call_of e.event)) p)
+  pub order-stays : is_fitting_poll e ≡ false → (j : ℕ) → poll_order setup (entries ++ e ∷ []) j ≡ poll_order setup entries j
+  order-stays p j = poll_order-same setup entries j e (ap (λ v. v && is_of_cache setup j (call_of e.event)) p)
 
+  -- nor does an entry of a call that was polled
   pub order-polled : (i : ℕ) → is_polled setup entries i (call_of e.event) ≡ true → poll_order setup (entries ++ e ∷ []) i ≡ poll_order setup entries i
   order-polled i m = by_order (order_after setup entries i e)
     where
@@ -198,7 +202,7 @@ module _ {K D : Type 0} (policy : Policy K D) (setup : Setup D) (entries : List 
       by_order (grows _ u _) = absurd (cc)
 
   -- an entry that says nothing: no call is known to be begun under its event
-  pub queue-not_now : is_begun e.reply ≡ false → ends_hold e.reply ≡ false → is_fitting_poll e ≡ false → phase_of (entries ++ e ∷ []) (call_of e.event) ≡ phase_of entries (call_of e.event) → (j : ℕ) → queue_due setup (entries ++ e ∷ []) j ≡ queue_due setup entries j
+  pub queue-not_now : is_begun e.reply ≡ false → ends_hold e.reply ≡ false → is_fitting_poll e ≡ false → phase_of (entries ++ e ∷ []) (call_of e.event) ≡ phase_of entries (call_of e.event) → (j : ℕ) → queue_of setup (entries ++ e ∷ []) j ≡ queue_of setup entries j
   queue-not_now b h p k j =
-      queue_is (queue_due setup entries j) _ _ (open-same h j (order-kept p j))
-      (ap length (passing-same policy setup (λ call q. is_of_cache setup j call && is_fresh q) entries e b (ap (λ q. is_of_cache setup j (call_of e.event) && is_fresh q) (sym k))))
+      queue_is (queue_of setup entries j) _ _ (open-same h j (order-stays p j))
+      (ap length (passing-same policy setup (λ call q. is_of_cache setup j call && is_unpolled q) entries e b (ap (λ q. is_of_cache setup j (call_of e.event) && is_unpolled q) (sym k))))

@@ -1,357 +1,336 @@
--- What a desk does on what it keeps is one more entry of the transcript.
-use Rattle.std.proofs.Common.{◌≡◌, ℕ, Bool, true, false, cond, ◌&&◌, ◌||◌, ◌+◌, ◌==◌, List, [], ◌∷◌, ◌++◌, Option, Some, None, is_some, option_map, slice_get, slice_set, length, refl, sym, ◌∙◌, ap, subst, inl, inr, IsTrue, arith}
-use Rattle.std.specs.Duration.{as_nanos}
-use Rattle.std.specs.declared.time.Duration.{Duration}
-use Rattle.sign_base.specs.declared.head.Head.{Head}
+-- A desk that represents a transcript represents it with one more entry, where what it keeps follows the entry.
+use Rattle.std.proofs.Common.{◌≡◌, ◌<◌, ℕ, ℤ, Bool, true, false, cond, ◌&&◌, ◌||◌, ◌+◌, ◌==◌, List, [], ◌∷◌, ◌++◌, Option, Some, None, is_some, option_map, slice_get, slice_set, length, refl, sym, ◌∙◌, ap, subst, inl, inr, IsTrue, arith}
+use Rattle.std.specs.Option.{IsSomeAnd}
 use Rattle.wake_lock.specs.declared.CallId.{CallId}
-use Rattle.sequential_signer.specs.Policy.{Policy}
-use Rattle.sequential_signer.specs.Setup.{Handle, cache_of}
 use Rattle.wake_lock.specs.Calls.{same_call}
-use Rattle.sequential_signer.specs.Transcript.{kept, call_of, entries_of, is_out_of_memory}
-use Rattle.sequential_signer.specs.Phase.{Fresh, Queued, phase_of, begin_fits, is_live, is_new_number, is_begun, is_poll}
-use Rattle.sequential_signer.specs.Hold.{begin_of, begin_in, answers_of}
+use Rattle.sequential_signer.specs.Policy.{Policy}
+use Rattle.sequential_signer.specs.Setup.{Setup, cache_of, is_number}
+use Rattle.sequential_signer.specs.Transcript.{committed_entries, call_of, is_out_of_memory}
+use Rattle.sequential_signer.specs.Phase.{phase_of, is_live, is_begun, is_not_now, is_poll}
+use Rattle.sequential_signer.specs.Hold.{begin_of, answers_of}
 use Rattle.sequential_signer.specs.SequentialCache.{sequential_cache}
-use Rattle.sequential_signer.specs.ReplyDue.{reply_due, reply_at}
+use Rattle.sequential_signer.specs.ExpectedReply.{expected_reply}
 use Rattle.sequential_signer.specs.Legal.{IsLegal, allocates}
-use Rattle.sequential_signer.specs.LiveCall.{live_call, live_by, greatest_begun, greater, is_above}
+use Rattle.sequential_signer.specs.LiveCall.{live_call, greatest_begun, greater}
+use Rattle.sequential_signer.specs.declared.event.Answer.TheVariants.{Found, Missing, Failed}
 use Rattle.sequential_signer.specs.declared.event.Entry.{Entry}
 use Rattle.sequential_signer.specs.declared.event.Event.{Event}
-use Rattle.sequential_signer.specs.declared.event.Event.TheVariants.{Begin}
+use Rattle.sequential_signer.specs.declared.event.Event.TheVariants.{Provided}
 use Rattle.sequential_signer.specs.declared.event.Loader.{Loader}
 use Rattle.sequential_signer.specs.declared.event.Reply.{Reply}
 use Rattle.sequential_signer.specs.declared.event.Reply.TheVariants.{Begun, Pending, NotNow, OutOfMemory, Ask, Sign, Refused, Done, Cancelled}
-use Rattle.sequential_signer.proofs.Lists.{list_any-more, or_false, or_true, and_false}
 use Rattle.wake_lock.proofs.Calls.{same_call-eq, same_call-refl, same_call-comm}
-use Rattle.wake_lock.proofs.Truth.{number_refl, and_left, and_right, same_number, other_number}
-use Rattle.sequential_signer.proofs.OwnEntries.{entries_of-own, entries_of-other, begin_in-new}
+use Rattle.wake_lock.proofs.Truth.{same_number, other_number, number_comm}
+use Rattle.sequential_signer.proofs.Lists.{list_any-more, or_false, and_false}
+use Rattle.sequential_signer.proofs.OwnEntries.{entries_of-other}
 use Rattle.sequential_signer.proofs.Places.{slice_get-set_same, slice_get-set_other}
-use Rattle.sequential_signer.proofs.Greatest.{is_new_number-is, greatest_begun-more, greater_above}
-use Rattle.sequential_signer.proofs.Run.{IsRun, kept-more, kept-lost, legal_run, legal-more}
-use Rattle.sequential_signer.proofs.NewNumbers.{new_is_unbegun}
-use Rattle.sequential_signer.proofs.Standing.{IsBlank, phase-own_mark, answers-own_none, begin-own, refused_phase, refused_answers}
-use Rattle.sequential_signer.proofs.Stands.{stands, unbegun, unbegun_blank}
-use Rattle.sequential_signer.proofs.CacheRows.{stays_not_now, stays_other}
-use Rattle.sign_desk.specs.Queue.{Queue, expected, changed_at}
-use Rattle.sign_desk.specs.QueueDue.{is_fresh, live_calls, queue_due}
-use Rattle.sign_desk.specs.Kept.{Kept, setup_of, find_call, live_view, was_begun, Represents}
+use Rattle.sequential_signer.proofs.Greatest.{greatest_begun-more}
+use Rattle.sequential_signer.proofs.LegalStep.{LegalStep}
+use Rattle.sequential_signer.proofs.Run.{IsRun, committed_entries-more, committed_entries-lost, legal_run, legal_entry_step, legal-more}
+use Rattle.sequential_signer.proofs.CallInvariant.{begin-own, refused_phase, refused_answers}
+use Rattle.sequential_signer.proofs.FoundCredential.{is_refresh, found_is_handed_out, others_leave, SignsFound, signed_found_is_cached}
+use Rattle.sign_desk.specs.Queue.{Queue, with_changed}
+use Rattle.sign_desk.specs.TranscriptQueue.{live_calls, queue_of}
+use Rattle.sign_desk.specs.DeskState.{DeskState, setup_of, find_call, live_view, was_begun, Represents}
+use Rattle.sign_desk.specs.Change.{ChangesOnlyCall, UnchangedBy, one_if}
+use Rattle.sign_desk.specs.CachesAfter.{CachesAfter}
 use Rattle.sign_desk.specs.declared.calls.CallRecord.{CallRecord}
-use Rattle.sign_desk.specs.declared.calls.Stage.TheVariants as stage
 use Rattle.sign_desk.proofs.ChangedAt.{changed-same, changed-other}
-use Rattle.sign_desk.proofs.BegunCalls.{passing-same, passing-fewer, passing-more}
-use Rattle.sign_desk.proofs.QueueLaw.{queue-elsewhere, queue-expected, queue-begun_elsewhere, queue-not_now}
-use Rattle.sign_desk.specs.Moves.{Keeps, BeginMoves, begin_fits_kept, is_new_at, one_if, with_begin, cache_at}
+use Rattle.sign_desk.proofs.BegunCalls.{passing-same, passing-fewer}
+use Rattle.sign_desk.proofs.QueueLaw.{queue-elsewhere, queue-not_now}
+use Rattle.sign_desk.proofs.ListPlaces.{place-there}
+
+module _ {K D : Type 0} where
+  -- a reply that took effect, or that waits, says nothing of what stays
+  pub unchanged-effect : (reply : Reply K) (old new : DeskState K D) → is_out_of_memory reply ≡ false → is_not_now reply ≡ false → UnchangedBy reply old new
+  unchanged-effect NotNow old new m n = cc
+  unchanged-effect OutOfMemory old new m n = cc
+  unchanged-effect Begun old new m n = tt
+  unchanged-effect Pending old new m n = tt
+  unchanged-effect (Ask k) old new m n = tt
+  unchanged-effect (Sign c w) old new m n = tt
+  unchanged-effect (Refused y w) old new m n = tt
+  unchanged-effect (Done x) old new m n = tt
+  unchanged-effect (Cancelled w) old new m n = tt
+
+  -- where nothing found is handed out, all caches stay
+  pub caches_after-same : (event : Event K) (reply : Reply K) (old new : DeskState K D) → is_refresh event reply ≡ false → new.caches ≡ old.caches → CachesAfter event reply old new
+  caches_after-same (Provided call now (Found c)) (Sign d w) old new r h = cc
+  caches_after-same event reply old new r h = h
+
+  -- what is done to the caches is known by the caches alone
+  pub caches_after-alike : (event : Event K) (reply : Reply K) (old base new : DeskState K D) → new.caches ≡ base.caches → CachesAfter event reply old base → CachesAfter event reply old new
+  caches_after-alike (Provided call now (Found c)) (Sign d w) old base new h k = (k.0, caches_by (cache_of (setup_of old) call) k.1)
+    where
+      caches_by : (o : Option ℕ) → IsSomeAnd o (λ (i : ℕ). (i < length old.caches) × (base.caches ≡ slice_set old.caches i (Some c))) → IsSomeAnd o (λ (i : ℕ). (i < length old.caches) × (new.caches ≡ slice_set old.caches i (Some c)))
+      caches_by None x = absurd x
+      caches_by (Some i) x = (x.0, h ∙ x.1)
+  caches_after-alike event reply old base new h k = h ∙ k
 
 module _ {K D : Type 0} (policy : Policy K D) where
-  -- what is kept beside the calls is what the transcript says after the entry
-  pub record Follows (old : Kept K D) (entries : List (Entry K)) (base : Kept K D) (e : Entry K) : Type 0 where
+  -- what a desk keeps beside the calls follows the entry
+  pub record Follows (old : DeskState K D) (entries : List (Entry K)) (base : DeskState K D) (e : Entry K) : Type 0 where
     pub loaders : base.loaders ≡ old.loaders
     pub rules : base.rules ≡ old.rules
     pub handles : base.handles ≡ old.handles
     pub calls : base.calls ≡ old.calls
-    pub caches : (j : ℕ) → slice_get base.caches j ≡ option_map (λ _. sequential_cache policy (setup_of old) (kept entries ++ e ∷ []) j) (slice_get old.loaders j)
-    pub queues : (j : ℕ) → slice_get base.queues j ≡ option_map (λ _. queue_due (setup_of old) (kept entries ++ e ∷ []) j) (slice_get old.loaders j)
-    pub greatest : (h : ℕ) → slice_get base.greatest h ≡ option_map (λ _. greatest_begun h (kept entries ++ e ∷ [])) (slice_get old.handles h)
-    pub started : base.started ≡ was_begun (kept entries ++ e ∷ [])
+    pub caches : CachesAfter e.event e.reply old base
+    pub queues : (j : ℕ) → slice_get base.queues j ≡ option_map (λ _. queue_of (setup_of old) (committed_entries entries ++ e ∷ []) j) (slice_get old.loaders j)
+    pub greatest : (h : ℕ) → slice_get base.greatest h ≡ option_map (λ _. greatest_begun h (committed_entries entries ++ e ∷ [])) (slice_get old.handles h)
+    pub started : base.started ≡ was_begun (committed_entries entries ++ e ∷ [])
 
-  module _ (old : Kept K D) (entries : List (Entry K)) (stood : Represents policy old entries) where
-    pub ran : IsRun policy (setup_of old) (kept entries)
+  -- the new desk is the old one after the entry
+  pub record Refines (old : DeskState K D) (entries : List (Entry K)) (e : Entry K) (new : DeskState K D) : Type 0 where
+    pub represents : Represents policy new (entries ++ e ∷ [])
+    pub setup : setup_of new ≡ setup_of old
+    pub caches : CachesAfter e.event e.reply old new
+    pub unchanged : UnchangedBy e.reply old new
+
+  module _ (old : DeskState K D) (entries : List (Entry K)) (stood : Represents policy old entries) where
+    abbrev setup : Setup D
+    setup = setup_of old
+
+    abbrev before : List (Entry K)
+    before = committed_entries entries
+
+    abbrev after : Entry K → List (Entry K)
+    after e = committed_entries entries ++ e ∷ []
+
+    -- the committed entries are a run
+    pub ran : IsRun policy (setup_of old) (committed_entries entries)
     ran = legal_run policy (setup_of old) entries stood.legal
 
-    pub live-other : (e : Entry K) (call : CallId) → same_call call (call_of e.event) ≡ false → live_call (kept entries ++ e ∷ []) call ≡ live_call (kept entries) call
+    live-other : (e : Entry K) (call : CallId) → same_call call (call_of e.event) ≡ false → live_call (after e) call ≡ live_call before call
     unfolding phase_of
-    live-other e call s = rw (entries_of-other (kept entries) call e s) refl
+    live-other e call s = rw (entries_of-other before call e s) refl
 
-    setup_same : (new : Kept K D) → new.loaders ≡ old.loaders → new.rules ≡ old.rules → new.handles ≡ old.handles → setup_of new ≡ setup_of old
+    setup_same : (new : DeskState K D) → new.loaders ≡ old.loaders → new.rules ≡ old.rules → new.handles ≡ old.handles → setup_of new ≡ setup
     setup_same new l r h = cc
 
     count_by : (n m b a : ℕ) (kept was : ℕ) → n + was ≡ m + kept → m ≡ b → b + kept ≡ a + was → n ≡ a
     count_by n m b a kept was h k l = omega arith
 
-    -- an entry with the reply that is due, and what is kept after it
-    pub represents-more : (base new : Kept K D) (e : Entry K) → e.reply ≡ reply_due policy (setup_of old) (kept entries) e.event → is_out_of_memory e.reply ≡ false
-        → Follows old entries base e → (r : Option CallRecord) → Keeps base (call_of e.event) r new
-        → option_map live_view r ≡ live_call (kept entries ++ e ∷ []) (call_of e.event)
-        → length (live_calls (kept entries)) + one_if r ≡ length (live_calls (kept entries ++ e ∷ [])) + one_if (find_call (call_of e.event) old.calls)
-        → Represents policy new (entries ++ e ∷ [])
-    represents-more base new e due counts follows r keeps own live =
-        let same : setup_of new ≡ setup_of old = setup_same new (keeps.loaders ∙ follows.loaders) (keeps.rules ∙ follows.rules) (keeps.handles ∙ follows.handles) in
-        let k : kept (entries ++ e ∷ []) ≡ kept entries ++ e ∷ [] = kept-more entries e counts in
+    -- the cached credentials are those of the transcript after the entry
+    module _ (new : DeskState K D) where
+      abbrev CachedAfter : Entry K → Type 0
+      CachedAfter e = (j : ℕ) → slice_get new.caches j ≡ option_map (λ _. sequential_cache policy setup (after e) j) (slice_get old.loaders j)
+
+      cached_same : (event : Event K) (reply : Reply K) → LegalStep policy setup before event reply → is_refresh event reply ≡ false → new.caches ≡ old.caches → CachedAfter (record { event = event; reply = reply })
+      cached_same event reply step r h j =
+          ap (λ (cs : List (Option K)). slice_get cs j) h
+          ∙ stood.caches j
+          ∙ ap (λ c. option_map (λ _. c) (slice_get old.loaders j)) (sym (others_leave policy setup before ran event reply step r j))
+
+      loaded : (c : K) (i : ℕ) → i < length old.caches → (o : Option Loader) → slice_get old.loaders i ≡ o → Some (Some c) ≡ option_map (λ _. Some c) o
+      loaded c i within None l =
+          let some : is_some (slice_get old.caches i) ≡ true = place-there old.caches i within in
+          let none : slice_get old.caches i ≡ None = stood.caches i ∙ ap (option_map (λ _. sequential_cache policy setup before i)) l in
+          absurd (cc)
+      loaded c i within (Some loader) l = refl
+
+      cached_one : (e : Entry K) (c handed : K) (i : ℕ) → cache_of setup (call_of e.event) ≡ Some i → SignsFound policy setup before ran e c handed i → i < length old.caches → new.caches ≡ slice_set old.caches i (Some c) → CachedAfter e
+      cached_one e c handed i at found within h j = by_number (i == j) refl
+        where
+          by_number : (b : Bool) → (i == j) ≡ b → slice_get new.caches j ≡ option_map (λ _. sequential_cache policy setup (after e) j) (slice_get old.loaders j)
+          by_number true n =
+              subst (λ k. slice_get new.caches k ≡ option_map (λ _. sequential_cache policy setup (after e) k) (slice_get old.loaders k)) (same_number i j n)
+              (ap (λ (cs : List (Option K)). slice_get cs i) h
+              ∙ slice_get-set_same old.caches i (Some c) (place-there old.caches i within)
+              ∙ loaded c i within (slice_get old.loaders i) refl
+              ∙ ap (λ x. option_map (λ _. x) (slice_get old.loaders i)) (sym found.cache))
+          by_number false n =
+              ap (λ (cs : List (Option K)). slice_get cs j) h
+              ∙ slice_get-set_other old.caches i j (Some c) (other_number i j n)
+              ∙ stood.caches j
+              ∙ ap (λ x. option_map (λ _. x) (slice_get old.loaders j)) (sym (found.others j (ap (is_number j) at ∙ number_comm j i ∙ n)))
+
+      cached_found : (call : CallId) (now : ℤ) (c handed : K) (wake : Option CallId) → LegalStep policy setup before (Provided call now (Found c)) (Sign handed wake) → (o : Option ℕ) → cache_of setup call ≡ o
+          → IsSomeAnd o (λ (i : ℕ). (i < length old.caches) × (new.caches ≡ slice_set old.caches i (Some c))) → CachedAfter (record { event = Provided call now (Found c); reply = Sign handed wake })
+      cached_found call now c handed wake step None at x = absurd x
+      cached_found call now c handed wake step (Some i) at x = cached_one (record { event = Provided call now (Found c); reply = Sign handed wake }) c handed i at (signed_found_is_cached policy setup before ran call now c handed wake i step at) x.0 x.1
+
+      cached_after : (event : Event K) (reply : Reply K) → LegalStep policy setup before event reply → CachesAfter event reply old new → CachedAfter (record { event = event; reply = reply })
+      cached_after (Provided call now (Found c)) (Sign handed wake) step k = cached_found call now c handed wake step (cache_of setup call) refl k.1
+      cached_after (Provided call now Missing) (Sign handed wake) step k = let no : Missing ≡ Found handed = found_is_handed_out policy setup before ran call now Missing (Sign handed wake) handed step refl in absurd (cc)
+      cached_after (Provided call now (Failed x)) (Sign handed wake) step k = let no : Failed x ≡ Found handed = found_is_handed_out policy setup before ran call now (Failed x) (Sign handed wake) handed step refl in absurd (cc)
+      cached_after event (Sign handed wake) step k = cached_same event (Sign handed wake) step refl k
+      cached_after event reply step k = cached_same event reply step refl k
+
+    -- an entry with the expected reply, where what is kept follows it
+    module _ (e : Entry K) (expected : e.reply ≡ expected_reply policy setup before e.event) (committed : is_out_of_memory e.reply ≡ false) where
+      represents-more : (base new : DeskState K D) → Follows old entries base e → (r : Option CallRecord) → ChangesOnlyCall base (call_of e.event) r new
+          → option_map live_view r ≡ live_call (after e) (call_of e.event)
+          → length (live_calls before) + one_if r ≡ length (live_calls (after e)) + one_if (find_call (call_of e.event) old.calls)
+          → Represents policy new (entries ++ e ∷ [])
+      represents-more base new follows r changes own live =
+          let same : setup_of new ≡ setup_of old = setup_same new (changes.loaders ∙ follows.loaders) (changes.rules ∙ follows.rules) (changes.handles ∙ follows.handles) in
+          let k : committed_entries (entries ++ e ∷ []) ≡ committed_entries entries ++ e ∷ [] = committed_entries-more entries e committed in
+          let caches : CachesAfter e.event e.reply old new = caches_after-alike e.event e.reply old base new changes.caches follows.caches in
+          let step : LegalStep policy (setup_of old) (committed_entries entries) e.event e.reply = legal_entry_step policy setup before e committed (inl expected) in
+          record {
+            legal = subst (λ s. IsLegal policy s (entries ++ e ∷ [])) (sym same) (legal-more policy (setup_of old) entries e stood.legal (inl expected));
+            caches = λ i. rw (changes.loaders, changes.rules, changes.handles, follows.loaders, follows.rules, follows.handles, k) (cached_after new e.event e.reply step caches i);
+            queues = λ i. rw (changes.queues, changes.loaders, changes.rules, changes.handles, follows.loaders, follows.rules, follows.handles, k) (follows.queues i);
+            greatest = λ h. rw (changes.greatest, changes.handles, follows.handles, k) (follows.greatest h);
+            started = rw (changes.started, k) follows.started;
+            calls = λ call. rw k (call_by call (same_call call (call_of e.event)) refl);
+            live = rw k (count_by (length new.calls) (length base.calls) (length (live_calls before)) (length (live_calls (after e))) (one_if r) (one_if (find_call (call_of e.event) base.calls)) changes.count
+                (ap length follows.calls ∙ stood.live) (live ∙ ap (λ (c : List (CallId × CallRecord)). length (live_calls (after e)) + one_if (find_call (call_of e.event) c)) (sym follows.calls)));
+          }
+        where
+          call_by : (call : CallId) (s : Bool) → same_call call (call_of e.event) ≡ s → option_map live_view (find_call call new.calls) ≡ live_call (after e) call
+          call_by call true s =
+              let here : call ≡ call_of e.event = same_call-eq call (call_of e.event) s in
+              rw here (ap (option_map live_view) changes.this_call ∙ own)
+          call_by call false s =
+              ap (option_map live_view) (changes.other_calls call (same_call-comm (call_of e.event) call ∙ s) ∙ ap (find_call call) follows.calls)
+              ∙ stood.calls call
+              ∙ sym (live-other e call s)
+
+      -- and the new desk is the old one after it
+      pub refines-more : is_not_now e.reply ≡ false → (base new : DeskState K D) → Follows old entries base e → (r : Option CallRecord) → ChangesOnlyCall base (call_of e.event) r new
+          → option_map live_view r ≡ live_call (after e) (call_of e.event)
+          → length (live_calls before) + one_if r ≡ length (live_calls (after e)) + one_if (find_call (call_of e.event) old.calls)
+          → Refines old entries e new
+      refines-more fits base new follows r changes own live = record {
+        represents = represents-more base new follows r changes own live;
+        setup = setup_same new (changes.loaders ∙ follows.loaders) (changes.rules ∙ follows.rules) (changes.handles ∙ follows.handles);
+        caches = caches_after-alike e.event e.reply old base new changes.caches follows.caches;
+        unchanged = unchanged-effect e.reply old new committed fits;
+      }
+
+    -- an event that ran out of memory changes nothing
+    pub refines-lost : (event : Event K) → IsTrue (allocates policy setup before event) → Refines old entries (record { event = event; reply = OutOfMemory }) old
+    refines-lost event takes =
+        let e : Entry K = record { event = event; reply = OutOfMemory } in
+        let k : committed_entries (entries ++ record { event = event; reply = OutOfMemory } ∷ []) ≡ committed_entries entries = committed_entries-lost entries e refl in
         record {
-          legal = subst (λ s. IsLegal policy s (entries ++ e ∷ [])) (sym same) (legal-more policy (setup_of old) entries e stood.legal (inl due));
-          caches = λ i. rw (keeps.caches, keeps.loaders, keeps.rules, keeps.handles, follows.loaders, follows.rules, follows.handles, k) (follows.caches i);
-          queues = λ i. rw (keeps.queues, keeps.loaders, keeps.rules, keeps.handles, follows.loaders, follows.rules, follows.handles, k) (follows.queues i);
-          greatest = λ h. rw (keeps.greatest, keeps.handles, follows.handles, k) (follows.greatest h);
-          started = rw (keeps.started, k) follows.started;
-          calls = λ call. rw k (call_by call (same_call call (call_of e.event)) refl);
-          live = rw k (count_by (length new.calls) (length base.calls) (length (live_calls (kept entries))) (length (live_calls (kept entries ++ e ∷ []))) (one_if r) (one_if (find_call (call_of e.event) base.calls)) keeps.count
-              (ap length follows.calls ∙ stood.live) (live ∙ ap (λ (c : List (CallId × CallRecord)). length (live_calls (kept entries ++ e ∷ [])) + one_if (find_call (call_of e.event) c)) (sym follows.calls)));
+          represents = record {
+            legal = legal-more policy (setup_of old) entries e stood.legal (inr (refl, takes));
+            caches = λ i. rw k (stood.caches i);
+            queues = λ i. rw k (stood.queues i);
+            greatest = λ h. rw k (stood.greatest h);
+            started = rw k stood.started;
+            calls = λ call. rw k (stood.calls call);
+            live = rw k stood.live;
+          };
+          setup = refl;
+          caches = caches_after-same event OutOfMemory old old (not_refresh event) refl;
+          unchanged = refl;
         }
       where
-        call_by : (call : CallId) (s : Bool) → same_call call (call_of e.event) ≡ s → option_map live_view (find_call call new.calls) ≡ live_call (kept entries ++ e ∷ []) call
-        call_by call true s =
-            let here : call ≡ call_of e.event = same_call-eq call (call_of e.event) s in
-            rw here (ap (option_map live_view) keeps.this_call ∙ own)
-        call_by call false s =
-            ap (option_map live_view) (keeps.other_calls call (same_call-comm (call_of e.event) call ∙ s) ∙ ap (find_call call) follows.calls)
-            ∙ stood.calls call
-            ∙ sym (live-other e call s)
+        not_refresh : (event : Event K) → is_refresh event (let r : Reply K = OutOfMemory in r) ≡ false
+        not_refresh (Provided call now answer) = refl
+        not_refresh event = refl
 
-    -- an entry that wanted for memory changes nothing
-    pub represents-lost : (event : Event K) → IsTrue (allocates policy (setup_of old) (kept entries) event) → Represents policy old (entries ++ record { event = event; reply = OutOfMemory } ∷ [])
-    represents-lost event takes =
-        let e : Entry K = record { event = event; reply = OutOfMemory } in
-        let k : kept (entries ++ record { event = event; reply = OutOfMemory } ∷ []) ≡ kept entries = kept-lost entries e refl in
-        record {
-          legal = legal-more policy (setup_of old) entries e stood.legal (inr (refl, takes));
-          caches = λ i. rw k (stood.caches i);
-          queues = λ i. rw k (stood.queues i);
-          greatest = λ h. rw k (stood.greatest h);
-          started = rw k stood.started;
-          calls = λ call. rw k (stood.calls call);
-          live = rw k stood.live;
-        }
-
-    pub greatest_same : (e : Entry K) → is_begun e.reply ≡ false → (h : ℕ) → slice_get old.greatest h ≡ option_map (λ _. greatest_begun h (kept entries ++ e ∷ [])) (slice_get old.handles h)
+    -- the greatest numbers stay, but at a begin
+    pub greatest_same : (e : Entry K) → is_begun e.reply ≡ false → (h : ℕ) → slice_get old.greatest h ≡ option_map (λ _. greatest_begun h (after e)) (slice_get old.handles h)
     greatest_same e b h =
         stood.greatest h
         ∙ ap (λ c. option_map (λ _. c) (slice_get old.handles h))
-        (sym (greatest_begun-more h (kept entries) e ∙ ap (λ v. cond (v && (call_of e.event).handle == h) (greater (call_of e.event).number (greatest_begun h (kept entries))) (greatest_begun h (kept entries))) b))
+        (sym (greatest_begun-more h before e ∙ ap (λ v. cond (v && (call_of e.event).handle == h) (greater (call_of e.event).number (greatest_begun h before)) (greatest_begun h before)) b))
 
-    -- whether a begin was accepted stays
-    pub started_same : (e : Entry K) → is_begun e.reply ≡ false → old.started ≡ was_begun (kept entries ++ e ∷ [])
-    started_same e b = stood.started ∙ sym (list_any-more (λ (x : Entry K). is_begun x.reply) (kept entries) e ∙ ap (λ v. was_begun (kept entries) || v) b ∙ or_false (was_begun (kept entries)))
-
-    pub caches_same : (e : Entry K) → ((j : ℕ) → sequential_cache policy (setup_of old) (kept entries ++ e ∷ []) j ≡ sequential_cache policy (setup_of old) (kept entries) j)
-        → (j : ℕ) → slice_get old.caches j ≡ option_map (λ _. sequential_cache policy (setup_of old) (kept entries ++ e ∷ []) j) (slice_get old.loaders j)
-    caches_same e same j = stood.caches j ∙ ap (λ c. option_map (λ _. c) (slice_get old.loaders j)) (sym (same j))
-
-    queue_here : (q : Queue) (o : Option Loader) → option_map (λ _. q) o ≡ option_map (λ _. q) o
-    queue_here q o = refl
+    -- whether a begin was accepted stays, but at a begin
+    pub started_same : (e : Entry K) → is_begun e.reply ≡ false → old.started ≡ was_begun (after e)
+    started_same e b = stood.started ∙ sym (list_any-more (λ (x : Entry K). is_begun x.reply) before e ∙ ap (λ v. was_begun before || v) b ∙ or_false (was_begun before))
 
     mapped : (change : Queue → Queue) (q p : Queue) (o : Option Loader) → p ≡ change q → option_map change (option_map (λ _. q) o) ≡ option_map (λ _. p) o
     mapped change q p None h = refl
     mapped change q p (Some l) h = ap Some (sym h)
 
-    queues_changed : (e : Entry K) (i : ℕ) (change : Queue → Queue) → queue_due (setup_of old) (kept entries ++ e ∷ []) i ≡ change (queue_due (setup_of old) (kept entries) i)
-        → ((j : ℕ) → (i ≡ j → ⊥) → queue_due (setup_of old) (kept entries ++ e ∷ []) j ≡ queue_due (setup_of old) (kept entries) j)
-        → (j : ℕ) → slice_get (changed_at change i old.queues) j ≡ option_map (λ _. queue_due (setup_of old) (kept entries ++ e ∷ []) j) (slice_get old.loaders j)
-    queues_changed e i change here there j = by_number (i == j) refl
+    -- the queues, where that of one cache changed
+    pub queues_changed : (e : Entry K) (i : ℕ) (change : Queue → Queue) → queue_of setup (after e) i ≡ change (queue_of setup before i)
+        → ((j : ℕ) → (i ≡ j → ⊥) → queue_of setup (after e) j ≡ queue_of setup before j)
+        → (j : ℕ) → slice_get (with_changed change i old.queues) j ≡ option_map (λ _. queue_of setup (after e) j) (slice_get old.loaders j)
+    queues_changed e i change here elsewhere j = by_number (i == j) refl
       where
-        by_number : (b : Bool) → (i == j) ≡ b → slice_get (changed_at change i old.queues) j ≡ option_map (λ _. queue_due (setup_of old) (kept entries ++ e ∷ []) j) (slice_get old.loaders j)
+        by_number : (b : Bool) → (i == j) ≡ b → slice_get (with_changed change i old.queues) j ≡ option_map (λ _. queue_of setup (after e) j) (slice_get old.loaders j)
         by_number true n =
-            subst (λ k. slice_get (changed_at change i old.queues) k ≡ option_map (λ _. queue_due (setup_of old) (kept entries ++ e ∷ []) k) (slice_get old.loaders k)) (same_number i j n)
-            (changed-same change old.queues i ∙ ap (option_map change) (stood.queues i) ∙ mapped change (queue_due (setup_of old) (kept entries) i) (queue_due (setup_of old) (kept entries ++ e ∷ []) i) (slice_get old.loaders i) here)
+            subst (λ k. slice_get (with_changed change i old.queues) k ≡ option_map (λ _. queue_of setup (after e) k) (slice_get old.loaders k)) (same_number i j n)
+            (changed-same change old.queues i ∙ ap (option_map change) (stood.queues i) ∙ mapped change (queue_of setup before i) (queue_of setup (after e) i) (slice_get old.loaders i) here)
         by_number false n =
             changed-other change old.queues i j (other_number i j n)
             ∙ stood.queues j
-            ∙ ap (λ q. option_map (λ _. q) (slice_get old.loaders j)) (sym (there j (other_number i j n)))
+            ∙ ap (λ q. option_map (λ _. q) (slice_get old.loaders j)) (sym (elsewhere j (other_number i j n)))
 
-    -- an entry after which each queue is as it was
-    pub follows-same : (e : Entry K) → is_begun e.reply ≡ false → ((j : ℕ) → sequential_cache policy (setup_of old) (kept entries ++ e ∷ []) j ≡ sequential_cache policy (setup_of old) (kept entries) j)
-        → ((j : ℕ) → queue_due (setup_of old) (kept entries ++ e ∷ []) j ≡ queue_due (setup_of old) (kept entries) j) → Follows old entries old e
+    follows-same : (e : Entry K) → is_begun e.reply ≡ false → CachesAfter e.event e.reply old old → ((j : ℕ) → queue_of setup (after e) j ≡ queue_of setup before j) → Follows old entries old e
     follows-same e b caches queues = record {
       loaders = refl;
       rules = refl;
       handles = refl;
       calls = refl;
-      caches = caches_same e caches;
+      caches = caches;
       queues = λ j. stood.queues j ∙ ap (λ q. option_map (λ _. q) (slice_get old.loaders j)) (sym (queues j));
       greatest = greatest_same e b;
       started = started_same e b;
     }
 
-    -- an entry after which the queue of its call's cache changed, and perhaps a cache
-    pub follows-changed : (e : Entry K) (i : ℕ) (change : Queue → Queue) (caches : List (Option K)) → cache_of (setup_of old) (call_of e.event) ≡ Some i → is_begun e.reply ≡ false
-        → ((j : ℕ) → slice_get caches j ≡ option_map (λ _. sequential_cache policy (setup_of old) (kept entries ++ e ∷ []) j) (slice_get old.loaders j))
-        → queue_due (setup_of old) (kept entries ++ e ∷ []) i ≡ change (queue_due (setup_of old) (kept entries) i)
-        → Follows old entries (record old { caches = caches; queues = changed_at change i old.queues }) e
+    -- an entry after which the queue of its call's cache changed, and perhaps the caches
+    pub follows-changed : (e : Entry K) (i : ℕ) (change : Queue → Queue) (caches : List (Option K)) → cache_of setup (call_of e.event) ≡ Some i → is_begun e.reply ≡ false
+        → CachesAfter e.event e.reply old (record old { caches = caches; queues = with_changed change i old.queues })
+        → queue_of setup (after e) i ≡ change (queue_of setup before i)
+        → Follows old entries (record old { caches = caches; queues = with_changed change i old.queues }) e
     follows-changed e i change caches at b cached here = record {
       loaders = refl;
       rules = refl;
       handles = refl;
       calls = refl;
       caches = cached;
-      queues = queues_changed e i change here (queue-elsewhere policy (setup_of old) (kept entries) ran e i at b);
+      queues = queues_changed e i change here (queue-elsewhere policy setup before ran e i at b);
       greatest = greatest_same e b;
       started = started_same e b;
     }
 
-    -- an entry after which only the queue of its call's cache stays to be told
-    pub follows-stays : (e : Entry K) (i : ℕ) → cache_of (setup_of old) (call_of e.event) ≡ Some i → is_begun e.reply ≡ false
-        → ((j : ℕ) → sequential_cache policy (setup_of old) (kept entries ++ e ∷ []) j ≡ sequential_cache policy (setup_of old) (kept entries) j)
-        → queue_due (setup_of old) (kept entries ++ e ∷ []) i ≡ queue_due (setup_of old) (kept entries) i → Follows old entries old e
+    -- an entry after which all queues are as they were
+    pub follows-stays : (e : Entry K) (i : ℕ) → cache_of setup (call_of e.event) ≡ Some i → is_begun e.reply ≡ false → CachesAfter e.event e.reply old old
+        → queue_of setup (after e) i ≡ queue_of setup before i → Follows old entries old e
     follows-stays e i at b caches here = follows-same e b caches (λ j. by_number j (i == j) refl)
       where
-        by_number : (j : ℕ) (c : Bool) → (i == j) ≡ c → queue_due (setup_of old) (kept entries ++ e ∷ []) j ≡ queue_due (setup_of old) (kept entries) j
-        by_number j true n = subst (λ k. queue_due (setup_of old) (kept entries ++ e ∷ []) k ≡ queue_due (setup_of old) (kept entries) k) (same_number i j n) here
-        by_number j false n = queue-elsewhere policy (setup_of old) (kept entries) ran e i at b j (other_number i j n)
+        by_number : (j : ℕ) (c : Bool) → (i == j) ≡ c → queue_of setup (after e) j ≡ queue_of setup before j
+        by_number j true n = subst (λ k. queue_of setup (after e) k ≡ queue_of setup before k) (same_number i j n) here
+        by_number j false n = queue-elsewhere policy setup before ran e i at b j (other_number i j n)
 
-    pub keeps_old : (call : CallId) → Keeps old call (find_call call old.calls) old
+    -- a desk changes no call where it stays as it is
+    pub keeps_old : (call : CallId) → ChangesOnlyCall old call (find_call call old.calls) old
     keeps_old call = record { loaders = refl; rules = refl; handles = refl; caches = refl; queues = refl; greatest = refl; started = refl; this_call = refl; other_calls = λ _ _. refl; count = refl }
 
-    -- the live calls: as many, where the entry's call is live before and after it, or is not; one fewer where it ends
-    pub live-same : (e : Entry K) → is_begun e.reply ≡ false → is_live (phase_of (kept entries) (call_of e.event)) ≡ is_live (phase_of (kept entries ++ e ∷ []) (call_of e.event)) → live_calls (kept entries ++ e ∷ []) ≡ live_calls (kept entries)
-    live-same e b h = passing-same policy (setup_of old) (λ _ p. is_live p) (kept entries) e b h
+    live-same : (e : Entry K) → is_begun e.reply ≡ false → is_live (phase_of before (call_of e.event)) ≡ is_live (phase_of (after e) (call_of e.event)) → live_calls (after e) ≡ live_calls before
+    live-same e b h = passing-same policy setup (λ _ p. is_live p) before e b h
 
-    pub live-kept : (e : Entry K) (r s : CallRecord) → is_begun e.reply ≡ false → is_live (phase_of (kept entries) (call_of e.event)) ≡ is_live (phase_of (kept entries ++ e ∷ []) (call_of e.event)) → find_call (call_of e.event) old.calls ≡ Some r
-        → length (live_calls (kept entries)) + one_if (Some s) ≡ length (live_calls (kept entries ++ e ∷ [])) + one_if (find_call (call_of e.event) old.calls)
-    live-kept e r s b h f = rw (f, live-same e b h) refl
+    -- as many calls are live, where the entry's call stays live
+    pub live-stays : (e : Entry K) (r s : CallRecord) → is_begun e.reply ≡ false → is_live (phase_of before (call_of e.event)) ≡ is_live (phase_of (after e) (call_of e.event)) → find_call (call_of e.event) old.calls ≡ Some r
+        → length (live_calls before) + one_if (Some s) ≡ length (live_calls (after e)) + one_if (find_call (call_of e.event) old.calls)
+    live-stays e r s b h f = rw (f, live-same e b h) refl
 
-    pub live-ended : (e : Entry K) (r : CallRecord) → is_begun e.reply ≡ false → is_some (begin_of (kept entries) (call_of e.event)) ≡ true → is_live (phase_of (kept entries) (call_of e.event)) ≡ true → is_live (phase_of (kept entries ++ e ∷ []) (call_of e.event)) ≡ false
+    -- and one fewer, where it ends
+    pub live-ended : (e : Entry K) (r : CallRecord) → is_begun e.reply ≡ false → is_some (begin_of before (call_of e.event)) ≡ true → is_live (phase_of before (call_of e.event)) ≡ true → is_live (phase_of (after e) (call_of e.event)) ≡ false
         → find_call (call_of e.event) old.calls ≡ Some r
-        → length (live_calls (kept entries)) + 0 ≡ length (live_calls (kept entries ++ e ∷ [])) + one_if (find_call (call_of e.event) old.calls)
-    live-ended e r b there lives ended f =
-        let fewer : length (live_calls (kept entries)) ≡ length (live_calls (kept entries ++ e ∷ [])) + 1 = passing-fewer policy (setup_of old) (λ _ p. is_live p) (kept entries) e ran b there lives ended in
+        → length (live_calls before) + 0 ≡ length (live_calls (after e)) + one_if (find_call (call_of e.event) old.calls)
+    live-ended e r b begun lives ended f =
+        let fewer : length (live_calls before) ≡ length (live_calls (after e)) + 1 = passing-fewer policy setup (λ _ p. is_live p) before e ran b begun lives ended in
         rw f (omega (arith, fewer))
 
-    -- an event that does not fit
-    pub represents-not_now : (event : Event K) → NotNow ≡ reply_due policy (setup_of old) (kept entries) event → Represents policy old (entries ++ record { event = event; reply = NotNow } ∷ [])
-    represents-not_now event due =
+    -- an event that does not fit changes nothing
+    pub refines-not_now : (event : Event K) → NotNow ≡ expected_reply policy setup before event → Refines old entries (record { event = event; reply = NotNow }) old
+    refines-not_now event expected =
         let e : Entry K = record { event = event; reply = NotNow } in
         let own : same_call (call_of event) (call_of event) ≡ true = same_call-refl (call_of event) in
-        let p : phase_of (kept entries ++ record { event = event; reply = NotNow } ∷ []) (call_of event) ≡ phase_of (kept entries) (call_of event) = refused_phase (setup_of old) (kept entries) 0 event (call_of event) own in
-        let a : answers_of (kept entries ++ record { event = event; reply = NotNow } ∷ []) (call_of event) ≡ answers_of (kept entries) (call_of event) = refused_answers (setup_of old) (kept entries) 0 event (call_of event) own in
-        let b : begin_of (kept entries ++ record { event = event; reply = NotNow } ∷ []) (call_of event) ≡ begin_of (kept entries) (call_of event) = begin-own (setup_of old) (kept entries) 0 e (call_of event) own refl in
-        let l : live_calls (kept entries ++ record { event = event; reply = NotNow } ∷ []) ≡ live_calls (kept entries) = live-same e refl (ap is_live (sym p)) in
-        represents-more old old e due refl
-        (follows-same e refl (stays_not_now policy (setup_of old) (kept entries) ran event) (queue-not_now policy (setup_of old) (kept entries) ran e refl refl (and_false (is_poll event)) p))
-        (find_call (call_of event) old.calls) (keeps_old (call_of event))
-        (stood.calls (call_of event) ∙ rw (p, a, b) refl)
-        (ap (λ (xs : List CallId). length xs + one_if (find_call (call_of event) old.calls)) (sym l))
-
-    -- whether a begin fits, on what is kept
-    handle_by : (call : CallId) (n : Option ℕ) → (o : Option Handle) → slice_get old.handles call.handle ≡ o → (is_some o && is_new_at call.number (option_map (λ _. n) o)) ≡ (is_some (option_map (λ (h : Handle). h.cache) o) && is_above call.number n)
-    handle_by call n None h = refl
-    handle_by call n (Some x) h = refl
-
-    fits_same : (call : CallId) → begin_fits_kept old call ≡ begin_fits (setup_of old) (kept entries) call
-    fits_same call =
-        ap (λ g. is_some (slice_get old.handles call.handle) && is_new_at call.number g) (stood.greatest call.handle)
-        ∙ handle_by call (greatest_begun call.handle (kept entries)) (slice_get old.handles call.handle) refl
-        ∙ ap (λ v. is_some (cache_of (setup_of old) call) && v) (sym (is_new_number-is (kept entries) call))
-
-    due_by : (call : CallId) (head : Head) (expires_in : Option Duration) (o : Option ℕ) → cache_of (setup_of old) call ≡ o → (b : Bool) → begin_fits (setup_of old) (kept entries) call ≡ b → is_some o ≡ true → b ≡ true → Begun ≡ reply_at policy (setup_of old) (kept entries) (Begin call head expires_in) o
-    due_by call head expires_in None at b f s t = absurd (cc)
-    due_by call head expires_in (Some i) at b f s t = rw (f, t) refl
-
-    begun_due : (call : CallId) (head : Head) (expires_in : Option Duration) → begin_fits (setup_of old) (kept entries) call ≡ true → Begun ≡ reply_due policy (setup_of old) (kept entries) (Begin call head expires_in)
-    unfolding reply_due
-    begun_due call head expires_in fits = due_by call head expires_in (cache_of (setup_of old) call) refl (begin_fits (setup_of old) (kept entries) call) refl (and_left _ _ fits) fits
-
-    unfit_by : (call : CallId) (head : Head) (expires_in : Option Duration) (o : Option ℕ) → begin_fits (setup_of old) (kept entries) call ≡ false → NotNow ≡ reply_at policy (setup_of old) (kept entries) (Begin call head expires_in) o
-    unfit_by call head expires_in None f = refl
-    unfit_by call head expires_in (Some i) f = rw f refl
-
-    unfit_due : (call : CallId) (head : Head) (expires_in : Option Duration) → begin_fits (setup_of old) (kept entries) call ≡ false → NotNow ≡ reply_due policy (setup_of old) (kept entries) (Begin call head expires_in)
-    unfolding reply_due
-    unfit_due call head expires_in f = unfit_by call head expires_in (cache_of (setup_of old) call) f
-
-    greatest_here : (n : ℕ) (o : Option Handle) (g : Option ℕ) → is_some o ≡ true → g ≡ Some n → Some (Some n) ≡ option_map (λ _. g) o
-    greatest_here n None g s e = cc
-    greatest_here n (Some x) g s e = ap Some (sym e)
-
-    there_both : (n : ℕ) (o : Option Handle) (g : Option ℕ) → is_some (option_map (λ (h : Handle). h.cache) o) ≡ true → is_some (option_map (λ _. g) o) ≡ true
-    there_both n None g h = cc
-    there_both n (Some x) g h = refl
-
-    there_handle : (o : Option Handle) → is_some (option_map (λ (h : Handle). h.cache) o) ≡ true → is_some o ≡ true
-    there_handle None h = cc
-    there_handle (Some x) h = refl
-
-    greatest_begins : (call : CallId) (head : Head) (expires_in : Option Duration) → begin_fits (setup_of old) (kept entries) call ≡ true → (h : ℕ) → (s : Bool) → (call.handle == h) ≡ s
-        → slice_get (slice_set old.greatest call.handle (Some call.number)) h ≡ option_map (λ _. greatest_begun h (kept entries ++ record { event = Begin call head expires_in; reply = Begun } ∷ [])) (slice_get old.handles h)
-    greatest_begins call head expires_in fits h true s =
-        let here : call.handle ≡ h = same_number call.handle h s in
-        let e : Entry K = record { event = Begin call head expires_in; reply = Begun } in
-        let there : is_some (slice_get old.greatest call.handle) ≡ true = ap is_some (stood.greatest call.handle) ∙ there_both call.number (slice_get old.handles call.handle) (greatest_begun call.handle (kept entries)) (and_left _ _ fits) in
-        let above : is_above call.number (greatest_begun call.handle (kept entries)) ≡ true = sym (is_new_number-is (kept entries) call) ∙ and_right _ _ fits in
-        let now : greatest_begun call.handle (kept entries ++ record { event = Begin call head expires_in; reply = Begun } ∷ []) ≡ Some call.number =
-        greatest_begun-more call.handle (kept entries) e ∙ ap (λ v. cond v (greater call.number (greatest_begun call.handle (kept entries))) (greatest_begun call.handle (kept entries))) (number_refl call.handle) ∙ greater_above call.number (greatest_begun call.handle (kept entries)) above in
-        subst (λ k. slice_get (slice_set old.greatest call.handle (Some call.number)) k ≡ option_map (λ _. greatest_begun k (kept entries ++ record { event = Begin call head expires_in; reply = Begun } ∷ [])) (slice_get old.handles k)) here
-        (slice_get-set_same old.greatest call.handle (Some call.number) there ∙ greatest_here call.number (slice_get old.handles call.handle) (greatest_begun call.handle (kept entries ++ record { event = Begin call head expires_in; reply = Begun } ∷ [])) (there_handle (slice_get old.handles call.handle) (and_left _ _ fits)) now)
-    greatest_begins call head expires_in fits h false s =
-        let e : Entry K = record { event = Begin call head expires_in; reply = Begun } in
-        let same : greatest_begun h (kept entries ++ record { event = Begin call head expires_in; reply = Begun } ∷ []) ≡ greatest_begun h (kept entries) =
-        greatest_begun-more h (kept entries) e ∙ ap (λ v. cond v (greater call.number (greatest_begun h (kept entries))) (greatest_begun h (kept entries))) s in
-        slice_get-set_other old.greatest call.handle h (Some call.number) (other_number call.handle h s) ∙ stood.greatest h ∙ ap (λ c. option_map (λ _. c) (slice_get old.handles h)) (sym same)
-
-    -- a begin that fits
-    module _ (call : CallId) (head : Head) (expires_in : Option Duration) (fits : begin_fits (setup_of old) (kept entries) call ≡ true) (i : ℕ) (at : cache_of (setup_of old) call ≡ Some i) where
-      begins : Entry K
-      begins = record { event = Begin call head expires_in; reply = Begun }
-
-      new : is_new_number (kept entries) call ≡ true
-      new = and_right _ _ fits
-
-      blank : IsBlank (setup_of old) (kept entries) i call
-      blank = unbegun_blank policy (setup_of old) (kept entries) i call (phase_of (kept entries) call) (unbegun policy (setup_of old) (entries_of (kept entries) call) (new_is_unbegun call (kept entries) new)) (stands policy (setup_of old) (kept entries) ran call i at)
-
-      phase_begun : phase_of (kept entries ++ record { event = Begin call head expires_in; reply = Begun } ∷ []) call ≡ Fresh
-      phase_begun =
-          phase-own_mark (setup_of old) (kept entries) i (record { event = Begin call head expires_in; reply = Begun }) call (same_call-refl call) refl
-          ∙ ap (λ v. cond (v || false) Queued Fresh) blank.waited
-
-      own_begun : Some (live_view (record { stage = stage.Fresh; head = head; expires_in = expires_in; answers = 0 })) ≡ live_call (kept entries ++ record { event = Begin call head expires_in; reply = Begun } ∷ []) call
-      own_begun =
-          let e : Entry K = record { event = Begin call head expires_in; reply = Begun } in
-          let own : same_call call call ≡ true = same_call-refl call in
-          let a : answers_of (kept entries ++ record { event = Begin call head expires_in; reply = Begun } ∷ []) call ≡ [] = answers-own_none (setup_of old) (kept entries) i e call own refl ∙ blank.answers in
-          let b : begin_of (kept entries ++ record { event = Begin call head expires_in; reply = Begun } ∷ []) call ≡ Some (record { head = head; duration = option_map as_nanos expires_in }) = ap begin_in (entries_of-own (kept entries) call e own) ∙ begin_in-new (entries_of (kept entries) call) e (new_is_unbegun call (kept entries) new) refl in
-          rw (phase_begun, a, b) refl
-
-      not_kept : (o : Option CallRecord) → find_call call old.calls ≡ o → one_if o ≡ 0
-      not_kept None f = refl
-      not_kept (Some r) f =
-          let none : live_call (kept entries) call ≡ None = ap (live_by (phase_of (kept entries) call) (length (answers_of (kept entries) call))) blank.begin in
-          let some : Some (live_view r) ≡ live_call (kept entries) call = ap (option_map live_view) (sym f) ∙ stood.calls call in
-          absurd (cc)
-
-      cache_is : cache_at (slice_get old.handles call.handle) ≡ i
-      cache_is = cache_by (slice_get old.handles call.handle) at
-        where
-          cache_by : (o : Option Handle) → option_map (λ (h : Handle). h.cache) o ≡ Some i → cache_at o ≡ i
-          cache_by None h = cc
-          cache_by (Some x) h = cc
-
-      begin_follows : Follows old entries (with_begin call old) (record { event = Begin call head expires_in; reply = Begun })
-      begin_follows =
-          let e : Entry K = record { event = Begin call head expires_in; reply = Begun } in
-          record {
-            loaders = refl;
-            rules = refl;
-            handles = refl;
-            calls = refl;
-            caches = caches_same e (stays_other policy (setup_of old) (kept entries) ran e refl refl);
-            queues = λ j. rw cache_is (queues_changed e i expected (queue-expected policy (setup_of old) (kept entries) ran e i at refl new refl refl (ap is_fresh phase_begun)) (queue-begun_elsewhere policy (setup_of old) (kept entries) ran e i at refl new) j);
-            greatest = λ h. greatest_begins call head expires_in fits h (call.handle == h) refl;
-            started = sym (list_any-more (λ (x : Entry K). is_begun x.reply) (kept entries) e ∙ or_true (was_begun (kept entries)));
-          }
-
-      begin_represents : (new_desk : Kept K D) → Keeps (with_begin call old) call (Some (record { stage = stage.Fresh; head = head; expires_in = expires_in; answers = 0 })) new_desk
-          → Represents policy new_desk (entries ++ record { event = Begin call head expires_in; reply = Begun } ∷ [])
-      begin_represents new_desk keeps =
-          let e : Entry K = record { event = Begin call head expires_in; reply = Begun } in
-          let counted : length (live_calls (kept entries ++ record { event = Begin call head expires_in; reply = Begun } ∷ [])) ≡ length (live_calls (kept entries)) + 1 = passing-more policy (setup_of old) (λ _ p. is_live p) (kept entries) e refl new (ap is_live phase_begun) in
-          let none : one_if (find_call call old.calls) ≡ 0 = not_kept (find_call call old.calls) refl in
-          represents-more (with_begin call old) new_desk e (begun_due call head expires_in fits) refl begin_follows
-          (Some (record { stage = stage.Fresh; head = head; expires_in = expires_in; answers = 0 })) keeps own_begun (omega (arith, counted, none))
-
-    begin_by : (call : CallId) (head : Head) (expires_in : Option Duration) → begin_fits (setup_of old) (kept entries) call ≡ true → (o : Option ℕ) → cache_of (setup_of old) call ≡ o → is_some o ≡ true → (new : Kept K D)
-        → Keeps (with_begin call old) call (Some (record { stage = stage.Fresh; head = head; expires_in = expires_in; answers = 0 })) new → Represents policy new (entries ++ record { event = Begin call head expires_in; reply = Begun } ∷ [])
-    begin_by call head expires_in fits None at s new keeps = absurd (cc)
-    begin_by call head expires_in fits (Some i) at s new keeps = begin_represents call head expires_in fits i at new keeps
-
-    begin_lost : (call : CallId) (head : Head) (expires_in : Option Duration) → begin_fits (setup_of old) (kept entries) call ≡ true → IsTrue (allocates policy (setup_of old) (kept entries) (Begin call head expires_in))
-    begin_lost call head expires_in fits = rw fits refl
-
-    -- a begin
-    pub represents-begin : (call : CallId) (head : Head) (expires_in : Option Duration) (reply : Reply K) (new : Kept K D) → BeginMoves old call head expires_in reply new → Represents policy new (entries ++ record { event = Begin call head expires_in; reply = reply } ∷ [])
-    represents-begin call head expires_in NotNow new m = rw (m.1) (represents-not_now (Begin call head expires_in) (unfit_due call head expires_in (sym (fits_same call) ∙ m.0)))
-    represents-begin call head expires_in OutOfMemory new m = rw (m.1) (represents-lost (Begin call head expires_in) (begin_lost call head expires_in (sym (fits_same call) ∙ m.0)))
-    represents-begin call head expires_in Begun new m = begin_by call head expires_in (sym (fits_same call) ∙ m.0) (cache_of (setup_of old) call) refl (and_left _ _ (sym (fits_same call) ∙ m.0)) new m.1
-    represents-begin call head expires_in Pending new m = absurd m
-    represents-begin call head expires_in (Ask k) new m = absurd m
-    represents-begin call head expires_in (Sign c w) new m = absurd m
-    represents-begin call head expires_in (Refused y w) new m = absurd m
-    represents-begin call head expires_in (Done x) new m = absurd m
-    represents-begin call head expires_in (Cancelled w) new m = absurd m
+        let p : phase_of (after (record { event = event; reply = NotNow })) (call_of event) ≡ phase_of before (call_of event) = refused_phase setup before 0 event (call_of event) own in
+        let a : answers_of (after (record { event = event; reply = NotNow })) (call_of event) ≡ answers_of before (call_of event) = refused_answers setup before 0 event (call_of event) own in
+        let b : begin_of (after (record { event = event; reply = NotNow })) (call_of event) ≡ begin_of before (call_of event) = begin-own setup before 0 e (call_of event) own refl in
+        let l : live_calls (after (record { event = event; reply = NotNow })) ≡ live_calls before = live-same e refl (ap is_live (sym p)) in
+        let caches : CachesAfter event NotNow old old = caches_after-same event NotNow old old (not_refresh event) refl in
+        record {
+          represents = represents-more e expected refl old old
+              (follows-same e refl caches (queue-not_now policy setup before ran e refl refl (and_false (is_poll event)) p))
+              (find_call (call_of event) old.calls) (keeps_old (call_of event))
+              (stood.calls (call_of event) ∙ rw (p, a, b) refl)
+              (ap (λ (xs : List CallId). length xs + one_if (find_call (call_of event) old.calls)) (sym l));
+          setup = refl;
+          caches = caches;
+          unchanged = refl;
+        }
+      where
+        not_refresh : (event : Event K) → is_refresh event (let r : Reply K = NotNow in r) ≡ false
+        not_refresh (Provided call now answer) = refl
+        not_refresh event = refl

@@ -1,36 +1,36 @@
 -- What the calls do that set up a desk.
 use Rattle.std.specs.Prelude.{◌≡◌, ℕ, nat_lt, [], ◌∷◌, ◌++◌, Option, Some, None, Result, Ok, Err, length, if◌then◌else◌}
 use Rattle.sequential_signer.specs.declared.event.Loader.{Loader}
-use Rattle.sign_desk.specs.Kept.{Kept}
+use Rattle.sign_desk.specs.DeskState.{DeskState}
 use Rattle.sign_desk.specs.declared.adding.AddError.{AddError}
 use Rattle.sign_desk.specs.declared.adding.AddRefused.{AddRefused}
 use Rattle.sign_desk.specs.declared.adding.AddError.TheVariants.{Late, NoCache, NoRule, OutOfMemory}
 
 -- the desk with one more empty cache
-abbrev pub with_cache : {K D : Type 0} → Loader → Kept K D → Kept K D
+abbrev pub with_cache : {K D : Type 0} → Loader → DeskState K D → DeskState K D
 with_cache loader desk = record desk { loaders = desk.loaders ++ loader ∷ []; caches = desk.caches ++ None ∷ []; queues = desk.queues ++ record { line = []; unpolled = 0 } ∷ [] }
 
 -- the desk with one more rule
-abbrev pub with_rule : {K D : Type 0} → D → Kept K D → Kept K D
+abbrev pub with_rule : {K D : Type 0} → D → DeskState K D → DeskState K D
 with_rule rule desk = record desk { rules = desk.rules ++ rule ∷ [] }
 
 -- the desk with one more handle
-abbrev pub with_handle : {K D : Type 0} → ℕ → ℕ → Kept K D → Kept K D
+abbrev pub with_handle : {K D : Type 0} → ℕ → ℕ → DeskState K D → DeskState K D
 with_handle cache rule desk = record desk { handles = desk.handles ++ record { cache = cache; rule = rule } ∷ []; greatest = desk.greatest ++ None ∷ [] }
 
 -- why nothing may be added any more, where a begin was accepted
-abbrev pub late : {K D : Type 0} → Kept K D → Option AddError
-late desk = if desk.started then Some Late else None
+abbrev pub late_refusal : {K D : Type 0} → DeskState K D → Option AddError
+late_refusal desk = if desk.started then Some Late else None
 
 -- the first cause why such a handle may not be added
-abbrev pub handle_refusal : {K D : Type 0} → Kept K D → ℕ → ℕ → Option AddError
+abbrev pub handle_refusal : {K D : Type 0} → DeskState K D → ℕ → ℕ → Option AddError
 handle_refusal desk cache rule =
     if desk.started then Some Late
     else if nat_lt cache (length desk.loaders)
     then (if nat_lt rule (length desk.rules) then None else Some (NoRule rule))
     else Some (NoCache cache)
 
--- the answer is the refusal, where there is one, else the new number or want of memory
+-- the answer is the refusal, where there is one, else the new number or out of memory
 abbrev pub AddAnswer : Option AddError → ℕ → Result ℕ AddError → Type 0
 AddAnswer (Some why) number (Ok n) = ⊥
 AddAnswer (Some why) number (Err e) = e ≡ why

@@ -18,37 +18,37 @@ abbrev pub is_held : Queue → Bool
 is_held queue = is_held_line queue.line
 
 -- the call that gets its turn where this call leaves: the second of the line, where this one is the first
-abbrev pub woken : CallId → List CallId → Option CallId
-woken call [] = None
-woken call (x ∷ rest) = if same_call call x then first_of rest else None
+abbrev pub next_holder : CallId → List CallId → Option CallId
+next_holder call [] = None
+next_holder call (x ∷ rest) = if same_call call x then first_of rest else None
 
 -- one more call may come
-abbrev pub expected : Queue → Queue
-expected queue = record queue { unpolled = queue.unpolled + 1 }
+abbrev pub with_room : Queue → Queue
+with_room queue = record queue { unpolled = queue.unpolled + 1 }
 
 -- the call came, and stands behind all others
-abbrev pub entered : CallId → Queue → Queue
-entered call queue = record { line = queue.line ++ call ∷ []; unpolled = queue.unpolled - 1 }
+abbrev pub with_last : CallId → Queue → Queue
+with_last call queue = record { line = queue.line ++ call ∷ []; unpolled = queue.unpolled - 1 }
 
 -- a call came that takes no place
-abbrev pub passed : Queue → Queue
-passed queue = record queue { unpolled = queue.unpolled - 1 }
+abbrev pub without_room : Queue → Queue
+without_room queue = record queue { unpolled = queue.unpolled - 1 }
 
 -- the call is out of the line
-abbrev pub left : CallId → Queue → Queue
-left call queue = record queue { line = filter (λ other. not (same_call other call)) queue.line }
+abbrev pub without_call : CallId → Queue → Queue
+without_call call queue = record queue { line = filter (λ other. not (same_call other call)) queue.line }
 
 -- a list where the item at this place changed
-abbrev pub changed_at : {A : Type 0} → (A → A) → ℕ → List A → List A
-changed_at change i [] = []
-changed_at change zero (x ∷ rest) = change x ∷ rest
-changed_at change (suc i) (x ∷ rest) = x ∷ changed_at change i rest
+abbrev pub with_changed : {A : Type 0} → (A → A) → ℕ → List A → List A
+with_changed change i [] = []
+with_changed change zero (x ∷ rest) = change x ∷ rest
+with_changed change (suc i) (x ∷ rest) = x ∷ with_changed change i rest
 
 -- the line of a queue, where there is one
-abbrev pub line_of : Option Queue → List CallId
-line_of None = []
-line_of (Some queue) = queue.line
+abbrev pub queue_line : Option Queue → List CallId
+queue_line None = []
+queue_line (Some queue) = queue.line
 
 -- the line of cache i
 abbrev pub line_at : ℕ → List Queue → List CallId
-line_at i queues = line_of (slice_get queues i)
+line_at i queues = queue_line (slice_get queues i)

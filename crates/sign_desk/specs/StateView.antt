@@ -1,6 +1,6 @@
 -- What contracts see of the state of a desk.
 use Rattle.std.specs.Prelude.{map}
-use Rattle.sign_desk.specs.Kept.{Kept}
+use Rattle.sign_desk.specs.DeskState.{DeskState}
 use Rattle.sequential_signer.specs.Setup.{Handle}
 use Rattle.sign_desk.specs.declared.state.HandleRecord.{HandleRecord}
 use Rattle.sign_desk.specs.declared.state.State.TheInside.{Inside}
@@ -10,7 +10,7 @@ abbrev pub handle_view : HandleRecord → Handle
 handle_view h = record { cache = h.cache; rule = h.rule }
 
 -- each table as a list
-abbrev pub state_view : {K D : Type 0} → Inside K D → Kept K D
+abbrev pub state_view : {K D : Type 0} → Inside K D → DeskState K D
 state_view desk = record {
   loaders = desk.loaders.items;
   rules = desk.rules.items;

@@ -4,24 +4,21 @@
 //! Each cache has a lock, first come, first served. A call takes its place at its first poll, behind
 //! all calls of its cache that were polled before, and nobody overtakes it. At its turn it holds the
 //! lock and looks at the cache: a credential that is fresh and lasts to the call's deadline is handed
-//! out, and else the call loads. The lock passes on in the step that ends the hold, by a credential, a
-//! refusal or a cancel, and that step's reply names the next. So one call of a cache loads at a time,
-//! and signing goes on beside later holds.
+//! out, and else the call loads. What it finds is cached where it is handed out. The lock passes on in
+//! the step that ends the hold, by a credential, a refusal or a cancel, and that step's reply names the
+//! next. So one call of a cache loads at a time, and signing goes on beside later holds.
 //!
-//! Contracts see a desk as the record `Kept`, and compare it with the transcript of all events and
+//! Contracts see a desk as the record `DeskState`, and compare it with the transcript of all events and
 //! replies by `Represents`: the desk replies what a signer would that serves one call at a time.
 ghost use Rattle.std.specs.Prelude.{◌≡◌, ◌<◌, ◌++◌, ◌∷◌, [], List, true, not, OnOk, OnErr, IfOk, IfErr, length, option_map, option_and_then, option_copied, slice_get};
 
 use crate::adding::{AddError, AddRefused};
+use crate::run_error::RunError;
 use crate::state::State;
 use credentials::{DeadlineRule, SigningCredential};
 use sequential_signer::{Event, Loader, Reply};
 use std::alloc::Global;
 use std::marker::Model;
-
-/// Memory was wanting for the replies of a run. No event was taken, and the desk is as it was.
-#[derive(Clone, Copy, Debug, Drop, PartialEq, Eq)]
-pub struct RunError;
 
 /// The core of the signer: what is set up, what each cache holds, and the live calls.
 #[derive(Drop)]
@@ -30,9 +27,9 @@ pub struct Desk<K: SigningCredential, D: DeadlineRule<Credential = K>> {
 }
 
 impl<K: SigningCredential, D: DeadlineRule<Credential = K>> Model for Desk<K, D> {
-    ghost use Rattle.sign_desk.specs.Kept.{Kept};
+    ghost use Rattle.sign_desk.specs.DeskState.{DeskState};
 
-    ghost Value = { Kept K D };
+    ghost Value = { DeskState K D };
 
     ghost use Rattle.sequential_signer.specs.Policy.{policy_of};
     ghost use Rattle.sign_desk.specs.IsDesk.{IsDesk};
@@ -43,17 +40,19 @@ impl<K: SigningCredential, D: DeadlineRule<Credential = K>> Model for Desk<K, D>
 }
 
 impl<K: SigningCredential, D: DeadlineRule<Credential = K>> Desk<K, D> {
-    ghost use Rattle.sign_desk.specs.Kept.{Represents, setup_of, was_begun};
-    ghost use Rattle.sign_desk.specs.Adding.{late, handle_refusal, AddAnswer, AddAnswerBack, with_cache, with_rule, with_handle};
-    ghost use Rattle.sign_desk.specs.Moves.{UnchangedBy};
+    ghost use Rattle.sign_desk.specs.DeskState.{Represents, setup_of, was_begun};
+    ghost use Rattle.sign_desk.specs.Adding.{late_refusal, handle_refusal, AddAnswer, AddAnswerBack, with_cache, with_rule, with_handle};
+    ghost use Rattle.sign_desk.specs.Change.{UnchangedBy};
     ghost use Rattle.sign_desk.specs.Cause.{cause_of, IsCaused};
-    ghost use Rattle.sign_desk.specs.Paired.{paired};
+    ghost use Rattle.sign_desk.specs.CachesAfter.{CachesAfter};
+    ghost use Rattle.sign_desk.specs.Steps.{AreSteps};
+    ghost use Rattle.sign_desk.specs.PairedEntries.{paired_entries};
     ghost use Rattle.sequential_signer.specs.declared.event.Entry.{Entry};
     ghost use Rattle.sequential_signer.specs.Policy.{policy_of};
-    ghost use Rattle.sequential_signer.specs.Transcript.{kept};
+    ghost use Rattle.sequential_signer.specs.Transcript.{committed_entries};
     ghost use Rattle.sequential_signer.specs.Legal.{IsLegalEntry};
 
-    /// A desk with no caches, rules, handles or calls. It stands for the empty transcript.
+    /// A desk with no caches, rules, handles or calls. It represents the empty transcript.
     pub fn new(alloc: Global) -> Desk<K, D>
         ensures setup { setup_of result ≡ record { loaders = []; rules = []; handles = [] } }
         ensures fresh { Represents (policy_of K.valid K.valid_at D.deadline) result [] }
@@ -63,49 +62,55 @@ impl<K: SigningCredential, D: DeadlineRule<Credential = K>> Desk<K, D> {
         }
     }
 
-    /// Adds an empty cache with this loader, and answers its number. A refusal changes nothing.
+    /// Adds an empty cache with this loader, and returns its number.
+    ///
+    /// Errors: `Late` where a call was begun, `OutOfMemory`. An error changes nothing.
     pub fn add_cache(&mut self, loader: Loader) -> Result<u32, AddError>
         requires { length self.old.loaders < 4294967295 }
-        ensures answer { AddAnswer (late self.old) (length self.old.loaders) result }
+        ensures answer { AddAnswer (late_refusal self.old) (length self.old.loaders) result }
         ensures added { OnOk result (self.new ≡ with_cache loader self.old) }
         ensures fresh { OnOk result (Represents (policy_of K.valid K.valid_at D.deadline) self.new []) }
         ensures unchanged { OnErr result (self.new ≡ self.old) }
     {
-        if self.state.started() {
+        if self.state.started {
             return Err(AddError::Late);
         }
-        let number = self.state.caches() as u32;
-        match self.state.add_cache(loader) {
-            Ok(()) => Ok(number),
-            Err(_) => Err(AddError::OutOfMemory),
-        }
+        let number = self.caches();
+        self.state.add_cache(loader)?;
+        Ok(number)
     }
 
-    /// Adds a rule, and answers its number. A refusal changes nothing and hands the rule back.
+    /// Adds a rule, and returns its number.
+    ///
+    /// Errors: `Late` where a call was begun, `OutOfMemory`. An error changes nothing, and hands the
+    /// rule back.
     pub fn add_rule(&mut self, rule: D) -> Result<u32, AddRefused<D>>
         requires { length self.old.rules < 4294967295 }
-        ensures answer { AddAnswerBack (late self.old) (length self.old.rules) result }
+        ensures answer { AddAnswerBack (late_refusal self.old) (length self.old.rules) result }
         ensures added { OnOk result (self.new ≡ with_rule rule self.old) }
         ensures fresh { OnOk result (Represents (policy_of K.valid K.valid_at D.deadline) self.new []) }
         ensures unchanged { IfErr result (λ refused. (refused.back ≡ rule) × (self.new ≡ self.old)) }
     {
-        if self.state.started() {
+        if self.state.started {
             return Err(AddRefused {
                 why: AddError::Late,
                 back: rule,
             });
         }
-        let number = self.state.rules() as u32;
-        match self.state.add_rule(rule) {
-            Ok(()) => Ok(number),
-            Err(back) => Err(AddRefused {
+        let number = self.rules();
+        if let Err(back) = self.state.add_rule(rule) {
+            return Err(AddRefused {
                 why: AddError::OutOfMemory,
                 back,
-            }),
+            });
         }
+        Ok(number)
     }
 
-    /// Adds a handle on this cache with this rule, and answers its number. A refusal changes nothing.
+    /// Adds a handle on this cache with this rule, and returns its number.
+    ///
+    /// Errors, the first that holds: `Late` where a call was begun, `NoCache` and `NoRule` where the
+    /// desk has no such number, `OutOfMemory`. An error changes nothing.
     pub fn add_handle(&mut self, cache: u32, rule: u32) -> Result<u32, AddError>
         requires { length self.old.handles < 4294967295 }
         ensures answer { AddAnswer (handle_refusal self.old cache rule) (length self.old.handles) result }
@@ -113,113 +118,116 @@ impl<K: SigningCredential, D: DeadlineRule<Credential = K>> Desk<K, D> {
         ensures fresh { OnOk result (Represents (policy_of K.valid K.valid_at D.deadline) self.new []) }
         ensures unchanged { OnErr result (self.new ≡ self.old) }
     {
-        if self.state.started() {
+        if self.state.started {
             return Err(AddError::Late);
         }
-        if cache as usize >= self.state.caches() {
+        if cache >= self.caches() {
             return Err(AddError::NoCache(cache));
         }
-        if rule as usize >= self.state.rules() {
+        if rule >= self.rules() {
             return Err(AddError::NoRule(rule));
         }
-        let number = self.state.handles() as u32;
-        match self.state.add_handle(cache, rule) {
-            Ok(()) => Ok(number),
-            Err(_) => Err(AddError::OutOfMemory),
-        }
+        let number = self.handles();
+        self.state.add_handle(cache, rule)?;
+        Ok(number)
     }
 
     /// The credential that the cache holds, if there is such a cache and it holds one.
     pub fn cached(&self, cache: u32) -> Option<&K>
         ensures { option_copied result ≡ option_and_then (λ held. held) (slice_get self.now.caches cache) }
     {
-        self.state.cached(cache)
+        self.state.caches.get(cache as usize)?.as_ref()
     }
 
     /// The rule of the handle, if there is such a handle.
     pub fn rule_of(&self, handle: u32) -> Option<&D>
-        ensures { option_copied result ≡ option_and_then (λ h. slice_get self.now.rules h.rule) (slice_get self.now.handles handle) }
+        ensures { option_copied result
+            ≡ option_and_then (λ h. slice_get self.now.rules h.rule) (slice_get self.now.handles handle) }
     {
-        match self.state.handle_at(handle) {
-            Some(found) => self.state.rule_at(found.rule),
-            None => None,
-        }
+        let found = self.state.handle_at(handle)?;
+        self.state.rules.get(found.rule as usize)
     }
 
     /// The cache of the handle, if there is such a handle.
     pub fn cache_of(&self, handle: u32) -> Option<u32>
         ensures { result ≡ option_map (λ h. h.cache) (slice_get self.now.handles handle) }
     {
-        match self.state.handle_at(handle) {
-            Some(found) => Some(found.cache),
-            None => None,
-        }
+        let found = self.state.handle_at(handle)?;
+        Some(found.cache)
     }
 
     /// The number of caches.
     pub fn caches(&self) -> u32
         ensures { result ≡ length self.now.loaders }
     {
-        self.state.caches() as u32
+        self.state.loaders.len() as u32
     }
 
     /// The number of rules.
     pub fn rules(&self) -> u32
         ensures { result ≡ length self.now.rules }
     {
-        self.state.rules() as u32
+        self.state.rules.len() as u32
     }
 
     /// The number of handles.
     pub fn handles(&self) -> u32
         ensures { result ≡ length self.now.handles }
     {
-        self.state.handles() as u32
+        self.state.handles.len() as u32
     }
 
     /// The number of calls that were begun and are not over.
     pub fn live(&self) -> usize
         ensures { result ≡ length self.now.calls }
     {
-        self.state.live()
+        self.state.calls.len()
     }
 
-    /// Whether no begin was accepted. A fresh desk stands for the empty transcript.
+    /// Whether no call was begun. Such a desk represents the empty transcript.
     pub fn is_fresh(&self) -> bool
         ensures flag { result ≡ not self.now.started }
         ensures empty { result ≡ true → Represents (policy_of K.valid K.valid_at D.deadline) self.now [] }
-        ensures begins { (entries : List (Entry K)) → Represents (policy_of K.valid K.valid_at D.deadline) self.now entries → result ≡ not (was_begun (kept entries)) }
+        ensures begins { (entries : List (Entry K)) → Represents (policy_of K.valid K.valid_at D.deadline) self.now entries
+            → result ≡ not (was_begun (committed_entries entries)) }
     {
-        !self.state.started()
+        !self.state.started
     }
 
-    /// One event, applied whole: whatever transcript the desk stands for, it then stands for that
-    /// with this entry. An event that does not fit is `NotNow`. `OutOfMemory` comes only where memory
-    /// is taken: at a begin, where a credential is found or handed out, and at an accepted head. Both
-    /// change nothing. The setup stays.
+    /// One event, applied whole: whatever transcript the desk represents, it then represents that
+    /// with this entry. The setup stays.
+    ///
+    /// An event that does not fit how far its call is, is answered `NotNow`. `OutOfMemory` is answered
+    /// only where memory is taken: at a begin, where a credential is handed out, and at an accepted
+    /// head. Both change nothing.
     pub fn step(&mut self, event: &Event<K>) -> Reply<K>
         ensures represents { (entries : List (Entry K)) → Represents (policy_of K.valid K.valid_at D.deadline) self.old entries
             → Represents (policy_of K.valid K.valid_at D.deadline) self.new (entries ++ record { event = event.now; reply = result } ∷ []) }
-        ensures due { (entries : List (Entry K)) → Represents (policy_of K.valid K.valid_at D.deadline) self.old entries
-            → IsLegalEntry (policy_of K.valid K.valid_at D.deadline) (setup_of self.old) (kept entries) (record { event = event.now; reply = result }) }
+        ensures expected { (entries : List (Entry K)) → Represents (policy_of K.valid K.valid_at D.deadline) self.old entries
+            → IsLegalEntry (policy_of K.valid K.valid_at D.deadline) (setup_of self.old) (committed_entries entries)
+            (record { event = event.now; reply = result }) }
         ensures causes { IsCaused (cause_of (policy_of K.valid K.valid_at D.deadline) self.old event.now) result }
+        ensures caches { CachesAfter event.now result self.old self.new }
         ensures setup { setup_of self.new ≡ setup_of self.old }
         ensures unchanged { UnchangedBy result self.old self.new }
     {
         self.state.step(event)
     }
 
-    /// The replies of `step` to each event in order. Their room is taken before the first event.
+    /// Takes the events one after another, each by a `step`, and returns their replies.
+    ///
+    /// The replies' room is allocated before the first event: an error changes nothing.
     pub fn run(&mut self, events: &[Event<K>]) -> Result<Vec<Reply<K>>, RunError>
         ensures replies { IfOk result (λ replies. length replies.items ≡ length events.now) }
-        ensures represents { IfOk result (λ replies. (entries : List (Entry K)) → Represents (policy_of K.valid K.valid_at D.deadline) self.old entries
-            → Represents (policy_of K.valid K.valid_at D.deadline) self.new (entries ++ paired events.now replies.items)) }
+        ensures steps { IfOk result (λ replies.
+            AreSteps (policy_of K.valid K.valid_at D.deadline) events.now replies.items self.old self.new) }
+        ensures represents { IfOk result (λ replies. (entries : List (Entry K))
+            → Represents (policy_of K.valid K.valid_at D.deadline) self.old entries
+            → Represents (policy_of K.valid K.valid_at D.deadline) self.new (entries ++ paired_entries events.now replies.items)) }
         ensures setup { setup_of self.new ≡ setup_of self.old }
         ensures unchanged { OnErr result (self.new ≡ self.old) }
     {
-        let Ok(mut replies) = Vec::with_capacity(self.state.alloc, events.len()) else {
-            return Err(RunError);
-        };
+        let mut replies = Vec::with_capacity(self.state.alloc, events.len())?;
         for event in events {
             let reply = self.step(event);
             replies.push_reserved(reply);

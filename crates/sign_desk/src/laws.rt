@@ -1,25 +1,25 @@
 //! Laws of legal transcripts, over the definitions alone: each function's contract is the law, for every
 //! type of credentials and of rules, every meaning of them, every setup and every transcript.
-ghost use Rattle.sequential_signer.specs.LawsOfReplies.{OneLegalTranscript, RepliesDueAreLegal, LegalRepliesAreDue};
+ghost use Rattle.sequential_signer.specs.LawsOfReplies.{OneLegalTranscript, ExpectedRepliesAreLegal, LegalRepliesAreExpected};
 ghost use Rattle.sequential_signer.specs.LawsOfHandOver.{QueuedAtTurnWasWokenOnce, OnlyQueuedCallsAreWoken, OneCallLoads, SomebodyHasTheTurn, LoadsExactlyWhereTheLookFails};
 ghost use Rattle.sequential_signer.specs.LawsOfCancel.{CancelledLoadLeavesNoTrace, CancelChangesNoCache, CancelledLoadLeavesTheCache};
-ghost use Rattle.sequential_signer.specs.LawsOfCaches.{CachesAreIsolated, OneLoadServesAll};
+ghost use Rattle.sequential_signer.specs.LawsOfCaches.{CachesAreIsolated, OneLoadServesAll, CacheHoldsTheLastHandedOut, RefusedRefreshIsNotCached, FoundCredentialIsCached};
 
-/// For a setup, events, and a choice of those that meet want of memory there is at most one legal
+/// For a setup, events, and a choice of those that run out of memory there is at most one legal
 /// transcript.
 pub fn one_legal_transcript<K, D>()
     ensures { OneLegalTranscript K D }
 {}
 
-/// The events one after another, each with the reply that is due, are a legal transcript of these
-/// events, in which memory never wants.
-pub fn replies_due_are_legal<K, D>()
-    ensures { RepliesDueAreLegal K D }
+/// The events one after another, each with the expected reply, are a legal transcript of these
+/// events, without allocation failures.
+pub fn expected_replies_are_legal<K, D>()
+    ensures { ExpectedRepliesAreLegal K D }
 {}
 
-/// What did not meet want of memory in a legal transcript has the replies that are due to its events.
-pub fn legal_replies_are_due<K, D>()
-    ensures { LegalRepliesAreDue K D }
+/// The committed entries of a legal transcript have the expected replies to their events.
+pub fn legal_replies_are_expected<K, D>()
+    ensures { LegalRepliesAreExpected K D }
 {}
 
 /// Each queued call that has its turn was named by exactly one `wake`.
@@ -66,7 +66,7 @@ pub fn cancelled_load_leaves_the_cache<K, D>()
 {}
 
 /// The entries of one cache are a legal transcript by themselves: nothing of one cache reaches another, but
-/// where memory is wanting.
+/// where an allocation failed.
 pub fn caches_are_isolated<K, D>()
     ensures { CachesAreIsolated K D }
 {}
@@ -75,4 +75,20 @@ pub fn caches_are_isolated<K, D>()
 /// credential serves each look: it is fresh, has a deadline, and lasts to it.
 pub fn one_load_serves_all<K, D>()
     ensures { OneLoadServesAll K D }
+{}
+
+/// A cache holds the credential that was last handed out to one of its calls.
+pub fn cache_holds_the_last_handed_out<K, D>()
+    ensures { CacheHoldsTheLastHandedOut K D }
+{}
+
+/// A credential that is found and refused changes no cache.
+pub fn refused_refresh_is_not_cached<K, D>()
+    ensures { RefusedRefreshIsNotCached K D }
+{}
+
+/// A credential that is found and not refused is the one that is handed out, and its call's cache
+/// holds it.
+pub fn found_credential_is_cached<K, D>()
+    ensures { FoundCredentialIsCached K D }
 {}

@@ -3,17 +3,21 @@
 
 mod adding;
 mod calls;
+mod changes;
 mod desk;
 pub mod laws;
 mod load;
 mod lookup;
 mod poll;
 mod queue;
+mod replies;
+mod run_error;
 mod state;
 mod step;
 
 pub use adding::{AddError, AddRefused};
-pub use desk::{Desk, RunError};
+pub use desk::Desk;
+pub use run_error::RunError;
 pub use sequential_signer::{Answer, Entry, Event, Loader, Reply, Verdict, Why};
 
 #[cfg(test)]

@@ -1,62 +1,74 @@
 //! The load of a call: what each answer of a provider does.
-ghost use Rattle.std.specs.Prelude.{◌≡◌, ◌<◌, ◌+◌, ◌^◌, Some, IfSome, length, option_map, slice_get};
+ghost use Rattle.std.specs.Prelude.{◌≡◌, ◌<◌, IfSome, IsSome, length, slice_get};
 
 use crate::calls::Stage;
-use crate::state::{Caller, State};
+use crate::state::{LiveCallView, State};
 use credentials::{DeadlineRule, SigningCredential};
 use sequential_signer::{Answer, Loader, Reply, Why};
 use sign_base::Timestamp;
-use std::time::Duration;
 use wake_lock::CallId;
 
-/// What a credential that was found is good for.
-#[derive(Drop)]
-pub enum Judged {
-    /// It serves.
-    Serves,
-    /// The call is refused.
-    Fails(Why),
-}
-
 impl<K: SigningCredential, D: DeadlineRule<Credential = K>> State<K, D> {
-    ghost use Rattle.std.specs.Duration.{as_nanos};
     ghost use Rattle.sequential_signer.specs.Policy.{policy_of};
-    ghost use Rattle.sign_desk.specs.Kept.{find_call};
-    ghost use Rattle.sign_desk.specs.declared.calls.CallRecord.{CallRecord};
-    ghost use Rattle.sign_desk.specs.Sound.{IsCaller, providers};
+    ghost use Rattle.sequential_signer.specs.declared.event.Event.TheVariants.{Provided};
+    ghost use Rattle.sequential_signer.specs.declared.event.Answer.TheVariants.{Found};
+    ghost use Rattle.sign_desk.specs.DeskState.{find_call};
+    ghost use Rattle.sign_desk.specs.StepPrecondition.{StepPrecondition, IsPlaced, HasPlaces, provider_count};
     ghost use Rattle.sign_desk.specs.declared.calls.Stage.TheVariants.{Loading};
-    ghost use Rattle.sign_desk.specs.Moves.{found_under, kept_found, FoundMoves, next_load, NextMoves, LoadMoves};
-    ghost use Rattle.sign_desk.specs.JudgeSays.{JudgeSays};
+    ghost use Rattle.sign_desk.specs.Action.{Performs};
+    ghost use Rattle.sign_desk.specs.HoldProgress.{desk_check, desk_load, next_load};
+    ghost use Rattle.sign_desk.specs.HoldAction.{hold_action, loading_hold};
+    ghost use Rattle.sign_desk.specs.Transition.{load_action, with_answer, Transition};
+    ghost use Rattle.sign_desk.specs.IsCheck.{IsCheck};
 
-    /// What a credential that was found is good for, for a call with this rule and duration now.
-    pub fn judge(
-        &self,
-        rule: u32,
-        found: &K,
-        expires_in: Option<Duration>,
-        now: Timestamp,
-    ) -> Judged
-        requires { rule < length self.now.rules }
-        ensures { JudgeSays (found_under (policy_of K.valid K.valid_at D.deadline) (slice_get self.now.rules rule)
-            found.now (option_map as_nanos expires_in) now) found.now result }
+    /// A provider's answer.
+    pub fn provided(&mut self, call: CallId, now: Timestamp, answer: &Answer<K>) -> Reply<K>
+        requires { StepPrecondition self.old }
+        ensures { Transition (policy_of K.valid K.valid_at D.deadline) (Provided call now answer.now)
+            self.old result self.new }
     {
-        let rule = &self.rules[rule as usize];
-        match rule.required_valid_until(found, expires_in, now) {
-            None => Judged::Fails(Why::Range),
-            Some(deadline) => {
-                if found.is_valid_at(deadline, now) {
-                    Judged::Serves
-                } else {
-                    Judged::Fails(Why::Short(deadline))
-                }
-            }
+        let Some(view) = self.find(call) else {
+            return Reply::NotNow;
+        };
+        match view.stage {
+            Stage::Loading => self.load(view, now, answer),
+            Stage::Unpolled | Stage::Queued | Stage::Signing => Reply::NotNow,
+        }
+    }
+
+    /// A provider's answer to a call that loads.
+    fn load(&mut self, view: LiveCallView, now: Timestamp, answer: &Answer<K>) -> Reply<K>
+        requires placed { IsPlaced self.old view }
+        requires loading { view.stage ≡ Loading }
+        ensures { Performs (load_action (policy_of K.valid K.valid_at D.deadline) self.old now answer.now view)
+            view.call self.old result self.new }
+    {
+        let view = self.with_answer(view);
+        match answer {
+            Answer::Found(found) => self.found(view, now, found),
+            Answer::Missing => self.load_on(view, Why::Missing),
+            Answer::Failed(e) => self.load_on(view, Why::Loader(*e)),
+        }
+    }
+
+    /// The view with one more answer. A call that loads had fewer answers than there are providers.
+    fn with_answer(&self, view: LiveCallView) -> LiveCallView
+        requires placed { IsPlaced self.now view }
+        requires loading { view.stage ≡ Loading }
+        ensures { result ≡ with_answer view }
+    {
+        let provider_count = self.provider_count(view.cache);
+        prove!(view.answers < provider_count);
+        LiveCallView {
+            answers: view.answers + 1,
+            ..view
         }
     }
 
     /// How many providers a cache asks at most.
-    fn providers(&self, cache: u32) -> u32
+    fn provider_count(&self, cache: u32) -> u32
         requires { cache < length self.now.loaders }
-        ensures { IfSome (slice_get self.now.loaders cache) (λ loader. result ≡ providers loader) }
+        ensures { IfSome (slice_get self.now.loaders cache) (λ loader. result ≡ provider_count loader) }
     {
         match self.loaders[cache as usize] {
             Loader::Single => 1,
@@ -64,88 +76,53 @@ impl<K: SigningCredential, D: DeadlineRule<Credential = K>> State<K, D> {
         }
     }
 
-    /// The number of answers after one more, which is at most that of the providers.
-    fn next_count(&self, call: CallId, caller: Caller) -> u32
-        requires caller { IsCaller self.now call caller }
-        requires loading { caller.stage ≡ Loading }
-        ensures count { result ≡ caller.answers + 1 }
-        ensures few { IfSome (find_call call self.now.calls) (λ r. r.answers + 1 < 2 ^ 32) }
+    /// What a credential that was found is good for. Whether it is fresh is not asked.
+    fn check(&self, view: LiveCallView, now: Timestamp, found: &K) -> Result<(), Why>
+        requires { view.rule < length self.now.rules }
+        ensures { IsCheck (desk_check (policy_of K.valid K.valid_at D.deadline) self.now now view found.now)
+            found.now result }
     {
-        let providers = self.providers(caller.cache);
-        prove!(caller.answers < providers);
-        caller.answers + 1
-    }
-
-    /// A provider's answer to a call that loads.
-    pub fn load(
-        &mut self,
-        call: CallId,
-        caller: Caller,
-        now: Timestamp,
-        answer: &Answer<K>,
-    ) -> Reply<K>
-        requires caller { IsCaller self.old call caller }
-        requires loading { caller.stage ≡ Loading }
-        ensures { (r : CallRecord) → find_call call self.old.calls ≡ Some r → LoadMoves (policy_of K.valid K.valid_at D.deadline) self.old call now (record { cache = caller.cache; rule = caller.rule }) r answer.now result self.new }
-    {
-        let asked = self.next_count(call, caller);
-        match answer {
-            Answer::Found(found) => self.found(call, caller, now, found),
-            Answer::Missing => self.load_on(call, caller, asked, Why::Missing),
-            Answer::Failed(e) => self.load_on(call, caller, asked, Why::Loader(*e)),
+        let rule = &self.rules[view.rule as usize];
+        let Some(deadline) = rule.required_valid_until(found, view.expires_in, now) else {
+            return Err(Why::Range);
+        };
+        if !found.is_valid_at(deadline, now) {
+            return Err(Why::Short(deadline));
         }
+        Ok(())
     }
 
-    /// A credential that was found: it is cached, and then handed out or refused.
-    fn found(&mut self, call: CallId, caller: Caller, now: Timestamp, found: &K) -> Reply<K>
-        requires caller { IsCaller self.old call caller }
-        requires few { IfSome (find_call call self.old.calls) (λ r. r.answers + 1 < 2 ^ 32) }
-        ensures { (r : CallRecord) → find_call call self.old.calls ≡ Some r → FoundMoves self.old call (record { cache = caller.cache; rule = caller.rule }) r found.now
-            (kept_found (policy_of K.valid K.valid_at D.deadline) self.old (record { cache = caller.cache; rule = caller.rule }) r found.now now) result self.new }
+    /// A credential that was found: it is checked, and only one that is handed out is cached.
+    fn found(&mut self, view: LiveCallView, now: Timestamp, found: &K) -> Reply<K>
+        requires live { IsSome (find_call view.call self.old.calls) }
+        requires places { HasPlaces self.old view.cache view.rule }
+        ensures { Performs (hold_action (loading_hold self.old view) view
+            (desk_load (policy_of K.valid K.valid_at D.deadline) self.old now view (Found found.now))) view.call self.old result self.new }
     {
-        let judged = self.judge(caller.rule, found, caller.expires_in, now);
-        let Ok(kept) = found.try_clone(self.alloc) else {
+        if let Err(why) = self.check(view, now, found) {
+            return self.refuse_and_leave(view, why);
+        }
+        let Ok(cached) = found.try_clone(self.alloc) else {
             return Reply::OutOfMemory;
         };
-        match judged {
-            Judged::Serves => {
-                let Ok(credential) = found.try_clone(self.alloc) else {
-                    return Reply::OutOfMemory;
-                };
-                self.store(caller.cache, kept);
-                let wake = self.leave(caller.cache, call);
-                self.answer(call, Stage::Signing);
-                Reply::Sign { credential, wake }
-            }
-            Judged::Fails(why) => {
-                self.store(caller.cache, kept);
-                let wake = self.leave(caller.cache, call);
-                self.end_call(call);
-                Reply::Refused { why, wake }
-            }
-        }
+        let Ok(credential) = found.try_clone(self.alloc) else {
+            return Reply::OutOfMemory;
+        };
+        self.store(view.cache, cached);
+        self.sign_and_leave(view, credential)
     }
 
     /// An answer without a credential: the next provider of a chain is asked, or the call is refused.
-    fn load_on(&mut self, call: CallId, caller: Caller, asked: u32, single: Why) -> Reply<K>
-        requires caller { IsCaller self.old call caller }
-        requires count { asked ≡ caller.answers + 1 }
-        requires few { IfSome (find_call call self.old.calls) (λ r. r.answers + 1 < 2 ^ 32) }
-        ensures { (r : CallRecord) → find_call call self.old.calls ≡ Some r → NextMoves self.old call (record { cache = caller.cache; rule = caller.rule }) r
-            (next_load (slice_get self.old.loaders caller.cache) (r.answers + 1) single) result self.new }
+    fn load_on(&mut self, view: LiveCallView, single: Why) -> Reply<K>
+        requires live { IsSome (find_call view.call self.old.calls) }
+        requires places { HasPlaces self.old view.cache view.rule }
+        ensures { Performs (hold_action (loading_hold self.old view) view
+            (next_load (slice_get self.old.loaders view.cache) view.answers single)) view.call self.old result self.new }
     {
-        let why = match self.loaders[caller.cache as usize] {
-            Loader::Single => single,
-            Loader::Chain(n) => {
-                if asked < n {
-                    self.answer(call, Stage::Loading);
-                    return Reply::Ask { provider: asked };
-                }
-                Why::Missing
-            }
-        };
-        let wake = self.leave(caller.cache, call);
-        self.end_call(call);
-        Reply::Refused { why, wake }
+        match self.loaders[view.cache as usize] {
+            Loader::Single => self.refuse_and_leave(view, single),
+            Loader::Chain(n) if view.answers < n => self.ask(view, view.answers),
+            Loader::Chain(_) => self.refuse_and_leave(view, Why::Missing),
+        }
     }
 }

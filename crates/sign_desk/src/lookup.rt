@@ -1,71 +1,53 @@
 //! The look of a call at its cache, when its turn has come.
-ghost use Rattle.std.specs.Prelude.{◌<◌, length, option_map, slice_get};
+ghost use Rattle.std.specs.Prelude.{◌<◌, length};
 
-use crate::state::State;
+use crate::state::{LiveCallView, State};
 use credentials::{DeadlineRule, SigningCredential};
 use sequential_signer::{Loader, Why};
 use sign_base::Timestamp;
-use std::time::Duration;
 
 /// What a look at a cache gives.
 #[derive(Drop)]
-pub enum Look<K> {
-    /// The credential could be handed out, but memory was wanting.
-    Starved,
+pub enum Lookup<K> {
+    /// The credential could be handed out, but an allocation failed.
+    OutOfMemory,
     /// The call loads.
-    Asks,
+    Miss,
     /// The cached credential serves.
-    Hands(K),
+    Hit(K),
     /// The call is refused.
-    Refuses(Why),
+    Refused(Why),
 }
 
 impl<K: SigningCredential, D: DeadlineRule<Credential = K>> State<K, D> {
-    ghost use Rattle.std.specs.Duration.{as_nanos};
     ghost use Rattle.sequential_signer.specs.Policy.{policy_of};
-    ghost use Rattle.sign_desk.specs.Moves.{look_under};
-    ghost use Rattle.sign_desk.specs.LookSays.{LookSays};
+    ghost use Rattle.sign_desk.specs.HoldProgress.{desk_lookup};
+    ghost use Rattle.sign_desk.specs.IsLookup.{IsLookup};
 
-    /// What a cache holds for a call with this rule and duration now.
-    pub fn look(
-        &self,
-        cache: u32,
-        rule: u32,
-        expires_in: Option<Duration>,
-        now: Timestamp,
-    ) -> Look<K>
-        requires loader { cache < length self.now.loaders }
-        requires cache { cache < length self.now.caches }
-        requires rule { rule < length self.now.rules }
-        ensures { LookSays (look_under (policy_of K.valid K.valid_at D.deadline)
-            (slice_get self.now.loaders cache) (slice_get self.now.caches cache) (slice_get self.now.rules rule)
-            (option_map as_nanos expires_in) now) result }
+    /// What its cache holds for the call now.
+    pub fn look(&self, view: LiveCallView, now: Timestamp) -> Lookup<K>
+        requires loader { view.cache < length self.now.loaders }
+        requires cache { view.cache < length self.now.caches }
+        requires rule { view.rule < length self.now.rules }
+        ensures { IsLookup (desk_lookup (policy_of K.valid K.valid_at D.deadline) self.now now view) result }
     {
-        let rule = &self.rules[rule as usize];
-        if let Some(credential) = &self.caches[cache as usize] {
-            if credential.is_valid(now) {
-                match rule.required_valid_until(credential, expires_in, now) {
-                    None => return Look::Refuses(Why::Range),
-                    Some(deadline) => {
-                        if credential.is_valid_at(deadline, now) {
-                            return match credential.try_clone(self.alloc) {
-                                Ok(credential) => Look::Hands(credential),
-                                Err(_) => Look::Starved,
-                            };
-                        }
-                    }
-                }
+        let rule = &self.rules[view.rule as usize];
+        if let Some(credential) = &self.caches[view.cache as usize]
+            && credential.is_valid(now)
+        {
+            let Some(deadline) = rule.required_valid_until(credential, view.expires_in, now) else {
+                return Lookup::Refused(Why::Range);
+            };
+            if credential.is_valid_at(deadline, now) {
+                return match credential.try_clone(self.alloc) {
+                    Ok(credential) => Lookup::Hit(credential),
+                    Err(_) => Lookup::OutOfMemory,
+                };
             }
         }
-        match self.loaders[cache as usize] {
-            Loader::Single => Look::Asks,
-            Loader::Chain(n) => {
-                if n > 0 {
-                    Look::Asks
-                } else {
-                    Look::Refuses(Why::Missing)
-                }
-            }
+        match self.loaders[view.cache as usize] {
+            Loader::Chain(0) => Lookup::Refused(Why::Missing),
+            Loader::Chain(_) | Loader::Single => Lookup::Miss,
         }
     }
 }

@@ -1,7 +1,7 @@
 //! The queue of a cache: its lock, with room for each call that was begun and may still come.
 ghost use Rattle.std.specs.Prelude.{◌≡◌, ◌+◌, ◌-◌, ◌<◌, ◌++◌, ◌∷◌, [], false, OnOk, OnErr, ◌^◌};
 ghost use Rattle.wake_lock.specs.Calls.{is_first, is_among};
-ghost use Rattle.sign_desk.specs.Queue.{is_held, entered, passed, left, woken, expected};
+ghost use Rattle.sign_desk.specs.Queue.{is_held, with_last, without_room, without_call, next_holder, with_room};
 ghost use Rattle.sign_desk.specs.QueueView.{next_of_left};
 
 use sign_base::NoMemory;
@@ -41,9 +41,9 @@ impl CallQueue {
     }
 
     /// Takes the room of a call that begins, or changes nothing.
-    pub fn expect(&mut self) -> Result<(), NoMemory<()>>
+    pub fn take_room(&mut self) -> Result<(), NoMemory<()>>
         requires { self.old.unpolled + 1 < 2 ^ 64 }
-        ensures ok { OnOk result (self.new ≡ expected self.old) }
+        ensures ok { OnOk result (self.new ≡ with_room self.old) }
         ensures err { OnErr result (self.new ≡ self.old) }
     {
         self.lock.reserve(self.unpolled + 1)?;
@@ -72,34 +72,34 @@ impl CallQueue {
     pub fn enter(&mut self, call: CallId)
         requires room { 0 < self.old.unpolled }
         requires outside { is_among call self.old.line ≡ false }
-        ensures { self.new ≡ entered call self.old }
+        ensures { self.new ≡ with_last call self.old }
     {
         let _entered = self.lock.enter(call);
         self.unpolled -= 1;
     }
 
     /// A first poll that ends its call's hold at once, or the end of a call that was never polled.
-    pub fn pass(&mut self)
+    pub fn return_room(&mut self)
         requires { 0 < self.old.unpolled }
-        ensures { self.new ≡ passed self.old }
+        ensures { self.new ≡ without_room self.old }
     {
         self.unpolled -= 1;
     }
 
     /// Takes the call out, and names the call that gets its turn by this.
     pub fn leave(&mut self, call: CallId) -> Option<CallId>
-        ensures woken { result ≡ woken call self.old.line }
-        ensures left { self.new ≡ left call self.old }
+        ensures next_holder { result ≡ next_holder call self.old.line }
+        ensures without_call { self.new ≡ without_call call self.old }
     {
         next_of(self.lock.cancel(call))
     }
 }
 
 /// The call that holds the lock by this leave.
-fn next_of(left: Left) -> Option<CallId>
-    ensures { result ≡ next_of_left left }
+fn next_of(without_call: Left) -> Option<CallId>
+    ensures { result ≡ next_of_left without_call }
 {
-    match left {
+    match without_call {
         Left::Holder(next) => next,
         Left::Waiter => None,
         Left::Absent => None,

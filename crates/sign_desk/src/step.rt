@@ -1,9 +1,9 @@
 //! One event: it finds its call, and does what the call's stage lets it do. What can run out of
 //! memory is taken before anything changes.
-ghost use Rattle.std.specs.Prelude.{◌≡◌, Some, IsSome, IfOk};
+ghost use Rattle.std.specs.Prelude.{◌≡◌, IsSome, IfOk};
 
 use crate::calls::{CallRecord, Stage};
-use crate::state::{Caller, State};
+use crate::state::State;
 use credentials::{DeadlineRule, SigningCredential};
 use sequential_signer::{Event, Reply, Verdict, Why};
 use sign_base::{Head, NoMemory};
@@ -13,16 +13,16 @@ use wake_lock::CallId;
 
 impl<K: SigningCredential, D: DeadlineRule<Credential = K>> State<K, D> {
     ghost use Rattle.sequential_signer.specs.Policy.{policy_of};
-    ghost use Rattle.sign_desk.specs.Kept.{find_call};
-    ghost use Rattle.sign_desk.specs.Sound.{IsSound, IsCaller};
-    ghost use Rattle.sign_desk.specs.Moves.{BeginMoves, SignedMoves, SignedAt, CancelAt, Moves};
-    ghost use Rattle.sign_desk.specs.declared.calls.CallRecord.{CallRecord};
-    ghost use Rattle.sequential_signer.specs.declared.event.Verdict.TheVariants.{Accepted};
+    ghost use Rattle.sequential_signer.specs.declared.event.Event.TheVariants.{Begin, Signed, Cancel};
+    ghost use Rattle.sign_desk.specs.DeskState.{find_call};
+    ghost use Rattle.sign_desk.specs.StepPrecondition.{StepPrecondition};
+    ghost use Rattle.sign_desk.specs.Action.{Performs};
+    ghost use Rattle.sign_desk.specs.Transition.{accept_action, Transition};
 
     /// One event.
     pub fn step(&mut self, event: &Event<K>) -> Reply<K>
-        requires { IsSound self.old }
-        ensures { Moves (policy_of K.valid K.valid_at D.deadline) self.old event.now result self.new }
+        requires { StepPrecondition self.old }
+        ensures { Transition (policy_of K.valid K.valid_at D.deadline) event.now self.old result self.new }
     {
         match event {
             Event::Begin {
@@ -30,34 +30,18 @@ impl<K: SigningCredential, D: DeadlineRule<Credential = K>> State<K, D> {
                 head,
                 expires_in,
             } => self.begin(*call, head, *expires_in),
-            Event::Poll { call, now } => match self.find(*call) {
-                None => Reply::NotNow,
-                Some(caller) => self.poll(*call, caller, *now),
-            },
-            Event::Provided { call, now, answer } => match self.find(*call) {
-                None => Reply::NotNow,
-                Some(caller) => match caller.stage {
-                    Stage::Loading => self.load(*call, caller, *now, answer),
-                    Stage::Fresh => Reply::NotNow,
-                    Stage::Queued => Reply::NotNow,
-                    Stage::Signing => Reply::NotNow,
-                },
-            },
-            Event::Signed { call, answer } => match self.find(*call) {
-                None => Reply::NotNow,
-                Some(caller) => self.signed(*call, caller, answer),
-            },
-            Event::Cancel { call } => match self.find(*call) {
-                None => Reply::NotNow,
-                Some(caller) => self.cancel(*call, caller),
-            },
+            Event::Poll { call, now } => self.poll(*call, *now),
+            Event::Provided { call, now, answer } => self.provided(*call, *now, answer),
+            Event::Signed { call, answer } => self.signed(*call, answer),
+            Event::Cancel { call } => self.cancel(*call),
         }
     }
 
     /// A begin: the call's place, its head and its record are taken at once, or nothing is.
     fn begin(&mut self, call: CallId, head: &Head, expires_in: Option<Duration>) -> Reply<K>
-        requires { IsSound self.old }
-        ensures { BeginMoves self.old call head.now expires_in result self.new }
+        requires { StepPrecondition self.old }
+        ensures { Transition (policy_of K.valid K.valid_at D.deadline) (Begin call head.now expires_in)
+            self.old result self.new }
     {
         if !self.begin_fits(call) {
             return Reply::NotNow;
@@ -65,67 +49,63 @@ impl<K: SigningCredential, D: DeadlineRule<Credential = K>> State<K, D> {
         let Ok(head) = head.try_clone(self.alloc) else {
             return Reply::OutOfMemory;
         };
-        let record = CallRecord {
-            stage: Stage::Fresh,
+        let live = CallRecord {
+            stage: Stage::Unpolled,
             head,
             expires_in,
             answers: 0,
         };
-        match self.admit(call, record) {
+        match self.insert_call(call, live) {
             Ok(()) => Reply::Begun,
             Err(_) => Reply::OutOfMemory,
         }
     }
 
-    /// A service's answer to a live call.
-    fn signed(&mut self, call: CallId, caller: Caller, answer: &Verdict) -> Reply<K>
-        requires { IsCaller self.old call caller }
-        ensures { (r : CallRecord) → find_call call self.old.calls ≡ Some r → SignedAt self.old call r answer.now r.stage result self.new }
+    /// A service's answer.
+    fn signed(&mut self, call: CallId, answer: &Verdict) -> Reply<K>
+        requires { StepPrecondition self.old }
+        ensures { Transition (policy_of K.valid K.valid_at D.deadline) (Signed call answer.now)
+            self.old result self.new }
     {
-        match caller.stage {
-            Stage::Signing => {}
-            Stage::Fresh => return Reply::NotNow,
-            Stage::Queued => return Reply::NotNow,
-            Stage::Loading => return Reply::NotNow,
-        }
-        match answer {
-            Verdict::Accepted(candidate) => self.accept(call, candidate),
-            Verdict::Failed(e) => {
-                self.end_call(call);
-                Reply::Refused {
-                    why: Why::Service(*e),
-                    wake: None,
-                }
-            }
+        let Some(view) = self.find(call) else {
+            return Reply::NotNow;
+        };
+        match (view.stage, answer) {
+            (Stage::Signing, Verdict::Accepted(candidate)) => self.accept(call, candidate),
+            (Stage::Signing, Verdict::Failed(e)) => self.refuse(call, Why::Service(*e), None),
+            (Stage::Unpolled | Stage::Queued | Stage::Loading, _) => Reply::NotNow,
         }
     }
 
     /// An accepted head: the call is done.
     fn accept(&mut self, call: CallId, candidate: &Head) -> Reply<K>
         requires { IsSome (find_call call self.old.calls) }
-        ensures { (r : CallRecord) → find_call call self.old.calls ≡ Some r → SignedMoves self.old call r (Accepted candidate.now) result self.new }
+        ensures { Performs (accept_action self.old candidate.now (find_call call self.old.calls))
+            call self.old result self.new }
     {
         let alloc = self.alloc;
-        let record = self.record_of(call).unwrap();
-        let Ok(head) = done_head(alloc, &record.head, candidate) else {
+        let live = self.record_of(call).unwrap();
+        let Ok(head) = done_head(alloc, &live.head, candidate) else {
             return Reply::OutOfMemory;
         };
         self.end_call(call);
         Reply::Done { head }
     }
 
-    /// A cancel of a live call.
-    fn cancel(&mut self, call: CallId, caller: Caller) -> Reply<K>
-        requires { IsCaller self.old call caller }
-        ensures { (r : CallRecord) → find_call call self.old.calls ≡ Some r → CancelAt self.old call (record { cache = caller.cache; rule = caller.rule }) r.stage result self.new }
+    /// A cancel.
+    fn cancel(&mut self, call: CallId) -> Reply<K>
+        requires { StepPrecondition self.old }
+        ensures { Transition (policy_of K.valid K.valid_at D.deadline) (Cancel call) self.old result self.new }
     {
-        let wake = match caller.stage {
-            Stage::Fresh => {
-                self.pass(caller.cache);
+        let Some(view) = self.find(call) else {
+            return Reply::NotNow;
+        };
+        let wake = match view.stage {
+            Stage::Unpolled => {
+                self.return_room(view.cache);
                 None
             }
-            Stage::Queued => self.leave(caller.cache, call),
-            Stage::Loading => self.leave(caller.cache, call),
+            Stage::Queued | Stage::Loading => self.leave(view.cache, call),
             Stage::Signing => None,
         };
         self.end_call(call);

@@ -1,24 +1,20 @@
-use Rattle.std.proofs.Common.{◌≡◌, false, []}
+use Rattle.std.proofs.Common.{◌≡◌, ◌∙◌, sym, ap, false, []}
 use Rattle.sequential_signer.specs.Policy.{policy_of}
-use Rattle.sign_desk.specs.Kept.{Kept, Represents}
-use Rattle.sign_desk.specs.Adding.{with_cache}
-use Rattle.sign_desk.specs.IsDesk.{IsDesk}
-use Rattle.sign_desk.proofs.Holds.{desk-with_cache, not_started, after-add, on-ok}
-use Rattle.sign_desk.proofs.Fresh.{represents-with_cache}
+use Rattle.sign_desk.specs.DeskState.{Represents}
+use Rattle.sign_desk.specs.declared.desk.Desk.TheInside.{Inside}
+use Rattle.sign_desk.proofs.DeskInvariant.{desk-with_cache, not_started}
+use Rattle.sign_desk.proofs.NewDesk.{represents-with_cache}
 use Rattle.sign_desk.proofs.desk.Desk.add_cache.Goals as goal
 
-pub invariant_of-self : goal.invariant_of-self
-invariant_of-self g c =
+pub invariant_of-self-2 : goal.invariant_of-self-2
+invariant_of-self-2 g c =
     let policy = policy_of g.K.SigningCredential.valid g.K.SigningCredential.valid_at g.D.DeadlineRule.deadline in
-    let fresh : c.self.inside.state.started ≡ false = cc in
-    after-add (IsDesk policy) c.self.inside.state (with_cache c.args.loader c.self.inside.state) c.add_cache.new.self c.add_cache.result c.add_cache.ensures.added c.add_cache.ensures.unchanged c.self.invariant
-    (desk-with_cache policy c.self.inside.state c.self.invariant fresh c.args.loader (rw c.self.view_is c.requires))
+    let unbegun : c.self.inside.state.started ≡ false = sym (ap (λ (k : Inside g.row.K.Denot g.row.D.Denot). k.state.started) c.self-inside.view_is) ∙ c.if-self.false in
+    rw c.in_ok-add_cache.ensures.added (desk-with_cache policy c.self.inside.state c.self.invariant unbegun c.args.loader (rw c.self.view_is c.requires))
 
 pub returns-clause-fresh : goal.returns-clause-fresh
 returns-clause-fresh g c =
     let policy = policy_of g.K.SigningCredential.valid g.K.SigningCredential.valid_at g.D.DeadlineRule.deadline in
-    let fresh : c.self.inside.state.started ≡ false = cc in
-    let stood : Represents policy c.self.inside.state [] = not_started policy c.self.inside.state c.self.invariant fresh in
-    on-ok (Represents policy c.add_cache.new.self []) c.match-add_cache.result
-    (after-add (λ (k : Kept g.row.K.Denot g.row.D.Denot). Represents policy k []) c.self.inside.state (with_cache c.args.loader c.self.inside.state) c.add_cache.new.self c.add_cache.result c.add_cache.ensures.added c.add_cache.ensures.unchanged stood
-    (represents-with_cache policy c.self.inside.state stood c.args.loader))
+    let unbegun : c.self.inside.state.started ≡ false = sym (ap (λ (k : Inside g.row.K.Denot g.row.D.Denot). k.state.started) c.self-inside.view_is) ∙ c.if-self.false in
+    let stood : Represents policy c.self.inside.state [] = not_started policy c.self.inside.state c.self.invariant unbegun in
+    rw c.in_ok-add_cache.ensures.added (represents-with_cache policy c.self.inside.state stood c.args.loader)

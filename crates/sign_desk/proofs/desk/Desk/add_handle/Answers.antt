@@ -1,24 +1,24 @@
-use Rattle.std.proofs.Common.{arith, ◌≡◌, false, []}
+use Rattle.std.proofs.Common.{arith, ◌<◌, length, ◌≡◌, ◌∙◌, sym, ap, false, []}
 use Rattle.sequential_signer.specs.Policy.{policy_of}
-use Rattle.sign_desk.specs.Kept.{Kept, Represents}
-use Rattle.sign_desk.specs.Adding.{with_handle}
-use Rattle.sign_desk.specs.IsDesk.{IsDesk}
-use Rattle.sign_desk.proofs.Holds.{desk-with_handle, not_started, after-add, on-ok}
-use Rattle.sign_desk.proofs.Fresh.{represents-with_handle}
+use Rattle.sign_desk.specs.DeskState.{DeskState, Represents}
+use Rattle.sign_desk.specs.declared.desk.Desk.TheInside.{Inside}
+use Rattle.sign_desk.proofs.DeskInvariant.{desk-with_handle, not_started}
+use Rattle.sign_desk.proofs.NewDesk.{represents-with_handle}
 use Rattle.sign_desk.proofs.desk.Desk.add_handle.Goals as goal
 
-pub invariant_of-self : goal.invariant_of-self
-invariant_of-self g c =
+pub invariant_of-self-2 : goal.invariant_of-self-2
+invariant_of-self-2 g c =
     let policy = policy_of g.K.SigningCredential.valid g.K.SigningCredential.valid_at g.D.DeadlineRule.deadline in
-    let fresh : c.self.inside.state.started ≡ false = cc in
-    after-add (IsDesk policy) c.self.inside.state (with_handle c.args.cache c.args.rule c.self.inside.state) c.add_handle.new.self c.add_handle.result c.add_handle.ensures.added c.add_handle.ensures.unchanged c.self.invariant
-    (desk-with_handle policy c.self.inside.state c.self.invariant fresh c.args.cache c.args.rule (rw c.self.view_is c.requires) (omega arith) (omega arith))
+    let unbegun : c.self.inside.state.started ≡ false = sym (ap (λ (k : Inside g.row.K.Denot g.row.D.Denot). k.state.started) c.self-inside.view_is) ∙ c.if-self.false in
+    let caches : length c.self.inside.state.loaders ≡ c.caches.result = ap (λ (k : DeskState g.row.K.Denot g.row.D.Denot). length k.loaders) c.self.view_is ∙ sym c.caches.ensures in
+    let rules : length c.self.inside.state.rules ≡ c.rules.result = ap (λ (k : DeskState g.row.K.Denot g.row.D.Denot). length k.rules) c.self.view_is ∙ sym c.rules.ensures in
+    let within : c.args.cache < length c.self.inside.state.loaders = omega (arith, caches) in
+    let ruled : c.args.rule < length c.self.inside.state.rules = omega (arith, rules) in
+    rw c.in_ok-add_handle.ensures.added (desk-with_handle policy c.self.inside.state c.self.invariant unbegun c.args.cache c.args.rule (rw c.self.view_is c.requires) within ruled)
 
 pub returns-clause-fresh : goal.returns-clause-fresh
 returns-clause-fresh g c =
     let policy = policy_of g.K.SigningCredential.valid g.K.SigningCredential.valid_at g.D.DeadlineRule.deadline in
-    let fresh : c.self.inside.state.started ≡ false = cc in
-    let stood : Represents policy c.self.inside.state [] = not_started policy c.self.inside.state c.self.invariant fresh in
-    on-ok (Represents policy c.add_handle.new.self []) c.match-add_handle.result
-    (after-add (λ (k : Kept g.row.K.Denot g.row.D.Denot). Represents policy k []) c.self.inside.state (with_handle c.args.cache c.args.rule c.self.inside.state) c.add_handle.new.self c.add_handle.result c.add_handle.ensures.added c.add_handle.ensures.unchanged stood
-    (represents-with_handle policy c.self.inside.state stood c.args.cache c.args.rule))
+    let unbegun : c.self.inside.state.started ≡ false = sym (ap (λ (k : Inside g.row.K.Denot g.row.D.Denot). k.state.started) c.self-inside.view_is) ∙ c.if-self.false in
+    let stood : Represents policy c.self.inside.state [] = not_started policy c.self.inside.state c.self.invariant unbegun in
+    rw c.in_ok-add_handle.ensures.added (represents-with_handle policy c.self.inside.state stood c.args.cache c.args.rule)

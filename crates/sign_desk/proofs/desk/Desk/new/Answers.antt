@@ -1,6 +1,6 @@
 use Rattle.sequential_signer.specs.Policy.{policy_of}
-use Rattle.sign_desk.proofs.Fresh.{represents-empty}
-use Rattle.sign_desk.proofs.Holds.{desk-empty}
+use Rattle.sign_desk.proofs.NewDesk.{represents-empty}
+use Rattle.sign_desk.proofs.DeskInvariant.{desk-empty}
 use Rattle.sign_desk.proofs.desk.Desk.new.Goals as goal
 
 pub invariant_of-result : goal.invariant_of-result

@@ -1,8 +1,9 @@
 use Rattle.std.proofs.Common.{◌≡◌, ◌≤◌, ◌++◌, List, length, take, vec_capacity}
 use Rattle.sequential_signer.specs.Policy.{policy_of}
 use Rattle.sequential_signer.specs.declared.event.Entry.{Entry}
-use Rattle.sign_desk.specs.Kept.{Represents, setup_of}
-use Rattle.sign_desk.specs.Paired.{paired}
+use Rattle.sign_desk.specs.DeskState.{Represents, setup_of}
+use Rattle.sign_desk.specs.Steps.{AreSteps}
+use Rattle.sign_desk.specs.PairedEntries.{paired_entries}
 use Rattle.sign_desk.proofs.desk.Desk.run.Given as goal
 
 -- so far the replies stand beside the events, and there is room for the rest
@@ -10,7 +11,8 @@ abbrev pub invariant-loop-event : goal.invariant-loop-event
 invariant-loop-event g l = record {
   count : length l.replies.items ≡ l.event-index;
   room : length l.events ≤ vec_capacity l.replies;
+  steps : AreSteps (policy_of g.K.SigningCredential.valid g.K.SigningCredential.valid_at g.D.DeadlineRule.deadline) (take l.event-index l.events) l.replies.items l.initial.self l.self;
   setup : setup_of l.self ≡ setup_of l.initial.self;
   represents : (entries : List (Entry g.row.K.Denot)) → Represents (policy_of g.K.SigningCredential.valid g.K.SigningCredential.valid_at g.D.DeadlineRule.deadline) l.initial.self entries
-      → Represents (policy_of g.K.SigningCredential.valid g.K.SigningCredential.valid_at g.D.DeadlineRule.deadline) l.self (entries ++ paired (take l.event-index l.events) l.replies.items);
+      → Represents (policy_of g.K.SigningCredential.valid g.K.SigningCredential.valid_at g.D.DeadlineRule.deadline) l.self (entries ++ paired_entries (take l.event-index l.events) l.replies.items);
 }

@@ -1,0 +1,14 @@
+-- Which places a list has.
+use Rattle.std.proofs.Common.{◌≡◌, ℕ, zero, suc, true, ◌<◌, List, [], ◌∷◌, is_some, slice_get, length, refl, arith}
+
+-- a place that has an item is below the length
+pub place-below : {A : Type 0} (xs : List A) (i : ℕ) → is_some (slice_get xs i) ≡ true → i < length xs
+place-below [] i h = cc
+place-below (x ∷ xs) zero h = omega arith
+place-below (x ∷ xs) (suc i) h = let k : i < length xs = place-below xs i h in omega arith
+
+-- a place below the length has an item
+pub place-there : {A : Type 0} (xs : List A) (i : ℕ) → i < length xs → is_some (slice_get xs i) ≡ true
+place-there [] i h = absurd (omega arith)
+place-there (x ∷ xs) zero h = refl
+place-there (x ∷ xs) (suc i) h = place-there xs i (omega arith)

@@ -1,0 +1,53 @@
+-- What is done at a live call by how far its hold gets.
+use Rattle.std.specs.Prelude.{Option, Some, None, slice_set}
+use Rattle.wake_lock.specs.declared.CallId.{CallId}
+use Rattle.sequential_signer.specs.Lookup.{HandOut, Refuse}
+use Rattle.sequential_signer.specs.SequentialCall.{Progress, Asking, Over}
+use Rattle.sequential_signer.specs.declared.event.Reply.TheVariants.{NotNow, Ask, Sign, Refused}
+use Rattle.sign_desk.specs.Queue.{next_holder, with_last, without_room, without_call, line_at}
+use Rattle.sign_desk.specs.DeskState.{DeskState}
+use Rattle.sign_desk.specs.Change.{with_queue}
+use Rattle.sign_desk.specs.Action.{Action, Leaves, Does, Allocates, live_effect, end_effect}
+use Rattle.sign_desk.specs.declared.calls.Stage.TheVariants as stage
+use Rattle.sign_desk.specs.declared.state.LiveCallView.{LiveCallView}
+
+-- what becomes of the desk but for the call: where it asks a provider, where it is handed a credential, and where its hold
+-- ends without one; and the call that is woken where the hold is over
+pub record Hold (K D : Type 0) : Type 0 where
+  pub asking : DeskState K D
+  pub signing : K → DeskState K D
+  pub over : DeskState K D
+  pub wake : Option CallId
+
+-- the hold of a call that is first polled: it takes a place in the queue only where it asks
+abbrev pub first_hold : {K D : Type 0} → DeskState K D → LiveCallView → Hold K D
+first_hold desk view = record {
+  asking = with_queue (with_last view.call) view.cache desk;
+  signing = λ credential. with_queue without_room view.cache desk;
+  over = with_queue without_room view.cache desk;
+  wake = None;
+}
+
+-- the hold of a call that waited: it gives its place to the next where it is over
+abbrev pub waited_hold : {K D : Type 0} → DeskState K D → LiveCallView → Hold K D
+waited_hold desk view = record {
+  asking = desk;
+  signing = λ credential. with_queue (without_call view.call) view.cache desk;
+  over = with_queue (without_call view.call) view.cache desk;
+  wake = next_holder view.call (line_at view.cache desk.queues);
+}
+
+-- the desk where this cache holds this credential
+abbrev pub with_cached : {K D : Type 0} → K → LiveCallView → DeskState K D → DeskState K D
+with_cached credential view desk = record desk { caches = slice_set desk.caches view.cache (Some credential) }
+
+-- the hold of a call that loads: as of one that waited, but a credential that is handed out is cached
+abbrev pub loading_hold : {K D : Type 0} → DeskState K D → LiveCallView → Hold K D
+loading_hold desk view = record (waited_hold desk view) { signing = λ credential. with_cached credential view (waited_hold desk view).over }
+
+-- what is done by how far the hold gets; only a credential that is handed out takes memory
+abbrev pub hold_action : {K D : Type 0} → Hold K D → LiveCallView → Option (Progress K) → Action K D
+hold_action hold view None = Leaves NotNow
+hold_action hold view (Some (Asking provider)) = Does (live_effect hold.asking (record view { stage = stage.Loading }) (Ask provider))
+hold_action hold view (Some (Over (HandOut credential) cached)) = Allocates (live_effect (hold.signing credential) (record view { stage = stage.Signing }) (Sign credential hold.wake))
+hold_action hold view (Some (Over (Refuse why) cached)) = Does (end_effect hold.over (Refused why hold.wake))

@@ -1,0 +1,30 @@
+-- The queue of a cache, and the live calls, read from a transcript.
+use Rattle.std.specs.Prelude.{ℕ, Bool, true, false, ◌&&◌, List, filter, map, length}
+use Rattle.wake_lock.specs.declared.CallId.{CallId}
+use Rattle.sequential_signer.specs.Transcript.{call_of}
+use Rattle.sequential_signer.specs.Setup.{Setup, is_of_cache}
+use Rattle.sequential_signer.specs.Phase.{Phase, Unpolled, phase_of, is_begun, is_live}
+use Rattle.sequential_signer.specs.Turn.{open_calls}
+use Rattle.sequential_signer.specs.declared.event.Entry.{Entry}
+use Rattle.sign_desk.specs.Queue.{Queue}
+
+-- the calls that were begun, in order
+unfoldable pub begun_calls : {K : Type 0} → List (Entry K) → List CallId
+begun_calls entries = map (λ e. call_of e.event) (filter (λ e. is_begun e.reply) entries)
+
+-- the calls that were begun and are not over
+abbrev pub live_calls : {K : Type 0} → List (Entry K) → List CallId
+live_calls entries = filter (λ call. is_live (phase_of entries call)) (begun_calls entries)
+
+-- begun and not polled
+abbrev pub is_unpolled : Phase → Bool
+is_unpolled Unpolled = true
+is_unpolled _ = false
+
+-- the calls of cache i that were begun and not polled
+abbrev pub unpolled_calls : {K D : Type 0} → Setup D → List (Entry K) → ℕ → List CallId
+unpolled_calls setup entries i = filter (λ call. is_of_cache setup i call && is_unpolled (phase_of entries call)) (begun_calls entries)
+
+-- the queue that cache i has
+abbrev pub queue_of : {K D : Type 0} → Setup D → List (Entry K) → ℕ → Queue
+queue_of setup entries i = record { line = open_calls setup entries i; unpolled = length (unpolled_calls setup entries i) }
