@@ -9,7 +9,7 @@ use Rattle.sign_base.specs.declared.head.Field.{Field}
 use Rattle.sign_request.specs.PlainHead.{header_of, header_map, RefusesField, RefusesFields}
 
 -- one more field is appended to the map of those before it
-header_map-more : (xs : List Field) (f : Field) → header_map (xs ++ f ∷ []) ≡ append (header_map xs) (lowercase f.name) (plain_value f.value)
+pub header_map-more : (xs : List Field) (f : Field) → header_map (xs ++ f ∷ []) ≡ append (header_map xs) (lowercase f.name) (plain_value f.value)
 header_map-more xs f =
     ap (append_all []) (map-append header_of xs (f ∷ [])) ∙ fold-append (λ n item. append n item.0 item.1) [] (map header_of xs) (header_of f ∷ [])
 

@@ -9,3 +9,10 @@ pub mod Picked
 pub mod Refused
 pub mod FieldsTaken
 pub mod ReadBack
+pub mod Deciding
+pub mod TargetTestsDecide
+pub mod TargetOf
+pub mod AcceptedHeads
+pub mod PlainViews
+pub mod QueryBound
+pub mod RoundTripLemmas

@@ -14,7 +14,7 @@ use Rattle.std.proofs.lemmas.List.Sorted.{IsPermutation-map}
 use Rattle.http_header.specs.FieldValue.{FieldValue}
 use Rattle.http_header.specs.HeaderMap.{Entries, keys}
 use Rattle.sign_request.specs.Query.{Pair, text_pair, text_pairs}
-use Rattle.sign_request.specs.CanonicalText.{text_cmp, pair_cmp, sorted, sorted_pairs, joined, canonical_text}
+use Rattle.sign_request.specs.CanonicalText.{text_cmp, pair_cmp, sorted, sorted_pairs, joined_texts, canonical_text}
 use Rattle.sign_request.specs.Headers.{sorted_names}
 use Rattle.sign_request.proofs.Sorting.{sorted-from_sort, sorted-IsPermutation}
 
@@ -66,6 +66,6 @@ sorted_names-from_sort headers xs ys all moved up =
     (IsPermutation-map (λ name. name.now) xs ys moved) (IsSorted-map (λ name. name.now) text_cmp ys up) ∙ ap (sorted text_cmp) all
 
 -- nor does it for a text of them
-pub canonical_text-IsPermutation : (written : Pair → List ℕ) (between : List ℕ) (ps qs : List Pair) → IsPermutation ps qs → canonical_text written between ps ≡ canonical_text written between qs
+pub canonical_text-IsPermutation : (pair_text : Pair → List ℕ) (between : List ℕ) (ps qs : List Pair) → IsPermutation ps qs → canonical_text pair_text between ps ≡ canonical_text pair_text between qs
 unfolding canonical_text
-canonical_text-IsPermutation written between ps qs moved = ap (λ rs. joined between (map written rs)) (sorted_pairs-IsPermutation ps qs moved)
+canonical_text-IsPermutation pair_text between ps qs moved = ap (λ rs. joined_texts between (map pair_text rs)) (sorted_pairs-IsPermutation ps qs moved)

@@ -5,7 +5,7 @@ use Rattle.std.specs.List.{list_any, prefix_len, suffix_len}
 use Rattle.std.proofs.lemmas.Bool.{cases_Bool, lt-ltb, ltb-true, ltb-false, le-ltb}
 use Rattle.std.proofs.lemmas.List.{take_all, length-reverse, get_or-reverse, get_or-take, get_or-drop, length-take, length-drop}
 use Rattle.std.proofs.lemmas.List.Sums.{prefix_len-le-length, prefix_len_passes, prefix_len_stops, prefix_len_is, suffix_len_is}
-use Rattle.sign_request.specs.Headers.{is_space, trimmed}
+use Rattle.sign_request.specs.Headers.{is_blank, trimmed_value}
 
 module _ (p : ℕ → Bool) where
   -- some byte fails the test just where the front that passes is not all
@@ -46,56 +46,56 @@ module _ (p : ℕ → Bool) where
       sym (ap (λ i. p (get_or xs i 0)) same) ∙ (sym (ap p there) ∙ fails)
 
 -- where a byte is no space, trimming keeps a range
-trimmed-some : (bytes : List ℕ) → prefix_len is_space bytes < length bytes
-    → trimmed bytes ≡ slice_range bytes (prefix_len is_space bytes) (length bytes - suffix_len is_space bytes)
-unfolding trimmed
-trimmed-some bytes some = rw (any_fails is_space bytes, lt-ltb (prefix_len is_space bytes) (length bytes) some) refl
+trimmed_value-some : (bytes : List ℕ) → prefix_len is_blank bytes < length bytes
+    → trimmed_value bytes ≡ slice_range bytes (prefix_len is_blank bytes) (length bytes - suffix_len is_blank bytes)
+unfolding trimmed_value
+trimmed_value-some bytes some = rw (any_fails is_blank bytes, lt-ltb (prefix_len is_blank bytes) (length bytes) some) refl
 
 -- the range that trimming keeps
-pub trimmed-range : (bytes : List ℕ) (end : ℕ) → prefix_len is_space bytes < length bytes → end + suffix_len is_space bytes ≡ length bytes
-    → slice_range bytes (prefix_len is_space bytes) end ≡ trimmed bytes
-trimmed-range bytes end some e =
-    let same : end ≡ length bytes - suffix_len is_space bytes = omega arith in
-    ap (slice_range bytes (prefix_len is_space bytes)) same ∙ sym (trimmed-some bytes some)
+pub trimmed_value-range : (bytes : List ℕ) (end : ℕ) → prefix_len is_blank bytes < length bytes → end + suffix_len is_blank bytes ≡ length bytes
+    → slice_range bytes (prefix_len is_blank bytes) end ≡ trimmed_value bytes
+trimmed_value-range bytes end some e =
+    let same : end ≡ length bytes - suffix_len is_blank bytes = omega arith in
+    ap (slice_range bytes (prefix_len is_blank bytes)) same ∙ sym (trimmed_value-some bytes some)
 
-pub trimmed-all : (bytes : List ℕ) → prefix_len is_space bytes ≡ length bytes → trimmed bytes ≡ bytes
-unfolding trimmed
-trimmed-all bytes e = rw (any_fails is_space bytes, le-ltb (prefix_len is_space bytes) (length bytes) (omega arith)) refl
+pub trimmed_value-all : (bytes : List ℕ) → prefix_len is_blank bytes ≡ length bytes → trimmed_value bytes ≡ bytes
+unfolding trimmed_value
+trimmed_value-all bytes e = rw (any_fails is_blank bytes, le-ltb (prefix_len is_blank bytes) (length bytes) (omega arith)) refl
 
 -- a value that begins and ends with another byte stays
-trimmed-same : (bytes : List ℕ) → 0 < length bytes → is_space (get_or bytes 0 0) ≡ false → is_space (get_or bytes (length bytes - 1) 0) ≡ false → trimmed bytes ≡ bytes
-trimmed-same bytes some first last =
-    let front : prefix_len is_space bytes ≡ 0 = prefix_len_is is_space bytes 0 0 (omega arith) (λ k l. absurd (omega arith)) (λ l. first) in
-    let back : suffix_len is_space bytes ≡ length bytes - length bytes =
-    suffix_len_is is_space bytes (length bytes) 0 (omega arith) (λ k l m. absurd (omega arith)) (λ l. last) in
-    let whole : length bytes - suffix_len is_space bytes ≡ length bytes = omega arith in
-    trimmed-some bytes (omega arith)
-    ∙ (ap (λ a. slice_range bytes a (length bytes - suffix_len is_space bytes)) front
+trimmed_value-same : (bytes : List ℕ) → 0 < length bytes → is_blank (get_or bytes 0 0) ≡ false → is_blank (get_or bytes (length bytes - 1) 0) ≡ false → trimmed_value bytes ≡ bytes
+trimmed_value-same bytes some first last =
+    let front : prefix_len is_blank bytes ≡ 0 = prefix_len_is is_blank bytes 0 0 (omega arith) (λ k l. absurd (omega arith)) (λ l. first) in
+    let back : suffix_len is_blank bytes ≡ length bytes - length bytes =
+    suffix_len_is is_blank bytes (length bytes) 0 (omega arith) (λ k l m. absurd (omega arith)) (λ l. last) in
+    let whole : length bytes - suffix_len is_blank bytes ≡ length bytes = omega arith in
+    trimmed_value-some bytes (omega arith)
+    ∙ (ap (λ a. slice_range bytes a (length bytes - suffix_len is_blank bytes)) front
     ∙ (ap (slice_range bytes 0) whole ∙ take_all (length bytes - 0) bytes (omega arith)))
 
 -- trimming twice is trimming once
-pub trimmed-trimmed : (bytes : List ℕ) → trimmed (trimmed bytes) ≡ trimmed bytes
-trimmed-trimmed bytes =
-    elim (cases_Bool (nat_lt (prefix_len is_space bytes) (length bytes))) [
+pub trimmed_value-trimmed_value : (bytes : List ℕ) → trimmed_value (trimmed_value bytes) ≡ trimmed_value bytes
+trimmed_value-trimmed_value bytes =
+    elim (cases_Bool (nat_lt (prefix_len is_blank bytes) (length bytes))) [
       | inl t ↦
-          let some = ltb-true (prefix_len is_space bytes) (length bytes) t in
-          let apart = ends_apart is_space bytes some in
-          let a : ℕ = prefix_len is_space bytes in
-          let n : ℕ = length bytes - suffix_len is_space bytes in
+          let some = ltb-true (prefix_len is_blank bytes) (length bytes) t in
+          let apart = ends_apart is_blank bytes some in
+          let a : ℕ = prefix_len is_blank bytes in
+          let n : ℕ = length bytes - suffix_len is_blank bytes in
           let kept : List ℕ = slice_range bytes a n in
           let at : (i : ℕ) → i < n - a → get_or kept i 0 ≡ get_or bytes (a + i) 0 = λ i l. get_or-take (n - a) (drop a bytes) i 0 l ∙ get_or-drop a bytes i 0 in
           let cut = length-take (n - a) (drop a bytes) in
           let left = length-drop a bytes in
           let long : length kept ≡ n - a = omega (arith, cut, left) in
-          let first : is_space (get_or kept 0 0) ≡ false =
-          ap is_space (at 0 (omega arith) ∙ ap (λ i. get_or bytes i 0) (add-zero a)) ∙ prefix_len_stops is_space bytes 0 some in
+          let first : is_blank (get_or kept 0 0) ≡ false =
+          ap is_blank (at 0 (omega arith) ∙ ap (λ i. get_or bytes i 0) (add-zero a)) ∙ prefix_len_stops is_blank bytes 0 some in
           let last_place : a + (length kept - 1) ≡ n - 1 = omega arith in
-          let last : is_space (get_or kept (length kept - 1) 0) ≡ false =
-          ap is_space (at (length kept - 1) (omega arith) ∙ ap (λ i. get_or bytes i 0) last_place) ∙ suffix_stops is_space bytes (omega arith) in
-          let is : trimmed bytes ≡ kept = trimmed-some bytes some in
-          ap trimmed is ∙ (trimmed-same kept (omega arith) first last ∙ sym is)
+          let last : is_blank (get_or kept (length kept - 1) 0) ≡ false =
+          ap is_blank (at (length kept - 1) (omega arith) ∙ ap (λ i. get_or bytes i 0) last_place) ∙ suffix_stops is_blank bytes (omega arith) in
+          let is : trimmed_value bytes ≡ kept = trimmed_value-some bytes some in
+          ap trimmed_value is ∙ (trimmed_value-same kept (omega arith) first last ∙ sym is)
       | inr f ↦
-          let all : length bytes ≤ prefix_len is_space bytes = ltb-false (prefix_len is_space bytes) (length bytes) f in
-          let most = prefix_len-le-length is_space bytes in
-          ap trimmed (trimmed-all bytes (omega arith))
+          let all : length bytes ≤ prefix_len is_blank bytes = ltb-false (prefix_len is_blank bytes) (length bytes) f in
+          let most = prefix_len-le-length is_blank bytes in
+          ap trimmed_value (trimmed_value-all bytes (omega arith))
     ]

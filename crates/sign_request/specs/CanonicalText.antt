@@ -3,7 +3,7 @@ use Rattle.std.specs.Prelude.{ℕ, List, [], ◌∷◌, ◌++◌, map, length, �
 use Rattle.std.specs.Cmp.Lexicographic.{slice_cmp}
 use Rattle.std.specs.Ordering.{nat_cmp, is_gt, ordering_then}
 use Rattle.std.specs.declared.cmp.Ordering.{Ordering}
-use Rattle.sign_request.specs.Query.{Pair, decoded}
+use Rattle.sign_request.specs.Query.{Pair, decoded_text}
 
 -- the order of texts: byte by byte, and a text before those that it begins
 abbrev pub text_cmp : List ℕ → List ℕ → Ordering
@@ -29,10 +29,10 @@ unfoldable pub sorted_pairs : List Pair → List Pair
 sorted_pairs pairs = sorted pair_cmp pairs
 
 -- the texts in a row, with one text between each two
-abbrev pub joined : List ℕ → List (List ℕ) → List ℕ
-joined between [] = []
-joined between (x ∷ []) = x
-joined between (x ∷ y ∷ xs) = x ++ between ++ joined between (y ∷ xs)
+abbrev pub joined_texts : List ℕ → List (List ℕ) → List ℕ
+joined_texts between [] = []
+joined_texts between (x ∷ []) = x
+joined_texts between (x ∷ y ∷ xs) = x ++ between ++ joined_texts between (y ∷ xs)
 
 -- a header: its name, the separator and its value
 abbrev pub header_text : List ℕ → Pair → List ℕ
@@ -44,8 +44,8 @@ parameter_text sep p = if length p.1 == 0 then p.0 else p.0 ++ sep ++ p.1
 
 -- the same, with the value decoded once
 abbrev pub decoded_parameter_text : List ℕ → Pair → List ℕ
-decoded_parameter_text sep p = if length p.1 == 0 then p.0 else p.0 ++ sep ++ decoded p.1
+decoded_parameter_text sep p = if length p.1 == 0 then p.0 else p.0 ++ sep ++ decoded_text p.1
 
 -- the pairs in order, each written as a text, and these joined
 unfoldable pub canonical_text : (Pair → List ℕ) → List ℕ → List Pair → List ℕ
-canonical_text written between pairs = joined between (map written (sorted_pairs pairs))
+canonical_text pair_text between pairs = joined_texts between (map pair_text (sorted_pairs pairs))

@@ -4,6 +4,7 @@ use Rattle.std.specs.List.{AllByRecursion, list_any, prefix_len, suffix_len, sta
 use Rattle.std.specs.Option.{option_map_or}
 use Rattle.http_header.specs.FieldValue.{FieldValue, IsVisibleAscii}
 use Rattle.http_header.specs.HeaderMap.{Entries, get, keys}
+use Rattle.sign_base.specs.Bytes.{space}
 use Rattle.sign_request.specs.Query.{Pair}
 use Rattle.sign_request.specs.CanonicalText.{text_cmp, sorted}
 
@@ -28,12 +29,12 @@ abbrev pub AreVisible : List (List ℕ × FieldValue) → Type 0
 AreVisible headers = AllByRecursion (λ h. IsVisibleAscii h.1.bytes) headers
 
 -- the byte is a space; a tab is none
-abbrev pub is_space : ℕ → Bool
-is_space b = b == 32
+abbrev pub is_blank : ℕ → Bool
+is_blank b = b == space
 
 -- a value without the spaces at its ends. One of spaces alone stays
-unfoldable pub trimmed : List ℕ → List ℕ
-trimmed bytes =
-    if list_any (λ b. not (is_space b)) bytes
-    then slice_range bytes (prefix_len is_space bytes) (length bytes - suffix_len is_space bytes)
+unfoldable pub trimmed_value : List ℕ → List ℕ
+trimmed_value bytes =
+    if list_any (λ b. not (is_blank b)) bytes
+    then slice_range bytes (prefix_len is_blank bytes) (length bytes - suffix_len is_blank bytes)
     else bytes

@@ -7,3 +7,8 @@ pub mod Request
 pub mod Headers
 pub mod PlainHead
 pub mod Refusal
+pub mod TargetTests
+pub mod PlainTarget
+pub mod AcceptedHead
+pub mod PlainView
+pub mod RoundTrip

@@ -6,7 +6,7 @@ use Rattle.sign_request.specs.Query.{Pair}
 use Rattle.sign_request.specs.CanonicalText.{header_text, parameter_text, decoded_parameter_text}
 
 -- a pair in its form
-abbrev pub written : PairForm → List ℕ → Pair → List ℕ
-written Header = header_text
-written Parameter = parameter_text
-written DecodedParameter = decoded_parameter_text
+abbrev pub pair_text : PairForm → List ℕ → Pair → List ℕ
+pair_text Header = header_text
+pair_text Parameter = parameter_text
+pair_text DecodedParameter = decoded_parameter_text

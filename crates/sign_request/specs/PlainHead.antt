@@ -15,7 +15,7 @@ use Rattle.sign_base.specs.declared.head.Version.TheVariants.{V09, V10, V11, V2,
 use Rattle.sign_request.specs.Query.{Pair}
 use Rattle.sign_request.specs.Headers.{header_pair}
 
--- the version of `http` that a plain one stands for
+-- the version of `http` that a plain one represents
 abbrev pub http_version : Version → HttpVersion
 http_version V09 = HTTP_09
 http_version V10 = HTTP_10

@@ -4,6 +4,7 @@ use Rattle.std.specs.List.{slice_split, before_first, after_first}
 use Rattle.std.specs.Str.Lossy.{utf8_lossy}
 use Rattle.std.specs.declared.string.String.{String}
 use Rattle.percent_encoding.specs.Percent.{percent_decode}
+use Rattle.sign_base.specs.Bytes.{ampersand, equals_sign}
 
 -- a key and its value
 abbrev pub Pair : Type 0
@@ -18,16 +19,16 @@ abbrev pub text_pairs : {Z : Type 0} → List (String Z × String Z) → List Pa
 text_pairs pairs = map text_pair pairs
 
 -- the text with each percent escape replaced by its byte, once, and then U+FFFD for each sequence that is not UTF-8
-unfoldable pub decoded : List ℕ → List ℕ
-decoded text = utf8_lossy (percent_decode text)
+unfoldable pub decoded_text : List ℕ → List ℕ
+decoded_text text = utf8_lossy (percent_decode text)
 
 -- the byte is `&`
 abbrev pub is_ampersand : ℕ → Bool
-is_ampersand b = b == 38
+is_ampersand b = b == ampersand
 
 -- the byte is `=`
 abbrev pub is_equals_sign : ℕ → Bool
-is_equals_sign b = b == 61
+is_equals_sign b = b == equals_sign
 
 -- what stands between the `&`s, without the empty pieces
 abbrev pub query_pieces : List ℕ → List (List ℕ)
@@ -35,7 +36,7 @@ query_pieces query = filter (λ piece. not (length piece == 0)) (slice_split is_
 
 -- a piece cut at its first `=`; where it has none, all of it is the key. `+` stays
 abbrev pub read_pair : List ℕ → Pair
-read_pair piece = (decoded (before_first is_equals_sign piece), decoded (after_first is_equals_sign piece))
+read_pair piece = (decoded_text (before_first is_equals_sign piece), decoded_text (after_first is_equals_sign piece))
 
 -- the pairs of a query, in order
 unfoldable pub query_pairs : List ℕ → List Pair

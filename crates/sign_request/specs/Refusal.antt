@@ -4,9 +4,9 @@ use Rattle.sign_base.specs.Conversion.{IsOfKind}
 use Rattle.sign_base.specs.Error.{ErrorParts, new_error}
 use Rattle.sign_base.specs.declared.error_kind.ErrorKind.TheVariants.{RequestInvalid, OutOfMemory}
 
--- memory was wanting
-abbrev pub WantsMemory : ErrorParts → Type 0
-WantsMemory e = e ≡ new_error OutOfMemory []
+-- an allocation failed
+abbrev pub IsOutOfMemory : ErrorParts → Type 0
+IsOutOfMemory e = e ≡ new_error OutOfMemory []
 
 -- the request is refused with this message, and the cause holds
 abbrev pub RefusedFor : List ℕ → Type 0 → ErrorParts → Type 0

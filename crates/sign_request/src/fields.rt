@@ -6,9 +6,9 @@ ghost use Rattle.http_header.specs.HeaderMap.{append, pairs, RefusesAppend};
 ghost use Rattle.http_header.specs.Token.{lowercase};
 ghost use Rattle.sign_request.specs.Headers.{header_pair};
 ghost use Rattle.sign_request.specs.PlainHead.{field_pair, header_map, RefusesField, RefusesFields};
-ghost use Rattle.sign_request.specs.Refusal.{WantsMemory, RefusedAs};
+ghost use Rattle.sign_request.specs.Refusal.{IsOutOfMemory, RefusedAs};
 
-use crate::refusal::told;
+use crate::refusal::or_out_of_memory;
 use http::header::{
     HeaderMap, HeaderMapError, HeaderName, HeaderNameError, HeaderValue, HeaderValueError,
 };
@@ -25,9 +25,7 @@ pub(crate) fn fields_of(alloc: Global, headers: &HeaderMap) -> Result<Fields, No
             name: Octets::from_slice(alloc, name.as_bytes())?,
             value: Octets::from_slice(alloc, value.as_bytes())?,
         };
-        if fields.push(field).is_err() {
-            return Err(NoMemory { back: () });
-        }
+        fields.push(field).map_err(|_| NoMemory { back: () })?;
     }
     Ok(fields)
 }
@@ -36,7 +34,7 @@ pub(crate) fn fields_of(alloc: Global, headers: &HeaderMap) -> Result<Fields, No
 pub(crate) fn headers_of(alloc: Global, fields: &Fields) -> Result<HeaderMap, Error>
     ensures ok { IfOk result (λ headers. headers ≡ header_map fields.now) }
     ensures accepted { OnOk result (¬ (RefusesFields fields.now)) }
-    ensures err { IfErr result (λ e. WantsMemory e ⊎ RefusedAs (RefusesFields fields.now) e) }
+    ensures err { IfErr result (λ e. IsOutOfMemory e ⊎ RefusedAs (RefusesFields fields.now) e) }
 {
     let mut headers = HeaderMap::new(alloc);
     for field in fields.as_slice() {
@@ -49,7 +47,7 @@ fn append_field(alloc: Global, headers: &mut HeaderMap, field: &Field) -> Result
     ensures ok { OnOk result
         (headers.new ≡ append headers.old (lowercase field.now.name) (plain_value field.now.value)) }
     ensures accepted { OnOk result (¬ (RefusesField headers.old field.now)) }
-    ensures err { IfErr result (λ e. WantsMemory e
+    ensures err { IfErr result (λ e. IsOutOfMemory e
         ⊎ RefusedAs (RefusesField headers.old field.now) e) }
 {
     let name = name_of(alloc, field.name.as_slice())?;
@@ -57,7 +55,7 @@ fn append_field(alloc: Global, headers: &mut HeaderMap, field: &Field) -> Result
     match headers.append(name, value) {
         Ok(_) => Ok(()),
         Err(HeaderMapError::MaxSizeReached) => {
-            Err(told(Error::from_http(alloc, &http::Error::MaxSizeReached)))
+            Err(or_out_of_memory(Error::from_http(alloc, &http::Error::MaxSizeReached)))
         }
         Err(HeaderMapError::OutOfMemory) => Err(Error::out_of_memory()),
     }
@@ -66,21 +64,21 @@ fn append_field(alloc: Global, headers: &mut HeaderMap, field: &Field) -> Result
 fn name_of(alloc: Global, name: &[u8]) -> Result<HeaderName, Error>
     ensures ok { IfOk result (λ found. found ≡ lowercase name.now) }
     ensures accepted { OnOk result (¬ ¬ (IsFieldName name.now)) }
-    ensures err { IfErr result (λ e. WantsMemory e ⊎ RefusedAs (¬ (IsFieldName name.now)) e) }
+    ensures err { IfErr result (λ e. IsOutOfMemory e ⊎ RefusedAs (¬ (IsFieldName name.now)) e) }
 {
     match HeaderName::from_bytes(alloc, name) {
         Ok(name) => Ok(name),
-        Err(e) => Err(told(Error::from_header_name(alloc, &e))),
+        Err(e) => Err(or_out_of_memory(Error::from_header_name(alloc, &e))),
     }
 }
 
 fn value_of(alloc: Global, value: &[u8]) -> Result<HeaderValue, Error>
     ensures ok { IfOk result (λ found. found ≡ plain_value value.now) }
     ensures accepted { OnOk result (¬ ¬ (IsFieldValue value.now)) }
-    ensures err { IfErr result (λ e. WantsMemory e ⊎ RefusedAs (¬ (IsFieldValue value.now)) e) }
+    ensures err { IfErr result (λ e. IsOutOfMemory e ⊎ RefusedAs (¬ (IsFieldValue value.now)) e) }
 {
     match HeaderValue::from_bytes(alloc, value) {
         Ok(value) => Ok(value),
-        Err(e) => Err(told(Error::from_header_value(alloc, &e))),
+        Err(e) => Err(or_out_of_memory(Error::from_header_value(alloc, &e))),
     }
 }

@@ -4,8 +4,8 @@ ghost use Rattle.std.specs.List.{prefix_len, suffix_len, starts_with};
 ghost use Rattle.http_header.specs.HeaderMap.{pairs};
 ghost use Rattle.http_header.specs.FieldValue.{IsVisibleAscii, plain_value};
 ghost use Rattle.sign_request.specs.Query.{text_pair, text_pairs};
-ghost use Rattle.sign_request.specs.Headers.{first_value, sorted_names, header_pair, with_prefix, AreVisible, is_space, trimmed};
-ghost use Rattle.sign_request.specs.Refusal.{WantsMemory, RefusedFor, invalid_value};
+ghost use Rattle.sign_request.specs.Headers.{first_value, sorted_names, header_pair, with_prefix, AreVisible, is_blank, trimmed_value};
+ghost use Rattle.sign_request.specs.Refusal.{IsOutOfMemory, RefusedFor, invalid_value};
 
 use crate::SigningRequest;
 use crate::pair::push_texts;
@@ -22,7 +22,7 @@ impl SigningRequest {
     pub fn header_get_or_default(&self, key: &HeaderName) -> Result<&str, Error>
         ensures ok { IfOk result (λ text. text.now ≡ first_value self.now.headers key.now) }
         ensures visible { OnOk result (IsVisibleAscii (first_value self.now.headers key.now)) }
-        ensures err { IfErr result (λ e. WantsMemory e ⊎ RefusedFor invalid_value
+        ensures err { IfErr result (λ e. IsOutOfMemory e ⊎ RefusedFor invalid_value
             (¬ (IsVisibleAscii (first_value self.now.headers key.now))) e) }
     {
         match self.headers.get(key) {
@@ -39,7 +39,7 @@ impl SigningRequest {
     ///
     /// Without memory the value stays as it was.
     pub fn header_value_normalize(v: &mut HeaderValue) -> Result<(), NoMemory<()>>
-        ensures ok { OnOk result (v.new ≡ plain_value (trimmed v.old.bytes)) }
+        ensures ok { OnOk result (v.new ≡ plain_value (trimmed_value v.old.bytes)) }
         ensures unchanged { OnErr result (v.new ≡ v.old) }
     {
         let (start, end) = trimmed_range(v.as_bytes());
@@ -68,7 +68,7 @@ impl SigningRequest {
         ensures ok { IfOk result (λ found. text_pairs found.items
             ≡ map header_pair (with_prefix prefix.now (pairs self.now.headers))) }
         ensures visible { OnOk result (AreVisible (with_prefix prefix.now (pairs self.now.headers))) }
-        ensures err { IfErr result (λ e. WantsMemory e ⊎ RefusedFor invalid_value
+        ensures err { IfErr result (λ e. IsOutOfMemory e ⊎ RefusedFor invalid_value
             (¬ (AreVisible (with_prefix prefix.now (pairs self.now.headers)))) e) }
     {
         let mut found = Vec::new(*self.query.allocator());
@@ -90,7 +90,7 @@ fn push_with_prefix(
         ++ map header_pair (with_prefix prefix.now ((name.now, value.now) ∷ []))) }
     ensures visible { OnOk result (AreVisible (with_prefix prefix.now
         ((name.now, value.now) ∷ []))) }
-    ensures err { IfErr result (λ e. WantsMemory e ⊎ RefusedFor invalid_value
+    ensures err { IfErr result (λ e. IsOutOfMemory e ⊎ RefusedFor invalid_value
         (¬ (AreVisible (with_prefix prefix.now ((name.now, value.now) ∷ [])))) e) }
 {
     if !has_prefix(name, prefix) {
@@ -110,7 +110,7 @@ fn has_prefix(name: &HeaderName, prefix: &str) -> bool
 
 // Where a value begins and ends without the spaces at its ends.
 fn trimmed_range(bytes: &[u8]) -> (usize, usize)
-    ensures cut { slice_range bytes.now result.0 result.1 ≡ trimmed bytes.now }
+    ensures cut { slice_range bytes.now result.0 result.1 ≡ trimmed_value bytes.now }
     ensures start { result.0 ≤ result.1 }
     ensures end { result.1 ≤ length bytes.now }
 {
@@ -123,14 +123,14 @@ fn trimmed_range(bytes: &[u8]) -> (usize, usize)
 }
 
 fn leading_spaces(bytes: &[u8]) -> usize
-    ensures value { result ≡ prefix_len is_space bytes.now }
+    ensures value { result ≡ prefix_len is_blank bytes.now }
     ensures within { result ≤ length bytes.now }
 {
     bytes.iter().take_while(|b| **b == b' ').count()
 }
 
 fn end_before_spaces(bytes: &[u8]) -> usize
-    ensures { result + suffix_len is_space bytes.now ≡ length bytes.now }
+    ensures { result + suffix_len is_blank bytes.now ≡ length bytes.now }
 {
     let mut end = bytes.len();
     while end > 0 && bytes[end - 1] == b' ' {

@@ -4,6 +4,7 @@
 
 mod decode;
 mod fields;
+mod head_view;
 mod headers;
 pub mod laws;
 mod pair;
@@ -18,5 +19,6 @@ mod target;
 mod tests;
 mod text;
 
+pub use head_view::{HeadView, ViewRefusal};
 pub use plain_head::{commit, head_of, parts_of};
 pub use request::{SigningMethod, SigningRequest};

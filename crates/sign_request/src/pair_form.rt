@@ -1,8 +1,8 @@
 //! Pairs written one after another.
 ghost use Rattle.std.specs.Prelude.{◌≡◌, ◌++◌, IfOk, OnOk, map, string_bytes};
 ghost use Rattle.sign_request.specs.Query.{text_pair, text_pairs};
-ghost use Rattle.sign_request.specs.CanonicalText.{joined};
-ghost use Rattle.sign_request.specs.PairForm.{written};
+ghost use Rattle.sign_request.specs.CanonicalText.{joined_texts};
+ghost use Rattle.sign_request.specs.PairForm.{pair_text};
 
 use crate::decode::decode;
 use std::alloc::{AllocError, Global};
@@ -27,7 +27,7 @@ pub(crate) fn write_pairs(
     join: &str,
 ) -> Result<String, AllocError>
     ensures { IfOk result (λ text. string_bytes text
-        ≡ joined join.now (map (written form sep.now) (text_pairs pairs.now))) }
+        ≡ joined_texts join.now (map (pair_text form sep.now) (text_pairs pairs.now))) }
 {
     let mut text = String::new(alloc);
     for (i, pair) in pairs.iter().enumerate() {
@@ -47,7 +47,7 @@ fn push_pair(
     sep: &str,
 ) -> Result<(), AllocError>
     ensures { OnOk result (string_bytes text.new
-        ≡ string_bytes text.old ++ written form sep.now (text_pair pair.now)) }
+        ≡ string_bytes text.old ++ pair_text form sep.now (text_pair pair.now)) }
 {
     let (key, value) = pair;
     text.push_str(key.as_str())?;

@@ -3,10 +3,10 @@ ghost use Rattle.std.specs.Prelude.{◌≡◌, ◌⊎◌, IfOk, IfErr, OnOk, OnE
 ghost use Rattle.http_header.specs.Token.{IsToken};
 ghost use Rattle.http_uri.specs.Uri.{Spells, SpellsNone, uri_text};
 ghost use Rattle.sign_request.specs.PlainHead.{http_version, IsUnknownVersion, IsHeadOf, ArePartsOf, Commits, RefusesHead, RefusesTarget};
-ghost use Rattle.sign_request.specs.Refusal.{WantsMemory, RefusedFor, RefusedAs, unknown_version};
+ghost use Rattle.sign_request.specs.Refusal.{IsOutOfMemory, RefusedFor, RefusedAs, unknown_version};
 
 use crate::fields::{fields_of, headers_of};
-use crate::refusal::{refusal, told};
+use crate::refusal::{or_out_of_memory, refusal};
 use http::Method;
 use http::method::MethodError;
 use http::request::Parts;
@@ -22,7 +22,7 @@ const UNKNOWN_VERSION: &str = "unknown version";
 /// `RequestInvalid` where the version is none of the five that a plain head has.
 pub fn head_of(alloc: Global, parts: &Parts) -> Result<Head, Error>
     ensures ok { IfOk result (IsHeadOf parts.now) }
-    ensures err { IfErr result (λ e. WantsMemory e
+    ensures err { IfErr result (λ e. IsOutOfMemory e
         ⊎ RefusedFor unknown_version (IsUnknownVersion parts.now.version) e) }
 {
     match version_of(parts.version) {
@@ -57,7 +57,7 @@ fn uri_octets(alloc: Global, uri: &Uri) -> Result<Octets, NoMemory<()>>
 pub fn parts_of(alloc: Global, head: &Head) -> Result<Parts, Error>
     ensures ok { IfOk result (ArePartsOf head.now) }
     ensures accepted { OnOk result (¬ (RefusesHead head.now)) }
-    ensures err { IfErr result (λ e. WantsMemory e ⊎ RefusedAs (RefusesHead head.now) e) }
+    ensures err { IfErr result (λ e. IsOutOfMemory e ⊎ RefusedAs (RefusesHead head.now) e) }
 {
     let method = method_of(alloc, head.method.as_slice())?;
     let uri = uri_of(alloc, head.uri.as_slice())?;
@@ -79,7 +79,7 @@ pub fn commit(alloc: Global, parts: &mut Parts, head: &Head) -> Result<(), Error
     ensures ok { OnOk result (Commits head.now parts.old parts.new) }
     ensures accepted { OnOk result (¬ (RefusesTarget head.now)) }
     ensures unchanged { OnErr result (parts.new ≡ parts.old) }
-    ensures err { IfErr result (λ e. WantsMemory e ⊎ RefusedAs (RefusesTarget head.now) e) }
+    ensures err { IfErr result (λ e. IsOutOfMemory e ⊎ RefusedAs (RefusesTarget head.now) e) }
 {
     let uri = uri_of(alloc, head.uri.as_slice())?;
     let headers = headers_of(alloc, &head.headers)?;
@@ -121,11 +121,14 @@ fn http_version_of(version: Version) -> http::Version
 fn method_of(alloc: Global, name: &[u8]) -> Result<Method, Error>
     ensures ok { IfOk result (λ method. method ≡ name.now) }
     ensures accepted { OnOk result (¬ ¬ (IsToken name.now)) }
-    ensures err { IfErr result (λ e. WantsMemory e ⊎ RefusedAs (¬ (IsToken name.now)) e) }
+    ensures err { IfErr result (λ e. IsOutOfMemory e ⊎ RefusedAs (¬ (IsToken name.now)) e) }
 {
     match Method::from_bytes(alloc, name) {
         Ok(method) => Ok(method),
-        Err(MethodError::Invalid) => Err(told(Error::from_http(alloc, &http::Error::Method))),
+        Err(MethodError::Invalid) => Err(or_out_of_memory(Error::from_http(
+            alloc,
+            &http::Error::Method,
+        ))),
         Err(MethodError::OutOfMemory) => Err(Error::out_of_memory()),
     }
 }
@@ -133,10 +136,10 @@ fn method_of(alloc: Global, name: &[u8]) -> Result<Method, Error>
 fn uri_of(alloc: Global, text: &[u8]) -> Result<Uri, Error>
     ensures ok { IfOk result (Spells text.now) }
     ensures accepted { OnOk result (¬ (SpellsNone text.now)) }
-    ensures err { IfErr result (λ e. WantsMemory e ⊎ RefusedAs (SpellsNone text.now) e) }
+    ensures err { IfErr result (λ e. IsOutOfMemory e ⊎ RefusedAs (SpellsNone text.now) e) }
 {
     match Uri::from_bytes(alloc, text) {
         Ok(uri) => Ok(uri),
-        Err(e) => Err(told(Error::from_uri(alloc, &e))),
+        Err(e) => Err(or_out_of_memory(Error::from_uri(alloc, &e))),
     }
 }

@@ -4,7 +4,7 @@ ghost use Rattle.std.specs.Prelude.{◌≡◌, ◌++◌, ◌∷◌, [], ◌<◌,
 ghost use Rattle.std.specs.Cow.{cow_str_bytes};
 ghost use Rattle.std.specs.Fn.{FnReturnsAt};
 ghost use Rattle.std.specs.List.{AllZip, items_where_true};
-ghost use Rattle.sign_request.specs.Query.{decoded, text_pairs, query_length};
+ghost use Rattle.sign_request.specs.Query.{decoded_text, text_pairs, query_length};
 
 use crate::SigningRequest;
 use crate::decode::decode;
@@ -70,7 +70,7 @@ impl SigningRequest {
     /// The whole path decoded once, with U+FFFD for each sequence that is not UTF-8. An escaped
     /// slash becomes a slash, so where slashes are data a service decodes each segment on its own.
     pub fn path_percent_decoded(&self) -> Result<CowStr<'_, Global>, NoMemory<()>>
-        ensures { IfOk result (λ path. cow_str_bytes path ≡ decoded (string_bytes self.now.path)) }
+        ensures { IfOk result (λ path. cow_str_bytes path ≡ decoded_text (string_bytes self.now.path)) }
     {
         Ok(decode(*self.path.allocator(), self.path.as_str())?)
     }

@@ -1,7 +1,7 @@
 //! The view of a request head for a service that signs it, with the headers that the service stages.
 ghost use Rattle.std.specs.Prelude.{◌≡◌, ◌↔◌, ◌⊎◌, IfOk, IfErr, OnOk, OnErr, IsTrue, IsSome, None, Some};
 ghost use Rattle.http_uri.specs.Uri.{uri_authority};
-ghost use Rattle.sign_request.specs.Refusal.{WantsMemory, RefusedFor, no_authority, view_modified};
+ghost use Rattle.sign_request.specs.Refusal.{IsOutOfMemory, RefusedFor, no_authority, view_modified};
 
 use crate::query::same_pairs;
 use crate::refusal::refusal;
@@ -54,7 +54,7 @@ impl SigningRequest {
     /// `RequestInvalid` where the head's URI has no authority.
     pub fn build(alloc: Global, parts: &Parts) -> Result<SigningRequest, Error>
         ensures ok { IfOk result (IsViewOf parts.now) }
-        ensures err { IfErr result (λ e. WantsMemory e
+        ensures err { IfErr result (λ e. IsOutOfMemory e
             ⊎ RefusedFor no_authority (uri_authority parts.now.uri ≡ None) e) }
     {
         let Some(authority) = parts.uri.authority() else {
@@ -91,7 +91,7 @@ impl SigningRequest {
         ensures fits { OnOk result (StillFits parts.old self) }
         ensures ok { OnOk result (parts.new ≡ record parts.old { headers = self.headers }) }
         ensures unchanged { OnErr result (parts.new ≡ parts.old) }
-        ensures err { IfErr result (λ e. WantsMemory e
+        ensures err { IfErr result (λ e. IsOutOfMemory e
             ⊎ (RefusedFor no_authority (uri_authority parts.old.uri ≡ None) e
             ⊎ RefusedFor view_modified (IsSome (uri_authority parts.old.uri)
             × ¬ (StillFits parts.old self)) e)) }

@@ -451,3 +451,79 @@ fn limits_are_kept(rt: HostRuntime) -> Result<(), Fail> {
     );
     Ok(())
 }
+
+// What a view of a plain head shows, or why it has none.
+fn viewed(alloc: Global, uri: &str, headers: Headers<'_>) -> Result<String, Fail> {
+    let head = plain_head(alloc, "GET", uri, headers)?;
+    match HeadView::build(alloc, &head) {
+        Ok(view) => {
+            let shown = shown(alloc, &view)?;
+            let query = view.into_query_text(alloc)?;
+            Ok(format!(in alloc; "{shown} {query}")?)
+        }
+        Err(why) => Ok(format!(in alloc; "{why:?}")?),
+    }
+}
+
+fn shown(alloc: Global, view: &HeadView) -> Result<String, Fail> {
+    let method = view.method();
+    let scheme = view.scheme();
+    let authority = view.authority();
+    let path = view.path();
+    let size = view.query_size();
+    let pairs = view.pairs();
+    let names = view.names()?;
+    Ok(format!(in alloc; "{method} {scheme} {authority} {path} {size} {pairs:?} {names:?}")?)
+}
+
+const LINES: &str =
+    r##"GET https example.com /object%2Fname 102 [("slash", "/"), ("hash", "#"), ("amp", "&"), ("equals", "="), ("space", " "), ("encoded-plus", "+"), ("literal-plus", "+"), ("double", "%2F"), ("dup", "first"), ("dup", "second"), ("", "empty-key"), ("empty", ""), ("flag", ""), ("flag", "")] ["x-original"] "##;
+
+#[test]
+fn a_plain_head_is_viewed(rt: HostRuntime) -> Result<(), Fail> {
+    let alloc = rt.alloc();
+    let text = viewed(alloc, TARGET, &[("x-original", b" value ")])?;
+    let wanted = format!(in alloc; "{LINES}{QUERY}")?;
+    assert_eq!(rt; text.as_str(), wanted.as_str());
+    let cases = [
+        ("e.x", "GET http e.x / 0 [] [] "),
+        ("HTTPS://e.x/", "GET https e.x / 0 [] [] "),
+        ("ftp://u@E.x:1#f", "GET ftp u@E.x:1 / 0 [] [] "),
+        (
+            "http://[::1]?b=%3d&a#?c",
+            r#"GET http [::1] / 3 [("b", "="), ("a", "")] [] a&b=="#,
+        ),
+        ("://h/p", "GET  h /p 0 [] [] "),
+        ("/relative", "Authority"),
+        ("*", "Authority"),
+        ("e.x/a", "Head"),
+        ("?x", "Head"),
+        ("://", "Head"),
+        ("", "Head"),
+    ];
+    for (uri, wanted) in cases {
+        assert_eq!(rt; viewed(alloc, uri, &[])?.as_str(), wanted, "{uri}");
+    }
+    Ok(())
+}
+
+#[test]
+fn a_plain_head_is_refused_by_its_headers(rt: HostRuntime) -> Result<(), Fail> {
+    let alloc = rt.alloc();
+    let cases: [(&str, &[u8], &str); 4] = [
+        ("X-A", b"\xff", r#"GET http e.x / 0 [] ["x-a"] "#),
+        ("x a", b"v", "Head"),
+        ("", b"v", "Head"),
+        ("x", b"\n", "Head"),
+    ];
+    for (name, value, wanted) in cases {
+        assert_eq!(rt;
+            viewed(alloc, "e.x", &[(name, value)])?.as_str(),
+            wanted,
+            "{name}"
+        );
+    }
+    // A header is refused before the target that has no authority.
+    assert_eq!(rt; viewed(alloc, "/", &[("x a", b"v")])?.as_str(), "Head");
+    Ok(())
+}

@@ -2,24 +2,23 @@
 ghost use Rattle.std.specs.Prelude.{◌≡◌, IfOk, IfErr, map, string_bytes};
 ghost use Rattle.sign_request.specs.Query.{text_pairs};
 ghost use Rattle.sign_request.specs.CanonicalText.{canonical_text, header_text, parameter_text, decoded_parameter_text, sorted_pairs};
-ghost use Rattle.sign_request.specs.PairForm.{written};
+ghost use Rattle.sign_request.specs.PairForm.{pair_text};
 
 use crate::SigningRequest;
 use crate::pair_form::{PairForm, write_pairs};
 use sign_base::NoMemory;
 use std::alloc::Global;
 
+/// Names and values, in any order.
+type Pairs = Vec<(String, String)>;
+
+/// The canonical text of some pairs. Without memory the pairs come back, sorted.
+type Canonical = Result<String, NoMemory<Pairs>>;
+
 impl SigningRequest {
     /// The query as one text: sorted by key, then value, each as key, `sep` and value, joined by
     /// `join`. Before an empty value `sep` is left out.
-    ///
-    /// Without memory the pairs come back, sorted.
-    pub fn query_to_string(
-        alloc: Global,
-        query: Vec<(String, String)>,
-        sep: &str,
-        join: &str,
-    ) -> Result<String, NoMemory<Vec<(String, String)>>>
+    pub fn query_to_string(alloc: Global, query: Pairs, sep: &str, join: &str) -> Canonical
         ensures ok { IfOk result (λ text. string_bytes text
             ≡ canonical_text (parameter_text sep.now) join.now (text_pairs query.items)) }
         ensures back { IfErr result (λ e. text_pairs e.back.items
@@ -30,14 +29,12 @@ impl SigningRequest {
 
     /// The same, each value decoded once more after the sort. The pairs of a view are decoded
     /// already, so this is right only for a protocol that asks for it. Keys are not decoded.
-    ///
-    /// Without memory the pairs come back, sorted.
     pub fn query_to_percent_decoded_string(
         alloc: Global,
-        query: Vec<(String, String)>,
+        query: Pairs,
         sep: &str,
         join: &str,
-    ) -> Result<String, NoMemory<Vec<(String, String)>>>
+    ) -> Canonical
         ensures ok { IfOk result (λ text. string_bytes text
             ≡ canonical_text (decoded_parameter_text sep.now) join.now (text_pairs query.items)) }
         ensures back { IfErr result (λ e. text_pairs e.back.items
@@ -48,14 +45,7 @@ impl SigningRequest {
 
     /// Headers as one text: sorted by name, then value, each as name, `sep` and value, joined by
     /// `join`.
-    ///
-    /// Without memory the pairs come back, sorted.
-    pub fn header_to_string(
-        alloc: Global,
-        headers: Vec<(String, String)>,
-        sep: &str,
-        join: &str,
-    ) -> Result<String, NoMemory<Vec<(String, String)>>>
+    pub fn header_to_string(alloc: Global, headers: Pairs, sep: &str, join: &str) -> Canonical
         ensures ok { IfOk result (λ text. string_bytes text
             ≡ canonical_text (header_text sep.now) join.now (text_pairs headers.items)) }
         ensures back { IfErr result (λ e. text_pairs e.back.items
@@ -67,15 +57,9 @@ impl SigningRequest {
 
 // Sorts in place, which takes no memory, and writes.
 #[tactic(auto, unfolding(crate::specs::CanonicalText::canonical_text))]
-fn canonical(
-    alloc: Global,
-    pairs: Vec<(String, String)>,
-    form: PairForm,
-    sep: &str,
-    join: &str,
-) -> Result<String, NoMemory<Vec<(String, String)>>>
+fn canonical(alloc: Global, pairs: Pairs, form: PairForm, sep: &str, join: &str) -> Canonical
     ensures ok { IfOk result (λ text. string_bytes text
-        ≡ canonical_text (written form sep.now) join.now (text_pairs pairs.items)) }
+        ≡ canonical_text (pair_text form sep.now) join.now (text_pairs pairs.items)) }
     ensures back { IfErr result (λ e. text_pairs e.back.items
         ≡ sorted_pairs (text_pairs pairs.items)) }
 {
@@ -87,7 +71,7 @@ fn canonical(
 }
 
 // The pairs in order.
-fn sort_pairs(mut pairs: Vec<(String, String)>) -> Vec<(String, String)>
+fn sort_pairs(mut pairs: Pairs) -> Pairs
     ensures { text_pairs result.items ≡ sorted_pairs (text_pairs pairs.items) }
 {
     pairs.sort_unstable();

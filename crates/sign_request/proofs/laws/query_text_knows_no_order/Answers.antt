@@ -5,5 +5,5 @@ use Rattle.sign_request.proofs.laws.query_text_knows_no_order.Goals as goal
 pub returns-clause-plain : goal.returns-clause-plain
 returns-clause-plain c = λ sep join. canonical_text-IsPermutation (parameter_text sep) join
 
-pub returns-clause-decoded : goal.returns-clause-decoded
-returns-clause-decoded c = λ sep join. canonical_text-IsPermutation (decoded_parameter_text sep) join
+pub returns-clause-decoded_text : goal.returns-clause-decoded_text
+returns-clause-decoded_text c = λ sep join. canonical_text-IsPermutation (decoded_parameter_text sep) join

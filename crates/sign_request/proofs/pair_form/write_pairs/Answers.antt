@@ -1,9 +1,9 @@
 use Rattle.std.proofs.Common.{◌≡◌, List, ◌++◌, ◌∷◌, [], ◌+◌, ◌∙◌, sym, ap, refl, map, take, length, string_bytes, arith}
 use Rattle.std.proofs.lemmas.List.{take_more, map-append, length-map, length-take-le}
 use Rattle.sign_request.specs.Query.{text_pair, text_pairs}
-use Rattle.sign_request.specs.CanonicalText.{joined}
-use Rattle.sign_request.specs.PairForm.{written}
-use Rattle.sign_request.proofs.Joined.{joined-more}
+use Rattle.sign_request.specs.CanonicalText.{joined_texts}
+use Rattle.sign_request.specs.PairForm.{pair_text}
+use Rattle.sign_request.proofs.Joined.{joined_texts-more}
 use Rattle.sign_request.proofs.pair_form.write_pairs.Goals as goal
 use Rattle.sign_request.proofs.pair_form.write_pairs.Goals.{then-i-ne0+in_ok-push_str, else-i-ne0}
 
@@ -13,7 +13,7 @@ empty_from_length (x ∷ xs) h = absurd (omega (arith, h))
 
 pub loop-i-preserved : goal.loop-i-preserved
 loop-i-preserved c =
-    let write = written c.args.form c.args.sep.now in
+    let write = pair_text c.args.form c.args.sep.now in
     let before = map write (text_pairs (take c.loop-i.i c.args.pairs.now)) in
     let last = write (text_pair c.index-pairs-i.result) in
     let more : map write (text_pairs (take (c.loop-i.i + 1) c.args.pairs.now)) ≡ before ++ last ∷ [] =
@@ -25,9 +25,9 @@ loop-i-preserved c =
     elim c.if-i-ne0.branch [
       | then-i-ne0+in_ok-push_str w ↦
           start ∙ (ap (λ bs. bs ++ last) (ap string_bytes w.text-is ∙ ((w.in_ok-push_str.ensures {u = tt}).bytes ∙ ap (λ bs. bs ++ c.args.join.now) c.loop-i.invariant))
-          ∙ (sym (joined-more c.args.join.now before last (omega arith)) ∙ ap (joined c.args.join.now) (sym more)))
+          ∙ (sym (joined_texts-more c.args.join.now before last (omega arith)) ∙ ap (joined_texts c.args.join.now) (sym more)))
       | else-i-ne0 w ↦
           let none : before ≡ [] = empty_from_length before (as_many ∙ w.if-i-ne0.false) in
-          start ∙ (ap (λ bs. bs ++ last) (ap string_bytes w.text-is ∙ (c.loop-i.invariant ∙ ap (joined c.args.join.now) none))
-          ∙ ap (joined c.args.join.now) (ap (λ ws. ws ++ last ∷ []) (sym none) ∙ sym more))
+          start ∙ (ap (λ bs. bs ++ last) (ap string_bytes w.text-is ∙ (c.loop-i.invariant ∙ ap (joined_texts c.args.join.now) none))
+          ∙ ap (joined_texts c.args.join.now) (ap (λ ws. ws ++ last ∷ []) (sym none) ∙ sym more))
     ]
