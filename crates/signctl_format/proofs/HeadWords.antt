@@ -3,52 +3,56 @@ use Rattle.std.proofs.Common.{◌≡◌, ℕ, ◌+◌, ◌<◌, Bool, true, List
 use Rattle.std.specs.Prelude.{option_map}
 use Rattle.std.specs.List.{list_all, position}
 use Rattle.std.proofs.lemmas.Bool.{lt-ltb}
-use Rattle.signctl_format.specs.Words.{is_visible, is_target}
+use Rattle.signctl_format.specs.Bytes.{is_visible}
+use Rattle.signctl_format.specs.Words.{is_target}
+use Rattle.signctl_format.specs.Steps.{◌>>=◌}
+use Rattle.signctl_format.specs.Escapes.{is_plain, with_first_byte, value_of}
 use Rattle.sign_base.specs.declared.head.Field.{Field}
-use Rattle.signctl_format.specs.declared.unread.Unread.{Unread}
-use Rattle.signctl_format.specs.declared.unread.Unread.TheVariants.{NotUnderstood, OutOfMemory}
-use Rattle.signctl_format.specs.Reading.{fields_of, ◌>>=◌}
+use Rattle.signctl_format.specs.declared.read_error.ReadError.{ReadError}
+use Rattle.signctl_format.specs.declared.read_error.ReadError.TheVariants.{NotUnderstood, OutOfMemory}
+use Rattle.signctl_format.specs.Reading.{fields_in}
 use Rattle.signctl_format.specs.Readers.{Fails}
-use Rattle.signctl_format.specs.Heads.{field_of, named, is_colon, is_plain, led_by, value_of}
+use Rattle.signctl_format.specs.Heads.{field_of, field_named, is_colon}
 
 -- what was read so far, in front of what the rest says
 abbrev pub with_front : {A : Type 0} → List A → Option (List A) → Option (List A)
 with_front front says = option_map (λ rest. front ++ rest) says
 
-pub front_led_by : (front : List ℕ) (b : ℕ) (says : Option (List ℕ)) → with_front front (led_by b says) ≡ with_front (front ++ b ∷ []) says
-front_led_by front b None = refl
-front_led_by front b (Some rest) = ap Some (sym (append_assoc front (b ∷ []) rest))
+-- a byte in front of the rest goes to the end of what was read
+pub front_with_first_byte : (front : List ℕ) (b : ℕ) (says : Option (List ℕ)) → with_front front (with_first_byte b says) ≡ with_front (front ++ b ∷ []) says
+front_with_first_byte front b None = refl
+front_with_first_byte front b (Some rest) = ap Some (sym (append_assoc front (b ∷ []) rest))
 
 regrouped : (front : List Field) (field : Field) (says : Option (List Field)) → with_front front (says >>= λ fields. Some (field ∷ fields)) ≡ with_front (front ++ field ∷ []) says
 regrouped front field None = refl
 regrouped front field (Some rest) = ap Some (sym (append_assoc front (field ∷ []) rest))
 
 -- a plain byte stands for itself, whatever follows
-pub value_of-plain : (b : ℕ) (after : List ℕ) → is_plain b ≡ true → value_of (b ∷ after) ≡ led_by b (value_of after)
+pub value_of-plain : (b : ℕ) (after : List ℕ) → is_plain b ≡ true → value_of (b ∷ after) ≡ with_first_byte b (value_of after)
 value_of-plain b [] plain = rw plain refl
 value_of-plain b (c ∷ []) plain = rw plain refl
 value_of-plain b (c ∷ d ∷ after) plain = rw plain refl
 
 -- one more header was read
-pub fields_more : (front : List Field) (word : List ℕ) (field : Field) (rest ws : List (List ℕ)) (total : Option (List Field)) → ws ≡ word ∷ rest → field_of word ≡ Some field → with_front front (fields_of ws) ≡ total → with_front (front ++ field ∷ []) (fields_of rest) ≡ total
-unfolding fields_of
+pub fields_more : (front : List Field) (word : List ℕ) (field : Field) (rest ws : List (List ℕ)) (total : Option (List Field)) → ws ≡ word ∷ rest → field_of word ≡ Some field → with_front front (fields_in ws) ≡ total → with_front (front ++ field ∷ []) (fields_in rest) ≡ total
+unfolding fields_in
 fields_more front word field rest ws total parted read so_far =
-    let one : with_front front (fields_of ws) ≡ with_front (front ++ field ∷ []) (fields_of rest) = rw (parted, read) (regrouped front field (fields_of rest)) in
+    let one : with_front front (fields_in ws) ≡ with_front (front ++ field ∷ []) (fields_in rest) = rw (parted, read) (regrouped front field (fields_in rest)) in
     sym one ∙ so_far
 
 -- a word that is no header ends the reading
-pub fields_stop : (e : Unread) (front : List Field) (word : List ℕ) (rest ws : List (List ℕ)) (total : Option (List Field)) → ws ≡ word ∷ rest → Fails e (field_of word) → with_front front (fields_of ws) ≡ total → Fails e total
-unfolding fields_of
+pub fields_stop : (e : ReadError) (front : List Field) (word : List ℕ) (rest ws : List (List ℕ)) (total : Option (List Field)) → ws ≡ word ∷ rest → Fails e (field_of word) → with_front front (fields_in ws) ≡ total → Fails e total
+unfolding fields_in
 fields_stop OutOfMemory front word rest ws total parted read so_far = tt
 fields_stop NotUnderstood front word rest ws total parted read so_far =
-    let none : with_front front (fields_of ws) ≡ None = rw (parted, read) refl in
+    let none : with_front front (fields_in ws) ≡ None = rw (parted, read) refl in
     sym so_far ∙ none
 
 -- no word is left
-pub fields_done : (front : List Field) (ws : List (List ℕ)) (total : Option (List Field)) → ws ≡ [] → with_front front (fields_of ws) ≡ total → total ≡ Some front
-unfolding fields_of
+pub fields_done : (front : List Field) (ws : List (List ℕ)) (total : Option (List Field)) → ws ≡ [] → with_front front (fields_in ws) ≡ total → total ≡ Some front
+unfolding fields_in
 fields_done front ws total parted so_far =
-    let all : with_front front (fields_of ws) ≡ Some front = rw parted (ap Some (append-nil front)) in
+    let all : with_front front (fields_in ws) ≡ Some front = rw parted (ap Some (append-nil front)) in
     sym so_far ∙ all
 
 -- one or more bytes are a target where they are visible
@@ -56,11 +60,11 @@ pub target_if : (word : List ℕ) (visible : Bool) → 0 < length word → visib
 target_if word visible some e = rw (lt-ltb 0 (length word) some) e
 
 -- one more byte of a value was read
-pub value_more : (front : List ℕ) (b : ℕ) (after rest : List ℕ) (total : Option (List ℕ)) → value_of rest ≡ led_by b (value_of after) → with_front front (value_of rest) ≡ total → with_front (front ++ b ∷ []) (value_of after) ≡ total
-value_more front b after rest total read so_far = sym (ap (with_front front) read ∙ front_led_by front b (value_of after)) ∙ so_far
+pub value_more : (front : List ℕ) (b : ℕ) (after rest : List ℕ) (total : Option (List ℕ)) → value_of rest ≡ with_first_byte b (value_of after) → with_front front (value_of rest) ≡ total → with_front (front ++ b ∷ []) (value_of after) ≡ total
+value_more front b after rest total read so_far = sym (ap (with_front front) read ∙ front_with_first_byte front b (value_of after)) ∙ so_far
 
 -- a word with a name before its first colon is a header where its rest is a value
-pub field_found : (word : List ℕ) (colon : ℕ) (name value : List ℕ) → position is_colon word ≡ Some colon → name ≡ take colon word → value ≡ drop (colon + 1) word → is_target name ≡ true → field_of word ≡ named name (value_of value)
+pub field_found : (word : List ℕ) (colon : ℕ) (name value : List ℕ) → position is_colon word ≡ Some colon → name ≡ take colon word → value ≡ drop (colon + 1) word → is_target name ≡ true → field_of word ≡ field_named name (value_of value)
 field_found word colon name value place front back target =
     let named_well : is_target (take colon word) ≡ true = ap is_target (sym front) ∙ target in
     rw (place, front, back, named_well) refl

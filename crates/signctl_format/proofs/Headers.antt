@@ -1,116 +1,84 @@
 -- A header's word and the header spell each other, and so do a head and its words.
-use Rattle.std.proofs.Common.{◌≡◌, ℕ, suc, ◌+◌, ◌<◌, true, false, cond, not, ltb, List, [], ◌∷◌, ◌++◌, length, get_or, take, drop, map, Option, Some, None, refl, sym, ap, subst, ◌∙◌, append_assoc, inl, inr, arith, length-append}
-use Rattle.std.specs.List.{list_all, list_any, position, position_or_len}
+use Rattle.std.proofs.Common.{◌≡◌, ℕ, ◌+◌, true, cond, not, List, [], ◌∷◌, ◌++◌, length, take, drop, map, Option, Some, None, refl, sym, ap, subst, ◌∙◌, inl, inr}
+use Rattle.std.specs.List.{list_all, list_any, position}
 use Rattle.std.specs.Str.{bytes_eq}
-use Rattle.std.proofs.lemmas.Bool.{ltb-true, lt-ltb, eqb-true, and_parts, and_from, or_parts, not-true}
-use Rattle.std.proofs.lemmas.List.{take_at, drop_at, length-take, get_or-take}
-use Rattle.std.proofs.lemmas.List.Folds.{list_any_none}
-use Rattle.std.proofs.lemmas.List.Sums.{split_at_first, passes_at_first, fails_before_first}
+use Rattle.std.proofs.lemmas.Bool.{and_parts, and_from, not-true}
 use Rattle.sign_base.specs.declared.head.Field.{Field}
 use Rattle.sign_base.specs.declared.head.Head.{Head}
 use Rattle.sign_base.specs.declared.head.Version.{Version}
 use Rattle.sign_base.specs.declared.head.Version.TheVariants.{V09, V10, V11, V2, V3}
+use Rattle.signctl_format.specs.Bytes.{colon, is_byte}
 use Rattle.signctl_format.specs.Words.{is_target}
-use Rattle.signctl_format.specs.Heads.{value_word, value_of, is_colon, is_name, field_word, is_field, named, field_at, field_of, version_word, version_of, head_words, IsHead}
-use Rattle.signctl_format.specs.Reading.{◌>>=◌, first_word, target_of, fields_of, head_of}
+use Rattle.signctl_format.specs.Steps.{◌>>=◌, first_word}
+use Rattle.signctl_format.specs.Escapes.{value_word, value_of}
+use Rattle.signctl_format.specs.Heads.{is_colon, is_name, field_word, is_field, field_named, field_at, field_of, version_word, version_of, head_words, IsLineHead}
+use Rattle.signctl_format.specs.Reading.{visible_target, fields_in, head_in}
 use Rattle.signctl_format.proofs.ReadingSteps.{same_word, some_is, chosen, passed_test, bind_some, first_word_some}
-use Rattle.signctl_format.proofs.Values.{is_byte, value_of-word, value_of-some}
+use Rattle.signctl_format.proofs.Marks.{position-mark, take-mark, drop-mark, parts_at}
+use Rattle.signctl_format.proofs.Values.{value_of-word, value_of-some}
 
--- ---- the colon
-
-colon_after : (name rest : List ℕ) → list_any is_colon name ≡ false → position_or_len is_colon (name ++ 58 ∷ rest) ≡ length name
-colon_after [] rest none = refl
-colon_after (b ∷ name) rest none =
-    let parts = or_parts (is_colon b) (list_any is_colon name) none in
-    let more : 1 + length name ≡ suc (length name) = omega arith in
-    rw (parts.0, colon_after name rest parts.1, more) refl
-
-pub position-colon : (name rest : List ℕ) → list_any is_colon name ≡ false → position is_colon (name ++ 58 ∷ rest) ≡ Some (length name)
-position-colon name rest none =
-    let within : length name < length (name ++ 58 ∷ rest) = omega (arith, length-append name (58 ∷ rest)) in
-    rw (colon_after name rest none, lt-ltb (length name) (length (name ++ 58 ∷ rest)) within) refl
-
-pub record PartsAt (word : List ℕ) (colon : ℕ) : Type 0 where
-  pub whole : word ≡ take colon word ++ 58 ∷ drop (colon + 1) word
-  pub first : list_any is_colon (take colon word) ≡ false
-
-none_before : (word : List ℕ) (k d : ℕ) → k < length (take (position_or_len is_colon word) word) → is_colon (get_or (take (position_or_len is_colon word) word) k d) ≡ false
-none_before word k d lt =
-    let before : k < position_or_len is_colon word = omega (arith, length-take (position_or_len is_colon word) word) in
-    rw (get_or-take (position_or_len is_colon word) word k d before) (fails_before_first is_colon word k d before)
-
-parts_at_first : (word : List ℕ) → position_or_len is_colon word < length word → PartsAt word (position_or_len is_colon word)
-parts_at_first word within =
-    let place = position_or_len is_colon word in
-    let colon : get_or word (position_or_len is_colon word) 0 ≡ 58 = eqb-true _ 58 (passes_at_first is_colon word 0 within) in
-    record {
-      whole = split_at_first is_colon word 0 within ∙ ap (λ (b : ℕ). take (position_or_len is_colon word) word ++ b ∷ drop (position_or_len is_colon word + 1) word) colon;
-      first = list_any_none is_colon (take (position_or_len is_colon word) word) (none_before word);
-    }
-
--- a word parts at its first colon
-pub parts_at : (word : List ℕ) (colon : ℕ) → position is_colon word ≡ Some colon → PartsAt word colon
-parts_at word colon e =
-    let found = passed_test (ltb (position_or_len is_colon word) (length word)) (Some (position_or_len is_colon word)) colon e in
-    subst (λ (n : ℕ). PartsAt word n) (some_is (position_or_len is_colon word) colon found.1) (parts_at_first word (ltb-true (position_or_len is_colon word) (length word) found.0))
-
-named_some : (name : List ℕ) (value : Option (List ℕ)) (f : Field) → named name value ≡ Some f → (v : List ℕ) × (value ≡ Some v) × (record { name = name; value = v } ≡ f)
+named_some : (name : List ℕ) (value : Option (List ℕ)) (f : Field) → field_named name value ≡ Some f → (v : List ℕ) × (value ≡ Some v) × (record { name = name; value = v } ≡ f)
 named_some name (Some v) f e = (v, refl, some_is (record { name = name; value = v }) f e)
 named_some name None f e = absurd cc
 
 -- ---- headers
 
+-- the word of a header reads as it
 pub field_of-word : (f : Field) → is_field f ≡ true → field_of (field_word f) ≡ Some f
 field_of-word f fits =
     let parts = and_parts (is_name f.name) (list_all is_byte f.value) fits in
     let name = and_parts (is_target f.name) (not (list_any is_colon f.name)) parts.0 in
-    let place = position-colon f.name (value_word f.value) (not-true (list_any is_colon f.name) name.1) in
-    let front : take (length f.name) (field_word f) ≡ f.name = take_at f.name (58 ∷ value_word f.value) (length f.name) refl in
-    let whole : field_word f ≡ (f.name ++ 58 ∷ []) ++ value_word f.value = sym (append_assoc f.name (58 ∷ []) (value_word f.value)) in
-    let back : drop (length f.name + 1) (field_word f) ≡ value_word f.value = ap (drop (length f.name + 1)) whole ∙ drop_at (f.name ++ 58 ∷ []) (value_word f.value) (length f.name + 1) (length-append f.name (58 ∷ [])) in
+    let place = position-mark colon f.name (value_word f.value) (not-true (list_any is_colon f.name) name.1) in
+    let front = take-mark colon f.name (value_word f.value) in
+    let back = drop-mark colon f.name (value_word f.value) in
     let read : field_of (field_word f) ≡ field_at (field_word f) (Some (length f.name)) = ap (field_at (field_word f)) place in
     read ∙ rw (front, back, name.0, value_of-word f.value parts.1) refl
 
+-- the word is this header's
 abbrev pub SpellsField : List ℕ → Field → Type 0
 SpellsField word f = (word ≡ field_word f) × (is_field f ≡ true)
 
 field_parted : (word : List ℕ) (place : Option ℕ) (f : Field) → position is_colon word ≡ place → field_at word place ≡ Some f → SpellsField word f
 field_parted word None f e read = absurd cc
-field_parted word (Some colon) f e read =
-    let parts = parts_at word colon e in
-    let name = take colon word in
-    let target = passed_test (is_target (take colon word)) (named (take colon word) (value_of (drop (colon + 1) word))) f read in
-    let v = named_some (take colon word) (value_of (drop (colon + 1) word)) f target.1 in
-    let spelled = value_of-some (drop (colon + 1) word) v.0 v.1 in
-    let whole : word ≡ take colon word ++ 58 ∷ value_word v.0 = parts.whole ∙ ap (λ (w : List ℕ). take colon word ++ 58 ∷ w) spelled.0 in
-    let is_named : is_name (take colon word) ≡ true = rw (target.0, parts.first) refl in
-    subst (λ (x : Field). SpellsField word x) v.2 (whole, and_from (is_name (take colon word)) (list_all is_byte v.0) is_named spelled.1)
+field_parted word (Some place) f e read =
+    let parts = parts_at colon word place e in
+    let target = passed_test (is_target (take place word)) (field_named (take place word) (value_of (drop (place + 1) word))) f read in
+    let v = named_some (take place word) (value_of (drop (place + 1) word)) f target.1 in
+    let spelled = value_of-some (drop (place + 1) word) v.0 v.1 in
+    let whole : word ≡ take place word ++ colon ∷ value_word v.0 = parts.whole ∙ ap (λ (w : List ℕ). take place word ++ colon ∷ w) spelled.0 in
+    let is_named : is_name (take place word) ≡ true = rw (target.0, parts.first) refl in
+    subst (λ (x : Field). SpellsField word x) v.2 (whole, and_from (is_name (take place word)) (list_all is_byte v.0) is_named spelled.1)
 
+-- a word that reads as a header is its word
 pub field_of-some : (word : List ℕ) (f : Field) → field_of word ≡ Some f → SpellsField word f
 field_of-some word f e = field_parted word (position is_colon word) f refl e
 
-pub fields_of-words : (fs : List Field) → list_all is_field fs ≡ true → fields_of (map field_word fs) ≡ Some fs
-unfolding fields_of
-fields_of-words [] fit = refl
-fields_of-words (f ∷ fs) fit =
+-- the words of headers read as them
+pub fields_in-words : (fs : List Field) → list_all is_field fs ≡ true → fields_in (map field_word fs) ≡ Some fs
+unfolding fields_in
+fields_in-words [] fit = refl
+fields_in-words (f ∷ fs) fit =
     let parts = and_parts (is_field f) (list_all is_field fs) fit in
-    rw (field_of-word f parts.0, fields_of-words fs parts.1) refl
+    rw (field_of-word f parts.0, fields_in-words fs parts.1) refl
 
+-- the words are these headers'
 abbrev pub SpellFields : List (List ℕ) → List Field → Type 0
 SpellFields ws fs = (ws ≡ map field_word fs) × (list_all is_field fs ≡ true)
 
-pub fields_of-some : (ws : List (List ℕ)) (fs : List Field) → fields_of ws ≡ Some fs → SpellFields ws fs
-unfolding fields_of
-fields_of-some [] fs e = subst (λ (x : List Field). SpellFields [] x) (some_is [] fs e) (refl, refl)
-fields_of-some (word ∷ ws) fs e =
-    let f = bind_some (field_of word) (λ (f : Field). fields_of ws >>= λ (others : List Field). Some (f ∷ others)) fs e in
-    let others = bind_some (fields_of ws) (λ (others : List Field). Some (f.0 ∷ others)) fs f.2 in
+-- words that read as headers are their words
+pub fields_in-some : (ws : List (List ℕ)) (fs : List Field) → fields_in ws ≡ Some fs → SpellFields ws fs
+unfolding fields_in
+fields_in-some [] fs e = subst (λ (x : List Field). SpellFields [] x) (some_is [] fs e) (refl, refl)
+fields_in-some (word ∷ ws) fs e =
+    let f = bind_some (field_of word) (λ (f : Field). fields_in ws >>= λ (others : List Field). Some (f ∷ others)) fs e in
+    let others = bind_some (fields_in ws) (λ (others : List Field). Some (f.0 ∷ others)) fs f.2 in
     let first = field_of-some word f.0 f.1 in
-    let second = fields_of-some ws others.0 others.1 in
+    let second = fields_in-some ws others.0 others.1 in
     subst (λ (x : List Field). SpellFields (word ∷ ws) x) (some_is (f.0 ∷ others.0) fs others.2) (cc (first.0, second.0), and_from (is_field f.0) (list_all is_field others.0) first.1 second.1)
 
 -- ---- versions
 
+-- the word of a version reads as it
 pub version_of-word : (v : Version) → version_of (version_word v) ≡ Some v
 version_of-word V09 = refl
 version_of-word V10 = refl
@@ -124,20 +92,23 @@ version_named word v w later e rest = elim (chosen (bytes_eq word (version_word 
   | inr there ↦ rest there.1
 ]
 
+-- a word that reads as a version is its word
 pub version_of-some : (word : List ℕ) (v : Version) → version_of word ≡ Some v → word ≡ version_word v
 version_of-some word v e = version_named word V09 v _ e (λ e10. version_named word V10 v _ e10 (λ e11. version_named word V11 v _ e11 (λ e2. version_named word V2 v _ e2 (λ e3. version_named word V3 v _ e3 (λ none. absurd cc)))))
 
 -- ---- heads
 
-pub head_of-words : (head : Head) → IsHead head → head_of (head_words head) ≡ Some head
-unfolding head_of
-head_of-words head fits = rw (fits.method, fits.uri, version_of-word head.version, fields_of-words head.headers fits.headers) refl
+-- the words of a head read as it
+pub head_in-words : (head : Head) → IsLineHead head → head_in (head_words head) ≡ Some head
+unfolding head_in
+head_in-words head fits = rw (fits.method, fits.uri, version_of-word head.version, fields_in-words head.headers fits.headers) refl
 
+-- the words are this head's
 abbrev pub SpellHead : List (List ℕ) → Head → Type 0
-SpellHead ws head = (ws ≡ head_words head) × IsHead head
+SpellHead ws head = (ws ≡ head_words head) × IsLineHead head
 
-target_of-some : (word o : List ℕ) → target_of word ≡ Some o → (word ≡ o) × (is_target o ≡ true)
-target_of-some word o e =
+visible_target-some : (word o : List ℕ) → visible_target word ≡ Some o → (word ≡ o) × (is_target o ≡ true)
+visible_target-some word o e =
     let p = passed_test (is_target word) (Some word) o e in
     let same = some_is word o p.1 in
     (same, sym (ap is_target same) ∙ p.0)
@@ -145,23 +116,24 @@ target_of-some word o e =
 head_parted : (m u v : List ℕ) (rest ws : List (List ℕ)) (a b : List (List ℕ)) (head : Head) → ws ≡ m ∷ a → a ≡ u ∷ b → b ≡ v ∷ rest → m ≡ head.method → u ≡ head.uri → v ≡ version_word head.version → rest ≡ map field_word head.headers → ws ≡ head_words head
 head_parted m u v rest ws a b head p q r method uri version headers = cc
 
-pub head_of-some : (ws : List (List ℕ)) (head : Head) → head_of ws ≡ Some head → SpellHead ws head
-unfolding head_of
-head_of-some ws head e =
-    let method = bind_some (first_word target_of ws) (λ (m : List ℕ × List (List ℕ)). first_word target_of m.1 >>= λ (u : List ℕ × List (List ℕ)). first_word version_of u.1 >>= λ (v : Version × List (List ℕ)). fields_of v.1 >>= λ (fs : List Field). Some (record { method = m.0; uri = u.0; version = v.0; headers = fs })) head e in
+-- words that read as a head are its words
+pub head_in-some : (ws : List (List ℕ)) (head : Head) → head_in ws ≡ Some head → SpellHead ws head
+unfolding head_in
+head_in-some ws head e =
+    let method = bind_some (first_word visible_target ws) (λ (m : List ℕ × List (List ℕ)). first_word visible_target m.1 >>= λ (u : List ℕ × List (List ℕ)). first_word version_of u.1 >>= λ (v : Version × List (List ℕ)). fields_in v.1 >>= λ (fs : List Field). Some (record { method = m.0; uri = u.0; version = v.0; headers = fs })) head e in
     let m = method.0 in
-    let uri = bind_some (first_word target_of m.1) (λ (u : List ℕ × List (List ℕ)). first_word version_of u.1 >>= λ (v : Version × List (List ℕ)). fields_of v.1 >>= λ (fs : List Field). Some (record { method = m.0; uri = u.0; version = v.0; headers = fs })) head method.2 in
+    let uri = bind_some (first_word visible_target m.1) (λ (u : List ℕ × List (List ℕ)). first_word version_of u.1 >>= λ (v : Version × List (List ℕ)). fields_in v.1 >>= λ (fs : List Field). Some (record { method = m.0; uri = u.0; version = v.0; headers = fs })) head method.2 in
     let u = uri.0 in
-    let version = bind_some (first_word version_of u.1) (λ (v : Version × List (List ℕ)). fields_of v.1 >>= λ (fs : List Field). Some (record { method = m.0; uri = u.0; version = v.0; headers = fs })) head uri.2 in
+    let version = bind_some (first_word version_of u.1) (λ (v : Version × List (List ℕ)). fields_in v.1 >>= λ (fs : List Field). Some (record { method = m.0; uri = u.0; version = v.0; headers = fs })) head uri.2 in
     let v = version.0 in
-    let headers = bind_some (fields_of v.1) (λ (fs : List Field). Some (record { method = m.0; uri = u.0; version = v.0; headers = fs })) head version.2 in
+    let headers = bind_some (fields_in v.1) (λ (fs : List Field). Some (record { method = m.0; uri = u.0; version = v.0; headers = fs })) head version.2 in
     let made : Head = record { method = m.0; uri = u.0; version = v.0; headers = headers.0 } in
-    let first = first_word_some target_of ws m method.1 in
-    let second = first_word_some target_of m.1 u uri.1 in
+    let first = first_word_some visible_target ws m method.1 in
+    let second = first_word_some visible_target m.1 u uri.1 in
     let third = first_word_some version_of u.1 v version.1 in
-    let first_is = target_of-some first.0 m.0 first.2 in
-    let second_is = target_of-some second.0 u.0 second.2 in
-    let fields = fields_of-some v.1 headers.0 headers.1 in
+    let first_is = visible_target-some first.0 m.0 first.2 in
+    let second_is = visible_target-some second.0 u.0 second.2 in
+    let fields = fields_in-some v.1 headers.0 headers.1 in
     subst (λ (x : Head). SpellHead ws x) {x = made} (some_is made head headers.2) (
       head_parted first.0 second.0 third.0 v.1 ws m.1 u.1 made first.1 second.1 third.1 first_is.0 second_is.0 (version_of-some third.0 v.0 third.2) fields.0,
       record { method = first_is.1; uri = second_is.1; headers = fields.1 },

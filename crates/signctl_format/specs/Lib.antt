@@ -1,7 +1,11 @@
 pub mod Policy
+pub mod Bytes
 pub mod Words
+pub mod Steps
 pub mod Moments
+pub mod Escapes
 pub mod Heads
+pub mod ScriptEvents
 pub mod Lines
 pub mod Grammar
 pub mod Reading

@@ -7,10 +7,11 @@ use Rattle.sequential_signer.specs.declared.event.Reply.TheVariants.{Begun, Pend
 use Rattle.sequential_signer.specs.declared.event.Why.{Why}
 use Rattle.sequential_signer.specs.declared.event.Why.TheVariants.{Missing, Short, Range, Loader, Service}
 use Rattle.signctl_format.specs.declared.credential.ScriptCredential.{ScriptCredential}
-use Rattle.signctl_format.specs.declared.print.Cause.{Cause}
-use Rattle.signctl_format.specs.declared.print.Cause.TheVariants.{NotUnderstood, NotBuilt}
+use Rattle.signctl_format.specs.declared.line_error.LineError.{LineError}
+use Rattle.signctl_format.specs.declared.line_error.LineError.TheVariants.{NotUnderstood, Late, NoSuchCache}
+use Rattle.signctl_format.specs.declared.script_version.ScriptVersion.{ScriptVersion}
 use Rattle.signctl_format.specs.Words.{line_of}
-use Rattle.signctl_format.specs.Moments.{second_word}
+use Rattle.signctl_format.specs.Moments.{moment_word}
 use Rattle.signctl_format.specs.Heads.{head_words}
 
 -- a call by its handle and its number
@@ -18,8 +19,9 @@ abbrev pub call_words : CallId → List (List ℕ)
 call_words call = decimal call.handle ∷ decimal call.number ∷ []
 
 -- a credential by its number and its moments
-abbrev pub credential_words : ScriptCredential → List (List ℕ)
-credential_words c = decimal c.generation ∷ second_word c.fresh ∷ second_word c.expires ∷ second_word c.required ∷ []
+abbrev pub credential_words : ScriptVersion → ScriptCredential → List (List ℕ)
+credential_words version c =
+    decimal c.generation ∷ moment_word version c.fresh ∷ moment_word version c.expires ∷ moment_word version c.required ∷ []
 
 -- the call that has its turn now
 abbrev pub wake_words : Option CallId → List (List ℕ)
@@ -59,26 +61,19 @@ abbrev pub handle_line : ℕ → List ℕ
 handle_line number = line_of (codes "handle" ∷ decimal number ∷ [])
 
 -- what a cache holds
-abbrev pub cached_words : Option ScriptCredential → List (List ℕ)
-cached_words None = codes "empty" ∷ []
-cached_words (Some credential) = credential_words credential
+abbrev pub cached_words : ScriptVersion → Option ScriptCredential → List (List ℕ)
+cached_words version None = codes "empty" ∷ []
+cached_words version (Some credential) = credential_words version credential
 
 -- what a cache holds when the script has ended
-abbrev pub final_line : ℕ → Option ScriptCredential → List ℕ
-final_line cache cached = line_of (codes "final" ∷ decimal cache ∷ cached_words cached)
+abbrev pub final_line : ScriptVersion → ℕ → Option ScriptCredential → List ℕ
+final_line version cache cached = line_of (codes "final" ∷ decimal cache ∷ cached_words version cached)
 
--- why a line ended the script
-abbrev pub cause_text : Cause → List ℕ
-cause_text NotUnderstood = codes "not understood"
-cause_text NotBuilt = codes "not built"
-
--- why the script ended at a line, counted from 1
-abbrev pub fault_line : ℕ → Cause → List ℕ
-fault_line number cause = codes "line " ++ decimal number ++ codes ": " ++ cause_text cause
-
--- why it ended past the limit on its bytes
-abbrev pub too_much_line : List ℕ
-too_much_line = codes "input too long"
+-- why a line is bad
+abbrev pub line_error_text : LineError → List ℕ
+line_error_text NotUnderstood = codes "not understood"
+line_error_text Late = codes "late"
+line_error_text NoSuchCache = codes "no such cache"
 
 -- a text has something more at its end, or nothing
 pub record Grows (old new : List ℕ) : Type 0 where

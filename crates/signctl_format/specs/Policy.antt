@@ -1,4 +1,4 @@
--- When a credential of a script is good, and how long its rules want it to last.
+-- When a credential of a script is good, and how long its rules require it to last.
 use Rattle.std.specs.Prelude.{ℕ, ℤ, int_lt, Bool, Option, Some, None}
 use Rattle.sign_base.specs.Moment.{add_moment}
 use Rattle.sequential_signer.specs.Policy.{Policy, policy_of}
@@ -14,7 +14,7 @@ script_valid c now = int_lt now c.fresh
 abbrev pub script_valid_at : ScriptCredential → ℤ → ℤ → Bool
 script_valid_at c moment now = int_lt moment c.expires
 
--- rule `now` wants it to last to the end of the operation, where that is a moment; rule `cred` to its moment `required`
+-- rule `now` requires it to last to the end of the operation, where that is a moment; rule `cred` to its moment `required`
 abbrev pub script_deadline : ScriptRule → ScriptCredential → Option ℕ → ℤ → Option ℤ
 script_deadline Now c None now = Some now
 script_deadline Now c (Some duration) now = add_moment now duration

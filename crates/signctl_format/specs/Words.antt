@@ -1,26 +1,32 @@
--- A line is parted into words by single spaces. Numbers and names are words.
-use Rattle.std.specs.Prelude.{ℕ, Bool, ◌&&◌, ◌==◌, nat_le, nat_lt, length, List, [], ◌∷◌, ◌++◌, Option, Some, None, if◌then◌else◌, flat_map}
+-- A line says nothing, or is parted into words by single spaces. Numbers and names are words.
+use Rattle.std.specs.Prelude.{ℕ, Bool, true, ◌&&◌, ◌==◌, nat_le, nat_lt, length, List, [], ◌∷◌, ◌++◌, Option, Some, None, if◌then◌else◌, flat_map}
 use Rattle.std.specs.List.{slice_split, list_all}
 use Rattle.std.specs.Str.{bytes_eq}
 use Rattle.std.specs.Str.Parse.{digits_value}
 use Rattle.std.specs.Fmt.{decimal}
+use Rattle.signctl_format.specs.Bytes.{space, hash_sign, is_visible}
 
--- the byte between words
+-- an empty line, or one that begins with `#`
+abbrev pub is_silent : List ℕ → Bool
+is_silent [] = true
+is_silent (b ∷ rest) = b == hash_sign
+
+-- whether a byte parts words
 abbrev pub is_space : ℕ → Bool
-is_space b = b == 32
+is_space b = b == space
 
 -- the words of a line: what stands before, between and behind its spaces
 abbrev pub words : List ℕ → List (List ℕ)
 words line = slice_split is_space line
 
 -- words after the first, each behind a space
-abbrev pub spaced : List (List ℕ) → List ℕ
-spaced rest = flat_map (λ word. 32 ∷ word) rest
+abbrev pub spaced_words : List (List ℕ) → List ℕ
+spaced_words rest = flat_map (λ word. space ∷ word) rest
 
 -- the line that these words make
 abbrev pub line_of : List (List ℕ) → List ℕ
 line_of [] = []
-line_of (word ∷ rest) = word ++ spaced rest
+line_of (word ∷ rest) = word ++ spaced_words rest
 
 -- the greatest number of 32 bits
 abbrev pub greatest_u32 : ℕ
@@ -35,10 +41,6 @@ abbrev pub number_of : ℕ → List ℕ → Option ℕ
 number_of limit word =
     let n = digits_value 10 word in
     if bytes_eq word (decimal n) && nat_le n limit then Some n else None
-
--- a byte that prints and is no space
-abbrev pub is_visible : ℕ → Bool
-is_visible b = nat_le 0x21 b && nat_le b 0x7e
 
 -- a method or a URI: one or more visible bytes, taken as they are
 abbrev pub is_target : List ℕ → Bool

@@ -1,24 +1,43 @@
 //! Request heads, read from the words that end a line.
-ghost use Rattle.std.specs.Prelude.{◌≡◌, ◌<◌, [], Some, None, length, IfSome, MatchOption, MatchResult};
+ghost use Rattle.std.specs.Prelude.{◌≡◌, ◌<◌, ◌∷◌, [], Some, None, length, IfSome, MatchOption, MatchResult};
 ghost use Rattle.std.specs.List.{list_all, position};
-ghost use Rattle.signctl_format.specs.Words.{is_visible, is_target};
-ghost use Rattle.signctl_format.specs.Heads.{version_of, value_of, led_by, escaped, hex_digit, named, field_of, is_colon};
-ghost use Rattle.signctl_format.specs.Reading.{first_word, target_of, fields_of, head_of};
+ghost use Rattle.signctl_format.specs.Bytes.{is_visible};
+ghost use Rattle.signctl_format.specs.Words.{words, is_target};
+ghost use Rattle.signctl_format.specs.Escapes.{value_of, with_first_byte, escaped_byte};
+ghost use Rattle.signctl_format.specs.Heads.{version_of, field_named, field_of, is_colon};
+ghost use Rattle.signctl_format.specs.Steps.{first_word};
+ghost use Rattle.signctl_format.specs.Reading.{visible_target, fields_in, head_in};
 ghost use Rattle.signctl_format.specs.Readers.{words_after, Fails, Gives};
 
-use crate::byte::{is_plain, is_visible};
-use crate::unread::Unread;
-use crate::word::{next_word, word_at};
+use crate::byte::{hex_digit, is_plain, is_visible};
+use crate::read_error::ReadError;
+use crate::word::{next_word, split_word, word_at};
 use sign_base::{Field, Fields, Head, Octets, Version};
 use std::alloc::Global;
 
 /// The head that all of these words spell.
-#[tactic(auto, unfolding(crate::specs::Reading::head_of))]
-pub fn head(alloc: Global, rest: &[u8]) -> Result<Head, Unread>
-    ensures { Gives (λ h. h) result (head_of (words_after rest.now)) }
+#[tactic(auto, unfolding(crate::specs::Reading::head_in))]
+pub fn head(alloc: Global, rest: &[u8]) -> Result<Head, ReadError>
+    ensures { Gives (λ h. h) result (head_in (words_after rest.now)) }
 {
-    let (word, rest) = word_at(rest)?;
-    let method = target(alloc, word)?;
+    let (method, rest) = word_at(rest)?;
+    head_with(alloc, method, rest)
+}
+
+/// The head that all words of a line spell.
+pub fn head_line(alloc: Global, line: &[u8]) -> Result<Head, ReadError>
+    ensures { Gives (λ h. h) result (head_in (words line.now)) }
+{
+    let (method, rest) = split_word(line);
+    head_with(alloc, method, rest)
+}
+
+/// The head that a first word and those behind it spell.
+#[tactic(auto, unfolding(crate::specs::Reading::head_in))]
+fn head_with(alloc: Global, method: &[u8], rest: &[u8]) -> Result<Head, ReadError>
+    ensures { Gives (λ h. h) result (head_in (method.now ∷ words_after rest.now)) }
+{
+    let method = target(alloc, method)?;
     let (word, rest) = word_at(rest)?;
     let uri = target(alloc, word)?;
     let (word, rest) = word_at(rest)?;
@@ -32,17 +51,18 @@ pub fn head(alloc: Global, rest: &[u8]) -> Result<Head, Unread>
     })
 }
 
-fn target(alloc: Global, word: &[u8]) -> Result<Octets, Unread>
-    ensures { Gives (λ o. o) result (target_of word.now) }
+fn target(alloc: Global, word: &[u8]) -> Result<Octets, ReadError>
+    ensures { Gives (λ o. o) result (visible_target word.now) }
 {
     if !is_target(word) {
-        return Err(Unread::NotUnderstood);
+        return Err(ReadError::NotUnderstood);
     }
     Ok(Octets::from_slice(alloc, word)?)
 }
 
+/// Whether a word is one or more visible bytes.
 #[tactic(auto, using(crate::proofs::HeadWords::target_if))]
-fn is_target(word: &[u8]) -> bool
+pub fn is_target(word: &[u8]) -> bool
     ensures { result ≡ is_target word.now }
 {
     word.len() > 0 && all_visible(word)
@@ -54,7 +74,7 @@ fn all_visible(word: &[u8]) -> bool
     word.iter().all(|b| is_visible(*b))
 }
 
-fn version(word: &[u8]) -> Result<Version, Unread>
+fn version(word: &[u8]) -> Result<Version, ReadError>
     ensures { Gives (λ v. v) result (version_of word.now) }
 {
     if word == b"0.9".as_slice() {
@@ -68,12 +88,12 @@ fn version(word: &[u8]) -> Result<Version, Unread>
     } else if word == b"3".as_slice() {
         Ok(Version::V3)
     } else {
-        Err(Unread::NotUnderstood)
+        Err(ReadError::NotUnderstood)
     }
 }
 
-fn fields(alloc: Global, rest: &[u8]) -> Result<Fields, Unread>
-    ensures { Gives (λ f. f) result (fields_of (words_after rest.now)) }
+fn fields(alloc: Global, rest: &[u8]) -> Result<Fields, ReadError>
+    ensures { Gives (λ f. f) result (fields_in (words_after rest.now)) }
 {
     let mut fields = Fields::new(alloc);
     let mut rest = rest;
@@ -84,7 +104,7 @@ fn fields(alloc: Global, rest: &[u8]) -> Result<Fields, Unread>
     Ok(fields)
 }
 
-fn field(alloc: Global, word: &[u8]) -> Result<Field, Unread>
+fn field(alloc: Global, word: &[u8]) -> Result<Field, ReadError>
     ensures { Gives (λ f. f) result (field_of word.now) }
 {
     let (name, rest) = name_and_value(word)?;
@@ -96,18 +116,18 @@ fn field(alloc: Global, word: &[u8]) -> Result<Field, Unread>
 
 /// The name of a header, and the word of its value.
 #[tactic(auto, using(crate::proofs::HeadWords::field_found))]
-fn name_and_value(word: &[u8]) -> Result<(&[u8], &[u8]), Unread>
+fn name_and_value(word: &[u8]) -> Result<(&[u8], &[u8]), ReadError>
     ensures { MatchResult result
-        (λ x. field_of word.now ≡ named x.0.now (value_of x.1.now))
+        (λ x. field_of word.now ≡ field_named x.0.now (value_of x.1.now))
         (λ e. Fails e (field_of word.now)) }
 {
     let Some(colon) = first_colon(word) else {
-        return Err(Unread::NotUnderstood);
+        return Err(ReadError::NotUnderstood);
     };
     let (name, _) = word.split_at(colon);
     let (_, value) = word.split_at(colon + 1);
     if !is_target(name) {
-        return Err(Unread::NotUnderstood);
+        return Err(ReadError::NotUnderstood);
     }
     Ok((name, value))
 }
@@ -119,7 +139,7 @@ fn first_colon(word: &[u8]) -> Option<usize>
     word.iter().position(|b| *b == b':')
 }
 
-fn value(alloc: Global, word: &[u8]) -> Result<Octets, Unread>
+fn value(alloc: Global, word: &[u8]) -> Result<Octets, ReadError>
     ensures { Gives (λ v. v) result (value_of word.now) }
 {
     let mut value = Vec::new(alloc);
@@ -132,38 +152,27 @@ fn value(alloc: Global, word: &[u8]) -> Result<Octets, Unread>
 }
 
 /// The next byte of a value, and what stands behind it.
-fn next_byte(rest: &[u8]) -> Result<Option<(u8, &[u8])>, Unread>
+fn next_byte(rest: &[u8]) -> Result<Option<(u8, &[u8])>, ReadError>
     ensures { MatchResult result
         (λ o. MatchOption o (value_of rest.now ≡ Some [])
-        (λ x. (value_of rest.now ≡ led_by x.0 (value_of x.1.now)) × (length x.1.now < length rest.now)))
+        (λ x. (value_of rest.now ≡ with_first_byte x.0 (value_of x.1.now)) × (length x.1.now < length rest.now)))
         (λ e. Fails e (value_of rest.now)) }
 {
     match rest {
         [] => Ok(None),
-        [b'%', high, low, after @ ..] => match escaped(*high, *low) {
+        [b'%', high, low, after @ ..] => match escaped_byte(*high, *low) {
             Some(b) => Ok(Some((b, after))),
-            None => Err(Unread::NotUnderstood),
+            None => Err(ReadError::NotUnderstood),
         },
         [b, after @ ..] if is_plain(*b) => Ok(Some((*b, after))),
-        _ => Err(Unread::NotUnderstood),
+        _ => Err(ReadError::NotUnderstood),
     }
 }
 
-/// The byte that two digits behind `%` stand for.
-fn escaped(high: u8, low: u8) -> Option<u8>
-    ensures { result ≡ escaped high low }
+/// The byte that two digits behind `%` represent.
+fn escaped_byte(high: u8, low: u8) -> Option<u8>
+    ensures { result ≡ escaped_byte high low }
 {
-    let b = 16 * hex_digit(high)? + hex_digit(low)?;
+    let b = 16 * hex_digit(b'A', high)? + hex_digit(b'A', low)?;
     if is_plain(b) { None } else { Some(b) }
-}
-
-fn hex_digit(b: u8) -> Option<u8>
-    ensures value { result ≡ hex_digit b }
-    ensures below { IfSome result (λ n. n < 16) }
-{
-    match b {
-        b'0'..=b'9' => Some(b - b'0'),
-        b'A'..=b'F' => Some(b - b'A' + 10),
-        _ => None,
-    }
 }

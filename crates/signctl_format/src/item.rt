@@ -1,6 +1,6 @@
 //! What a line of a script says.
-use crate::{ScriptCredential, ScriptRule};
-use sequential_signer::{Event, Loader};
+use crate::{ScriptEvent, ScriptRule};
+use sequential_signer::Loader;
 
 /// One line of a script.
 #[derive(Debug, Drop)]
@@ -12,5 +12,5 @@ pub enum Item {
     /// A handle on a cache, with a deadline rule.
     Handle { cache: u32, rule: ScriptRule },
     /// Something that happens to a call.
-    Event(Event<ScriptCredential>),
+    Event(ScriptEvent),
 }

@@ -5,21 +5,29 @@
 
 mod byte;
 pub mod credential;
-mod head;
+pub mod escape;
+pub mod head;
+mod head_text;
 pub mod item;
 pub mod laws;
+pub mod line_error;
 mod moment;
+mod moment_text;
 pub mod print;
 mod read;
-mod unread;
-mod word;
+pub mod read_error;
+pub mod script_event;
+pub mod script_version;
+pub mod text;
+pub mod word;
 
 pub use credential::{ScriptCredential, ScriptRule};
 pub use item::Item;
-pub use print::{
-    Cause, push_cache, push_fault, push_final, push_handle, push_reply, push_too_much,
-};
+pub use line_error::LineError;
+pub use print::{push_cache, push_final, push_handle, push_reply};
 pub use read::read_line;
+pub use script_event::ScriptEvent;
+pub use script_version::{ScriptVersion, is_version_line};
 
 #[cfg(test)]
 mod tests;

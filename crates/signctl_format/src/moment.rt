@@ -1,48 +1,113 @@
-//! Moments and durations, read from words of whole seconds.
-ghost use Rattle.std.specs.Prelude.{◌≡◌, ◌≤◌, Some};
-ghost use Rattle.signctl_format.specs.Moments.{moment_of, duration_of, at_second, in_seconds, last_second};
+//! Moments and durations, read from words of seconds.
+ghost use Rattle.std.specs.Prelude.{◌≡◌, ◌+◌, ◌-◌, ◌*◌, ◌^◌, ◌<◌, ◌≤◌, length, pos, IsTrue, IfOk, IfSome, option_map};
+ghost use Rattle.std.specs.List.{position};
+ghost use Rattle.std.specs.Duration.{as_nanos};
+ghost use Rattle.signctl_format.specs.Bytes.{zero_digit, is_digit};
+ghost use Rattle.signctl_format.specs.Moments.{moment_of, duration_of, time_of, point_in, is_point, fraction_of, plain_duration, last_second, nanos_of_second};
 ghost use Rattle.signctl_format.specs.Readers.{Gives};
 
-use crate::unread::Unread;
+use crate::ScriptVersion;
+use crate::byte::is_digit;
+use crate::read_error::ReadError;
 use crate::word::number;
 use sign_base::Timestamp;
 use std::time::Duration;
 
 const LAST_SECOND: u64 = 253_402_207_200;
 
-const NANOS_OF_SECOND: i128 = 1_000_000_000;
+/// The places of a fraction, down to nanoseconds.
+const PLACES: u32 = 9;
 
-/// The moment that a word spells.
-pub fn moment(word: &[u8]) -> Result<Timestamp, Unread>
-    ensures { Gives (λ t. t) result (moment_of word.now) }
+/// The moment that a word spells in a script of this version.
+pub fn moment(version: ScriptVersion, word: &[u8]) -> Result<Timestamp, ReadError>
+    ensures { Gives (λ t. t) result (moment_of version word.now) }
 {
-    let second = number(LAST_SECOND, word)?;
-    Ok(moment_of_second(second))
+    let since_1970 = time(version, LAST_SECOND, word)?;
+    Ok(moment_after(since_1970))
 }
 
-fn moment_of_second(second: u64) -> Timestamp
-    requires { second ≤ last_second }
-    ensures { result ≡ at_second second }
+fn moment_after(since_1970: Duration) -> Timestamp
+    requires { as_nanos since_1970 < (last_second + 1) * nanos_of_second }
+    ensures { result ≡ pos (as_nanos since_1970) }
 {
-    match Timestamp::from_nanos(second as i128 * NANOS_OF_SECOND) {
+    match Timestamp::from_nanos(since_1970.as_nanos() as i128) {
         Some(moment) => moment,
         None => unreachable!(),
     }
 }
 
 /// The duration that a word spells, which may be none.
-pub fn duration(word: &[u8]) -> Result<Option<Duration>, Unread>
-    ensures { Gives (λ d. d) result (duration_of word.now) }
+pub fn duration(version: ScriptVersion, word: &[u8]) -> Result<Option<Duration>, ReadError>
+    ensures { Gives (option_map plain_duration) result (duration_of version word.now) }
 {
     if word == b"-".as_slice() {
         return Ok(None);
     }
-    let seconds = number(u64::MAX, word)?;
-    Ok(Some(seconds_long(seconds)))
+    let time = time(version, u64::MAX, word)?;
+    Ok(Some(time))
 }
 
-fn seconds_long(seconds: u64) -> Duration
-    ensures { result ≡ in_seconds seconds }
+/// The seconds that a word spells, up to a limit on whole ones.
+fn time(version: ScriptVersion, limit: u64, word: &[u8]) -> Result<Duration, ReadError>
+    ensures value { Gives plain_duration result (time_of version limit word.now) }
+    ensures fits { IfOk result (λ time. as_nanos time < (limit + 1) * nanos_of_second) }
 {
-    Duration::from_secs(seconds)
+    let Some(place) = point_in(version, word) else {
+        return Ok(Duration::from_secs(number(limit, word)?));
+    };
+    let (secs, _) = word.split_at(place);
+    let (_, digits) = word.split_at(place + 1);
+    let secs = number(limit, secs)?;
+    let nanos = fraction(PLACES, digits)?;
+    Ok(Duration::new(secs, nanos))
+}
+
+fn point_in(version: ScriptVersion, word: &[u8]) -> Option<usize>
+    ensures place { result ≡ point_in version word.now }
+    ensures within { IfSome result (λ i. i < length word.now) }
+{
+    match version {
+        ScriptVersion::One => None,
+        ScriptVersion::Two => first_point(word),
+    }
+}
+
+fn first_point(word: &[u8]) -> Option<usize>
+    ensures place { result ≡ position is_point word.now }
+    ensures within { IfSome result (λ i. i < length word.now) }
+{
+    word.iter().position(|b| *b == b'.')
+}
+
+/// The fraction that digits spell, with so many places left.
+#[tactic(auto, unfolding(crate::specs::Moments::fraction_of))]
+fn fraction(places: u32, digits: &[u8]) -> Result<u32, ReadError>
+    requires { places ≤ 9 }
+    ensures value { Gives (λ n. n) result (fraction_of places digits.now) }
+    ensures below { IfOk result (λ n. n < 10 ^ places) }
+{
+    let [digit, rest @ ..] = digits else {
+        return Err(ReadError::NotUnderstood);
+    };
+    if places == 0 || !is_digit(*digit) {
+        return Err(ReadError::NotUnderstood);
+    }
+    let here = count(*digit, places - 1);
+    if rest.len() > 0 {
+        Ok(here + fraction(places - 1, rest)?)
+    } else if here > 0 {
+        Ok(here)
+    } else {
+        Err(ReadError::NotUnderstood)
+    }
+}
+
+/// What a digit counts, with so many places behind it.
+fn count(digit: u8, places: u32) -> u32
+    requires digit { IsTrue (is_digit digit) }
+    requires few { places ≤ 8 }
+    ensures value { result ≡ (digit - zero_digit) * 10 ^ places }
+    ensures below { result + 10 ^ places ≤ 10 ^ (places + 1) }
+{
+    u32::from(digit - b'0') * 10u32.pow(places)
 }

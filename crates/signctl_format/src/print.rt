@@ -1,41 +1,20 @@
 //! The lines that a script prints, each added at the end of a text without its newline.
 //!
-//! Want of memory ends the program: what stood in the text before then still stands in it, and
+//! Out of memory ends the program: what stood in the text before then still stands in it, and
 //! a part of the line may stand behind it.
 #![tactic(auto, using(crate::proofs::Texts::grows_then, crate::proofs::Texts::grows_by, crate::proofs::Texts::grows_not))]
 
-ghost use Rattle.std.specs.Prelude.{◌≡◌, ◌++◌, ◌∷◌, OnOk, codes, decimal, map};
-ghost use Rattle.signctl_format.specs.Words.{spaced};
-ghost use Rattle.signctl_format.specs.Moments.{second_word};
-ghost use Rattle.signctl_format.specs.Heads.{value_byte, value_word, field_word, head_words, version_word};
-ghost use Rattle.signctl_format.specs.Lines.{Grows, call_words, credential_words, wake_words, why_words, reply_line, cache_line, handle_line, final_line, fault_line, cause_text, too_much_line};
+ghost use Rattle.std.specs.Prelude.{◌≡◌, ◌++◌, OnOk};
+ghost use Rattle.signctl_format.specs.Words.{spaced_words};
+ghost use Rattle.signctl_format.specs.Lines.{Grows, call_words, credential_words, wake_words, why_words, reply_line, cache_line, handle_line, final_line};
 
-use crate::ScriptCredential;
-use crate::byte::{is_plain, upper_hex};
-use itoa::Buffer;
+use crate::head_text::push_head;
+use crate::moment_text::push_moment;
+use crate::text::{push, push_number, push_word};
+use crate::{ScriptCredential, ScriptVersion};
 use sequential_signer::{Reply, Why};
-use sign_base::{Field, Head, NoMemory, Timestamp, Version};
+use sign_base::NoMemory;
 use wake_lock::CallId;
-
-/// Why a script ended at a line.
-#[derive(Clone, Copy, Debug, PartialEq, Eq)]
-pub enum Cause {
-    /// The line spells no form.
-    NotUnderstood,
-    /// It spells a form that the program does not serve yet.
-    NotBuilt,
-}
-
-impl Cause {
-    fn as_text(self) -> &'static [u8]
-        ensures { result.now ≡ cause_text self }
-    {
-        match self {
-            Cause::NotUnderstood => b"not understood",
-            Cause::NotBuilt => b"not built",
-        }
-    }
-}
 
 /// Adds the line of a reply.
 pub fn push_reply(text: &mut Vec<u8>, reply: &Reply<ScriptCredential>) -> Result<(), NoMemory<()>>
@@ -90,76 +69,26 @@ pub fn push_handle(text: &mut Vec<u8>, number: u64) -> Result<(), NoMemory<()>>
     push_number(text, number)
 }
 
-/// Adds the line that tells what a cache holds in the end.
+/// Adds the line that says what a cache holds in the end, as this version spells moments.
 pub fn push_final(
     text: &mut Vec<u8>,
+    version: ScriptVersion,
     cache: u64,
     cached: Option<ScriptCredential>,
 ) -> Result<(), NoMemory<()>>
-    ensures ok { OnOk result (text.new.items ≡ text.old.items ++ final_line cache cached) }
+    ensures ok { OnOk result (text.new.items ≡ text.old.items ++ final_line version cache cached) }
     ensures grows { Grows text.old.items text.new.items }
 {
     push(text, b"final")?;
     push_number(text, cache)?;
     match cached {
         None => push_word(text, b"empty"),
-        Some(credential) => push_credential(text, credential),
+        Some(credential) => push_credential(text, version, credential),
     }
-}
-
-/// Adds the line that names the line at which the script ended, counted from 1.
-pub fn push_fault(text: &mut Vec<u8>, number: u64, cause: Cause) -> Result<(), NoMemory<()>>
-    ensures ok { OnOk result (text.new.items ≡ text.old.items ++ fault_line number cause) }
-    ensures grows { Grows text.old.items text.new.items }
-{
-    push(text, b"line")?;
-    push_number(text, number)?;
-    push(text, b": ")?;
-    push(text, cause.as_text())
-}
-
-/// Adds the line that tells that the script has too many bytes.
-pub fn push_too_much(text: &mut Vec<u8>) -> Result<(), NoMemory<()>>
-    ensures ok { OnOk result (text.new.items ≡ text.old.items ++ too_much_line) }
-    ensures grows { Grows text.old.items text.new.items }
-{
-    push(text, b"input too long")
-}
-
-pub(crate) fn push(text: &mut Vec<u8>, bytes: &[u8]) -> Result<(), NoMemory<()>>
-    ensures ok { OnOk result (text.new.items ≡ text.old.items ++ bytes.now) }
-    ensures grows { Grows text.old.items text.new.items }
-{
-    match text.extend_from_slice(bytes) {
-        Ok(()) => Ok(()),
-        Err(_) => Err(NoMemory { back: () }),
-    }
-}
-
-pub(crate) fn push_word(text: &mut Vec<u8>, word: &[u8]) -> Result<(), NoMemory<()>>
-    ensures ok { OnOk result (text.new.items ≡ text.old.items ++ 32 ∷ word.now) }
-    ensures grows { Grows text.old.items text.new.items }
-{
-    push(text, b" ")?;
-    push(text, word)
-}
-
-pub(crate) fn push_number(text: &mut Vec<u8>, number: u64) -> Result<(), NoMemory<()>>
-    ensures ok { OnOk result (text.new.items ≡ text.old.items ++ 32 ∷ decimal number) }
-    ensures grows { Grows text.old.items text.new.items }
-{
-    push_word(text, Buffer::new().format(number).as_bytes())
-}
-
-pub(crate) fn push_second(text: &mut Vec<u8>, moment: Timestamp) -> Result<(), NoMemory<()>>
-    ensures ok { OnOk result (text.new.items ≡ text.old.items ++ 32 ∷ second_word moment) }
-    ensures grows { Grows text.old.items text.new.items }
-{
-    push_word(text, Buffer::new().format(moment.as_second()).as_bytes())
 }
 
 pub(crate) fn push_call(text: &mut Vec<u8>, call: CallId) -> Result<(), NoMemory<()>>
-    ensures ok { OnOk result (text.new.items ≡ text.old.items ++ spaced (call_words call)) }
+    ensures ok { OnOk result (text.new.items ≡ text.old.items ++ spaced_words (call_words call)) }
     ensures grows { Grows text.old.items text.new.items }
 {
     push_number(text, u64::from(call.handle))?;
@@ -167,7 +96,7 @@ pub(crate) fn push_call(text: &mut Vec<u8>, call: CallId) -> Result<(), NoMemory
 }
 
 fn push_wake(text: &mut Vec<u8>, wake: Option<CallId>) -> Result<(), NoMemory<()>>
-    ensures ok { OnOk result (text.new.items ≡ text.old.items ++ spaced (wake_words wake)) }
+    ensures ok { OnOk result (text.new.items ≡ text.old.items ++ spaced_words (wake_words wake)) }
     ensures grows { Grows text.old.items text.new.items }
 {
     match wake {
@@ -180,7 +109,7 @@ fn push_wake(text: &mut Vec<u8>, wake: Option<CallId>) -> Result<(), NoMemory<()
 }
 
 fn push_why(text: &mut Vec<u8>, why: &Why) -> Result<(), NoMemory<()>>
-    ensures ok { OnOk result (text.new.items ≡ text.old.items ++ spaced (why_words why.now)) }
+    ensures ok { OnOk result (text.new.items ≡ text.old.items ++ spaced_words (why_words why.now)) }
     ensures grows { Grows text.old.items text.new.items }
 {
     match why {
@@ -198,75 +127,16 @@ fn push_why(text: &mut Vec<u8>, why: &Why) -> Result<(), NoMemory<()>>
     }
 }
 
-pub(crate) fn push_credential(text: &mut Vec<u8>, c: ScriptCredential) -> Result<(), NoMemory<()>>
-    ensures ok { OnOk result (text.new.items ≡ text.old.items ++ spaced (credential_words c)) }
+pub(crate) fn push_credential(
+    text: &mut Vec<u8>,
+    version: ScriptVersion,
+    c: ScriptCredential,
+) -> Result<(), NoMemory<()>>
+    ensures ok { OnOk result (text.new.items ≡ text.old.items ++ spaced_words (credential_words version c)) }
     ensures grows { Grows text.old.items text.new.items }
 {
     push_number(text, c.generation)?;
-    push_second(text, c.fresh)?;
-    push_second(text, c.expires)?;
-    push_second(text, c.required)
-}
-
-pub(crate) fn push_head(text: &mut Vec<u8>, head: &Head) -> Result<(), NoMemory<()>>
-    ensures ok { OnOk result (text.new.items ≡ text.old.items ++ spaced (head_words head.now)) }
-    ensures grows { Grows text.old.items text.new.items }
-{
-    push_word(text, head.method.as_slice())?;
-    push_word(text, head.uri.as_slice())?;
-    push_version(text, head.version)?;
-    push_fields(text, head.headers.as_slice())
-}
-
-fn push_fields(text: &mut Vec<u8>, fields: &[Field]) -> Result<(), NoMemory<()>>
-    ensures ok { OnOk result (text.new.items ≡ text.old.items ++ spaced (map field_word fields.now)) }
-    ensures grows { Grows text.old.items text.new.items }
-{
-    for field in fields {
-        push_field(text, field)?;
-    }
-    Ok(())
-}
-
-fn push_version(text: &mut Vec<u8>, version: Version) -> Result<(), NoMemory<()>>
-    ensures ok { OnOk result (text.new.items ≡ text.old.items ++ 32 ∷ version_word version) }
-    ensures grows { Grows text.old.items text.new.items }
-{
-    match version {
-        Version::V09 => push_word(text, b"0.9"),
-        Version::V10 => push_word(text, b"1.0"),
-        Version::V11 => push_word(text, b"1.1"),
-        Version::V2 => push_word(text, b"2"),
-        Version::V3 => push_word(text, b"3"),
-    }
-}
-
-fn push_field(text: &mut Vec<u8>, field: &Field) -> Result<(), NoMemory<()>>
-    ensures ok { OnOk result (text.new.items ≡ text.old.items ++ 32 ∷ field_word field.now) }
-    ensures grows { Grows text.old.items text.new.items }
-{
-    push_word(text, field.name.as_slice())?;
-    push(text, b":")?;
-    push_value(text, field.value.as_slice())
-}
-
-fn push_value(text: &mut Vec<u8>, value: &[u8]) -> Result<(), NoMemory<()>>
-    ensures ok { OnOk result (text.new.items ≡ text.old.items ++ value_word value.now) }
-    ensures grows { Grows text.old.items text.new.items }
-{
-    for b in value {
-        push_value_byte(text, *b)?;
-    }
-    Ok(())
-}
-
-fn push_value_byte(text: &mut Vec<u8>, b: u8) -> Result<(), NoMemory<()>>
-    ensures ok { OnOk result (text.new.items ≡ text.old.items ++ value_byte b) }
-    ensures grows { Grows text.old.items text.new.items }
-{
-    if is_plain(b) {
-        push(text, &[b])
-    } else {
-        push(text, &[b'%', upper_hex(b / 16), upper_hex(b % 16)])
-    }
+    push_moment(text, version, c.fresh)?;
+    push_moment(text, version, c.expires)?;
+    push_moment(text, version, c.required)
 }

@@ -1,8 +1,9 @@
 //! Lines that are read and written back, lines that are refused, and the lines of replies.
 use super::*;
-use crate::print::{
-    push, push_call, push_credential, push_head, push_number, push_second, push_word,
-};
+use crate::head_text::push_head;
+use crate::moment_text::{push_moment, push_time};
+use crate::print::{push_call, push_credential};
+use crate::text::{push, push_number, push_word};
 use sequential_signer::{Answer, Event, Loader, Reply, Verdict, Why};
 use sign_base::{NoMemory, Timestamp};
 use std::alloc::Global;
@@ -29,7 +30,7 @@ const SPELLED: [&str; 17] = [
     "cancel 0 1",
 ];
 
-const REFUSED: [&str; 41] = [
+const REFUSED: [&str; 44] = [
     " ",
     " #",
     "cache",
@@ -71,9 +72,47 @@ const REFUSED: [&str; 41] = [
     "failed 0 1 5 18446744073709551616",
     "cancel 0 1 ",
     "signctl 2",
+    "poll 0 1 5.5",
+    "begin 0 1 5.5 GET https://e.x/a 1.1",
+    "found 0 1 501 7 900.5 1000 600",
 ];
 
-fn spell(text: &mut Vec<u8>, item: &Item) -> Result<(), NoMemory<()>> {
+/// Lines of version 2 alone: the first words of each are those of version 1.
+const SPELLED_IN_TWO: [&str; 10] = [
+    "poll 0 1 0.5",
+    "poll 0 1 0.000000001",
+    "poll 0 1 5.05",
+    "poll 0 1 5.123456789",
+    "poll 0 1 253402207200.999999999",
+    "begin 0 1 5.5 GET https://e.x/a 1.1",
+    "begin 0 1 18446744073709551615.999999999 GET https://e.x/a 1.1",
+    "begin 0 1 0.1 GET https://e.x/a 1.1 a:5.5",
+    "found 0 1 501.25 7 900.5 1000.000001 600",
+    "failed 0 1 5.9 42",
+];
+
+const REFUSED_IN_TWO: [&str; 18] = [
+    "signctl 2",
+    "poll 0 1 5.50",
+    "poll 0 1 5.",
+    "poll 0 1 .5",
+    "poll 0 1 5.0",
+    "poll 0 1 1.0000000001",
+    "poll 0 1 1.1234567891",
+    "poll 0 1 05.5",
+    "poll 0 1 5.5.5",
+    "poll 0 1 5,5",
+    "poll 0 1 5.-5",
+    "poll 0 1 5.5a",
+    "poll 0 1 -0.5",
+    "poll 0 1 253402207201.5",
+    "poll 0.5 1 5",
+    "begin 0 1 18446744073709551616.5 GET https://e.x/a 1.1",
+    "begin 0 1 -.5 GET https://e.x/a 1.1",
+    "failed 0 1 5 4.2",
+];
+
+fn spell(text: &mut Vec<u8>, version: ScriptVersion, item: &Item) -> Result<(), NoMemory<()>> {
     match item {
         Item::Silent => Ok(()),
         Item::Cache(Loader::Single) => push(text, b"cache single"),
@@ -89,11 +128,15 @@ fn spell(text: &mut Vec<u8>, item: &Item) -> Result<(), NoMemory<()>> {
                 ScriptRule::Cred => push_word(text, b"cred"),
             }
         }
-        Item::Event(event) => spell_event(text, event),
+        Item::Event(event) => spell_event(text, version, event.as_event()),
     }
 }
 
-fn spell_event(text: &mut Vec<u8>, event: &Event<ScriptCredential>) -> Result<(), NoMemory<()>> {
+fn spell_event(
+    text: &mut Vec<u8>,
+    version: ScriptVersion,
+    event: &Event<ScriptCredential>,
+) -> Result<(), NoMemory<()>> {
     match event {
         Event::Begin {
             call,
@@ -104,16 +147,19 @@ fn spell_event(text: &mut Vec<u8>, event: &Event<ScriptCredential>) -> Result<()
             push_call(text, *call)?;
             match expires_in {
                 None => push_word(text, b"-")?,
-                Some(duration) => push_number(text, duration.as_secs())?,
+                Some(duration) => {
+                    push(text, b" ")?;
+                    push_time(text, version, *duration)?
+                }
             }
             push_head(text, head)
         }
         Event::Poll { call, now } => {
             push(text, b"poll")?;
             push_call(text, *call)?;
-            push_second(text, *now)
+            push_moment(text, version, *now)
         }
-        Event::Provided { call, now, answer } => spell_answer(text, *call, *now, answer),
+        Event::Provided { call, now, answer } => spell_answer(text, version, *call, *now, answer),
         Event::Signed { call, answer } => spell_verdict(text, *call, answer),
         Event::Cancel { call } => {
             push(text, b"cancel")?;
@@ -124,6 +170,7 @@ fn spell_event(text: &mut Vec<u8>, event: &Event<ScriptCredential>) -> Result<()
 
 fn spell_answer(
     text: &mut Vec<u8>,
+    version: ScriptVersion,
     call: CallId,
     now: Timestamp,
     answer: &Answer<ScriptCredential>,
@@ -135,9 +182,9 @@ fn spell_answer(
     };
     push(text, name)?;
     push_call(text, call)?;
-    push_second(text, now)?;
+    push_moment(text, version, now)?;
     match answer {
-        Answer::Found(credential) => push_credential(text, *credential),
+        Answer::Found(credential) => push_credential(text, version, *credential),
         Answer::Missing => Ok(()),
         Answer::Failed(error) => push_number(text, *error),
     }
@@ -159,12 +206,16 @@ fn spell_verdict(text: &mut Vec<u8>, call: CallId, verdict: &Verdict) -> Result<
 }
 
 /// The item that a line spells, written back, None where it spells none.
-fn again(alloc: Global, line: &[u8]) -> Result<Option<Vec<u8>>, NoMemory<()>> {
-    match read_line(alloc, line)? {
+fn again(
+    alloc: Global,
+    version: ScriptVersion,
+    line: &[u8],
+) -> Result<Option<Vec<u8>>, NoMemory<()>> {
+    match read_line(alloc, version, line)? {
         None => Ok(None),
         Some(item) => {
             let mut text = Vec::new(alloc);
-            spell(&mut text, &item)?;
+            spell(&mut text, version, &item)?;
             Ok(Some(text))
         }
     }
@@ -172,10 +223,14 @@ fn again(alloc: Global, line: &[u8]) -> Result<Option<Vec<u8>>, NoMemory<()>> {
 
 #[test]
 fn a_line_of_each_form_is_read_and_written_back(rt: HostRuntime) -> Result<(), Fail> {
-    for line in SPELLED {
-        let text = again(rt.alloc(), line.as_bytes()).ok().ok_or("memory")?;
-        let text = text.ok_or("the line is of a form")?;
-        assert_eq!(rt; text.as_slice(), line.as_bytes(), "at {line}");
+    for version in [ScriptVersion::One, ScriptVersion::Two] {
+        for line in SPELLED {
+            let text = again(rt.alloc(), version, line.as_bytes())
+                .ok()
+                .ok_or("memory")?;
+            let text = text.ok_or("the line is of a form")?;
+            assert_eq!(rt; text.as_slice(), line.as_bytes(), "at {line}");
+        }
     }
     Ok(())
 }
@@ -183,8 +238,59 @@ fn a_line_of_each_form_is_read_and_written_back(rt: HostRuntime) -> Result<(), F
 #[test]
 fn other_lines_are_refused(rt: HostRuntime) -> Result<(), Fail> {
     for line in REFUSED {
-        let read = read_line(rt.alloc(), line.as_bytes()).ok().ok_or("memory")?;
-        assert!(rt; read.is_none(), "at {line}");
+        let read = read_line(rt.alloc(), ScriptVersion::One, line.as_bytes());
+        assert!(rt; read.ok().ok_or("memory")?.is_none(), "at {line}");
+    }
+    Ok(())
+}
+
+#[test]
+fn fractions_are_read_and_written_back_in_version_2(rt: HostRuntime) -> Result<(), Fail> {
+    for line in SPELLED_IN_TWO {
+        let text = again(rt.alloc(), ScriptVersion::Two, line.as_bytes())
+            .ok()
+            .ok_or("memory")?;
+        let text = text.ok_or("the line is of a form")?;
+        assert_eq!(rt; text.as_slice(), line.as_bytes(), "at {line}");
+    }
+    Ok(())
+}
+
+#[test]
+fn other_fractions_are_refused(rt: HostRuntime) -> Result<(), Fail> {
+    for line in REFUSED_IN_TWO {
+        let read = read_line(rt.alloc(), ScriptVersion::Two, line.as_bytes());
+        assert!(rt; read.ok().ok_or("memory")?.is_none(), "at {line}");
+    }
+    Ok(())
+}
+
+#[test]
+fn a_fraction_counts_from_its_point(rt: HostRuntime) -> Result<(), Fail> {
+    let read = read_line(rt.alloc(), ScriptVersion::Two, b"poll 0 1 5.05");
+    let item = read.ok().ok_or("memory")?.ok_or("the line is of a form")?;
+    let now = match item {
+        Item::Event(event) => match event.into_event() {
+            Event::Poll { now, .. } => now.as_nanos(),
+            _ => 0,
+        },
+        _ => 0,
+    };
+    assert_eq!(rt; now, 5_050_000_000);
+    Ok(())
+}
+
+#[test]
+fn the_first_line_names_version_2(rt: HostRuntime) -> Result<(), Fail> {
+    assert!(rt; is_version_line(b"signctl 2"));
+    for line in [
+        b"".as_slice(),
+        b"signctl 1",
+        b"signctl 2 ",
+        b"signctl  2",
+        b"#",
+    ] {
+        assert!(rt; !is_version_line(line));
     }
     Ok(())
 }
@@ -192,22 +298,46 @@ fn other_lines_are_refused(rt: HostRuntime) -> Result<(), Fail> {
 #[test]
 fn empty_lines_and_remarks_say_nothing(rt: HostRuntime) -> Result<(), Fail> {
     for line in [b"".as_slice(), b"#", b"# poll 0 1 5", b"#\x00\xff\r"] {
-        let read = read_line(rt.alloc(), line).ok().ok_or("memory")?;
+        let read = read_line(rt.alloc(), ScriptVersion::One, line)
+            .ok()
+            .ok_or("memory")?;
         assert!(rt; matches!(read, Some(Item::Silent)));
     }
     Ok(())
 }
 
+/// A line of 65,536 bytes, which ends in one digit again and again.
+fn long_line(alloc: Global, front: &[u8], digit: u8) -> Result<Vec<u8>, NoMemory<()>> {
+    let mut line = Vec::new(alloc);
+    push(&mut line, front)?;
+    for _ in front.len()..65_536 {
+        push(&mut line, &[digit])?;
+    }
+    Ok(line)
+}
+
 #[test]
 fn a_number_of_thousands_of_digits_is_refused(rt: HostRuntime) -> Result<(), Fail> {
-    for digit in [b'0', b'9'] {
-        let mut line = Vec::from_slice(rt.alloc(), b"poll 0 1 ")?;
-        for _ in 0..5_000 {
-            line.push(digit)?;
+    for front in [b"poll 0 1 ".as_slice(), b"poll 0 1 5.", b"begin 0 1 "] {
+        for digit in [b'0', b'9'] {
+            let line = long_line(rt.alloc(), front, digit).ok().ok_or("memory")?;
+            let read = read_line(rt.alloc(), ScriptVersion::Two, line.as_slice());
+            assert!(rt; read.ok().ok_or("memory")?.is_none());
         }
-        let read = read_line(rt.alloc(), line.as_slice()).ok().ok_or("memory")?;
-        assert!(rt; read.is_none());
     }
+    Ok(())
+}
+
+#[test]
+fn a_line_of_65_536_bytes_is_read(rt: HostRuntime) -> Result<(), Fail> {
+    let line = long_line(rt.alloc(), b"accept 0 1 GET / 1.1 name:", b'9')
+        .ok()
+        .ok_or("memory")?;
+    let text = again(rt.alloc(), ScriptVersion::One, line.as_slice())
+        .ok()
+        .ok_or("memory")?;
+    let text = text.ok_or("the line is of a form")?;
+    assert!(rt; text.as_slice() == line.as_slice());
     Ok(())
 }
 
@@ -292,7 +422,7 @@ fn replies_are_printed(rt: HostRuntime) -> Result<(), Fail> {
 }
 
 #[test]
-fn other_lines_are_printed(rt: HostRuntime) -> Result<(), Fail> {
+fn caches_and_handles_are_printed(rt: HostRuntime) -> Result<(), Fail> {
     let moment = Timestamp::from_nanos(600_000_000_000).ok_or("a moment")?;
     let credential = credential(18_446_744_073_709_551_615, moment);
     let mut text = Vec::new(rt.alloc());
@@ -300,24 +430,57 @@ fn other_lines_are_printed(rt: HostRuntime) -> Result<(), Fail> {
     push(&mut text, b"\n").ok().ok_or("memory")?;
     push_handle(&mut text, 10).ok().ok_or("memory")?;
     push(&mut text, b"\n").ok().ok_or("memory")?;
-    push_final(&mut text, 0, None).ok().ok_or("memory")?;
-    push(&mut text, b"\n").ok().ok_or("memory")?;
-    push_final(&mut text, 1, Some(credential))
+    push_final(&mut text, ScriptVersion::One, 0, None)
         .ok()
         .ok_or("memory")?;
     push(&mut text, b"\n").ok().ok_or("memory")?;
-    push_fault(&mut text, 4, Cause::NotUnderstood)
+    push_final(&mut text, ScriptVersion::One, 1, Some(credential))
         .ok()
         .ok_or("memory")?;
-    push(&mut text, b"\n").ok().ok_or("memory")?;
-    push_fault(&mut text, 100, Cause::NotBuilt)
-        .ok()
-        .ok_or("memory")?;
-    push(&mut text, b"\n").ok().ok_or("memory")?;
-    push_too_much(&mut text).ok().ok_or("memory")?;
     assert_eq!(rt;
         text.as_slice(),
-        b"cache 0\nhandle 10\nfinal 0 empty\nfinal 1 18446744073709551615 600 600 600\nline 4: not understood\nline 100: not built\ninput too long".as_slice()
+        b"cache 0\nhandle 10\nfinal 0 empty\nfinal 1 18446744073709551615 600 600 600".as_slice()
     );
+    Ok(())
+}
+
+#[test]
+fn moments_are_printed_in_each_version(rt: HostRuntime) -> Result<(), Fail> {
+    for (nanos, one, two) in [
+        (0, " 0", " 0"),
+        (600_000_000_000, " 600", " 600"),
+        (600_000_000_001, " 600", " 600.000000001"),
+        (600_100_000_000, " 600", " 600.1"),
+        (600_010_203_000, " 600", " 600.010203"),
+        (
+            253_402_207_200_999_999_999,
+            " 253402207200",
+            " 253402207200.999999999",
+        ),
+        (-1_500_000_000, " -1", " -1.5"),
+        (-500_000_000, " 0", " -0.5"),
+    ] {
+        let moment = Timestamp::from_nanos(nanos).ok_or("a moment")?;
+        for (version, word) in [(ScriptVersion::One, one), (ScriptVersion::Two, two)] {
+            let mut text = Vec::new(rt.alloc());
+            push_moment(&mut text, version, moment)
+                .ok()
+                .ok_or("memory")?;
+            assert_eq!(rt; text.as_slice(), word.as_bytes(), "at {word}");
+        }
+    }
+    Ok(())
+}
+
+#[test]
+fn errors_are_printed(rt: HostRuntime) -> Result<(), Fail> {
+    for (cause, text) in [
+        (LineError::NotUnderstood, "not understood"),
+        (LineError::Late, "late"),
+        (LineError::NoSuchCache, "no such cache"),
+    ] {
+        let shown = format!(in rt.alloc(); "{cause}")?;
+        assert_eq!(rt; shown.as_str(), text);
+    }
     Ok(())
 }

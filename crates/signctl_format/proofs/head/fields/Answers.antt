@@ -1,5 +1,5 @@
 use Rattle.std.proofs.lemmas.Result.{err_from_is_err_and}
-use Rattle.signctl_format.specs.Reading.{fields_of}
+use Rattle.signctl_format.specs.Reading.{fields_in}
 use Rattle.signctl_format.specs.Readers.{words_after}
 use Rattle.signctl_format.proofs.HeadWords.{fields_more, fields_stop, fields_done}
 use Rattle.signctl_format.proofs.head.fields.Goals as goal
@@ -7,11 +7,11 @@ use Rattle.signctl_format.proofs.head.fields.Goals as goal
 pub returns-in_err-field : goal.returns-in_err-field
 returns-in_err-field c =
     let p = err_from_is_err_and c.from_residual.result c.from_residual.ensures.1 in
-    rw (p.1, p.2) (fields_stop c.in_err-field.field-0.0 c.loop-word.fields c.in-Some.word.now (words_after c.in-Some.after.now) (words_after c.loop-word.rest.now) (fields_of (words_after c.args.rest.now)) c.in-Some.ensures.words c.in_err-field.ensures c.loop-word.invariant)
+    rw (p.1, p.2) (fields_stop c.in_err-field.field-0.0 c.loop-word.fields c.in-Some.word.now (words_after c.in-Some.after.now) (words_after c.loop-word.rest.now) (fields_in (words_after c.args.rest.now)) c.in-Some.ensures.words c.in_err-field.ensures c.loop-word.invariant)
 
 pub loop-word-preserved : goal.loop-word-preserved
 loop-word-preserved c =
-    rw c.in_ok-push.ensures.ok (fields_more c.loop-word.fields c.in-Some.word.now c.in_ok-field.field-0 (words_after c.in-Some.after.now) (words_after c.loop-word.rest.now) (fields_of (words_after c.args.rest.now)) c.in-Some.ensures.words c.in_ok-field.ensures c.loop-word.invariant)
+    rw c.in_ok-push.ensures.ok (fields_more c.loop-word.fields c.in-Some.word.now c.in_ok-field.field-0 (words_after c.in-Some.after.now) (words_after c.loop-word.rest.now) (fields_in (words_after c.args.rest.now)) c.in-Some.ensures.words c.in_ok-field.ensures c.loop-word.invariant)
 
 pub returns : goal.returns
-returns c = fields_done c.loop-word.fields (words_after c.loop-word.rest.now) (fields_of (words_after c.args.rest.now)) c.in_default.ensures.words c.loop-word.invariant
+returns c = fields_done c.loop-word.fields (words_after c.loop-word.rest.now) (fields_in (words_after c.args.rest.now)) c.in_default.ensures.words c.loop-word.invariant

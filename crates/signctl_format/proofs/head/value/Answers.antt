@@ -1,4 +1,4 @@
-use Rattle.signctl_format.specs.Heads.{value_of}
+use Rattle.signctl_format.specs.Escapes.{value_of}
 use Rattle.signctl_format.proofs.HeadWords.{value_more}
 use Rattle.signctl_format.proofs.head.value.Goals as goal
 

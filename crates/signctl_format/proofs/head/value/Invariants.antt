@@ -1,5 +1,5 @@
 use Rattle.std.proofs.Common.{◌≡◌, length}
-use Rattle.signctl_format.specs.Heads.{value_of}
+use Rattle.signctl_format.specs.Escapes.{value_of}
 use Rattle.signctl_format.proofs.HeadWords.{with_front}
 use Rattle.signctl_format.proofs.head.value.Given as goal
 

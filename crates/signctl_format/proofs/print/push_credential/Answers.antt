@@ -3,5 +3,5 @@ use Rattle.signctl_format.proofs.print.push_credential.Goals as goal
 
 pub returns-clause-ok : goal.returns-clause-ok
 returns-clause-ok c =
-    let added = rw (c.in_ok-push_second-2.ensures.ok, c.in_ok-push_second.ensures.ok, c.in_ok-push_number.ensures.ok) at c.push_second-3.ensures.ok in
+    let added = rw (c.in_ok-push_moment-2.ensures.ok, c.in_ok-push_moment.ensures.ok, c.in_ok-push_number.ensures.ok) at c.push_moment-3.ensures.ok in
     simp append-nil (simp append_assoc at added)

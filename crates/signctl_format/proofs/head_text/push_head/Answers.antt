@@ -1,5 +1,5 @@
 use Rattle.std.proofs.Common.{append_assoc}
-use Rattle.signctl_format.proofs.print.push_head.Goals as goal
+use Rattle.signctl_format.proofs.head_text.push_head.Goals as goal
 
 pub returns-clause-ok : goal.returns-clause-ok
 returns-clause-ok c =

@@ -1,0 +1,8 @@
+use Rattle.std.proofs.Common.{◌≡◌, ◌++◌, take}
+use Rattle.std.specs.Prelude.{map}
+use Rattle.signctl_format.specs.Words.{spaced_words}
+use Rattle.signctl_format.specs.Heads.{field_word}
+use Rattle.signctl_format.proofs.head_text.push_fields.Given as goal
+
+abbrev pub invariant-loop-field : goal.invariant-loop-field
+invariant-loop-field l = l.text.items ≡ l.fn.text.items ++ spaced_words (map field_word (take l.field-index l.fields))

@@ -1,0 +1,12 @@
+use Rattle.std.proofs.Common.{sym, arith}
+use Rattle.signctl_format.proofs.Fractions.{read_more, read_none}
+use Rattle.signctl_format.proofs.moment.+fraction.Goals as goal
+
+pub returns-in_ok-fraction-clause-value : goal.returns-in_ok-fraction-clause-value
+returns-in_ok-fraction-clause-value t c =
+    rw c.count-here.ensures.value (read_more c.args.places c.args.digits.now c.in_ok-fraction.field-0 (omega arith) (omega arith) (sym c.if-not-is_digit.ensures) c.in_ok-fraction.ensures.value)
+
+pub returns-else-here-gt0-clause-value : goal.returns-else-here-gt0-clause-value
+returns-else-here-gt0-clause-value t c =
+    let none = rw c.count-here.ensures.value at c.if-here-gt0.false in
+    read_none c.args.places c.args.digits.now (omega arith) (omega arith) (sym c.if-not-is_digit.ensures) c.if-rest-gt0.false none
