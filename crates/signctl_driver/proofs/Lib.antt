@@ -1,0 +1,11 @@
+pub mod Starts
+pub mod ReadLines
+pub mod Pieces
+pub mod Truncation
+pub mod LineSteps
+pub mod Progress
+pub mod RunState
+pub mod Closes
+pub mod Endings
+pub mod RunSteps
+pub mod RunFaults

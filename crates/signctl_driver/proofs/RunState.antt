@@ -1,0 +1,36 @@
+-- What holds of a run between two lines.
+use Rattle.std.proofs.Common.{◌≡◌, ◌⊎◌, ℕ, ◌≤◌, List, [], ◌++◌, length, Option, Some, None}
+use Rattle.std.specs.Io.KnownBytes.{Appends, Consumes, IsAtEnd}
+use Rattle.sign_base.specs.declared.close.Close.TheVariants as close
+use Rattle.sign_base.specs.LineInput.{LineInput, IsWithinLimit}
+use Rattle.signctl_driver.specs.Command.{Command, answers_to}
+use Rattle.signctl_driver.specs.Lines.{End}
+use Rattle.signctl_driver.specs.LinesRead.{lines_read}
+use Rattle.signctl_driver.specs.Serving.{HasServed}
+use Rattle.signctl_driver.specs.declared.service.Service.{Service}
+use Rattle.signctl_driver.proofs.Progress.{GoesOn}
+
+-- what a source has left or a sink holds, before the run and now
+pub record Since : Type 0 where
+  pub before : Option (List ℕ)
+  pub now : Option (List ℕ)
+
+-- what the bytes handed out say: the lines behind them are read behind these items; or all was read, and no line is bad
+abbrev pub IsReadSoFar : {Item Cause : Type 0} → Command Item Cause → Option (List ℕ) → List Item → List ℕ → LineInput → Type 0
+IsReadSoFar command left items bytes input =
+    ((input.closed ≡ None) × GoesOn command items bytes)
+    ⊎ ((input.closed ≡ Some close.End) × IsAtEnd left × (input.held ≡ []) × (lines_read command bytes End ≡ record { items = items; bad = None }))
+
+-- the items of the lines so far, the bytes of these lines, and the answers that were written
+pub record RunState {C Item Cause : Type 0} (command : Command Item Cause) (represents : C → List Item → Type 0) (source sink : Since) (input : LineInput) (service : Service C) : Type 0 where
+  pub items : List Item
+  pub bytes : List ℕ
+  pub written : List ℕ
+  pub served : HasServed represents service items
+  pub read : IsReadSoFar command source.now items bytes input
+  pub handed : length bytes ≡ input.handed
+  pub within : IsWithinLimit input
+  pub few : length items ≤ input.handed
+  pub taken : Consumes source.before source.now (bytes ++ input.held)
+  pub added : Appends sink.before sink.now written
+  pub answered : answers_to command items ≡ written ++ service.text.items

@@ -1,0 +1,9 @@
+pub mod Command
+pub mod Lines
+pub mod LinesRead
+pub mod Output
+pub mod Law
+pub mod Status
+pub mod Serving
+pub mod Run
+pub mod Turn

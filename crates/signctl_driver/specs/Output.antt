@@ -1,0 +1,43 @@
+-- The output of a command: a function of the bytes of its input, and of how they end.
+use Rattle.std.specs.Prelude.{ℕ, ◌+◌, List, [], ◌∷◌, ◌++◌, Option, Some, None, if◌then◌else◌, nat_lt, length, take, codes, decimal}
+use Rattle.std.specs.Io.{StartsWith}
+use Rattle.std.specs.Io.KnownBytes.{Appends}
+use Rattle.sign_base.specs.Bytes.{newline}
+use Rattle.sign_base.specs.Lines.{input_limit}
+use Rattle.signctl_driver.specs.Command.{Command, answers_to}
+use Rattle.signctl_driver.specs.Lines.{Ending, End, Fault}
+use Rattle.signctl_driver.specs.LinesRead.{LinesRead, lines_read}
+
+-- the line that names a bad line by its number and says why it is bad
+abbrev pub bad_line : ℕ → List ℕ → List ℕ
+bad_line number why = codes "line " ++ (decimal number ++ (codes ": " ++ (why ++ newline ∷ [])))
+
+-- the line that says that the input has too many bytes
+abbrev pub too_much_line : List ℕ
+too_much_line = codes "input too long" ++ newline ∷ []
+
+-- what comes behind the answers to so many items: the line that names a bad line, or this closing
+abbrev pub last_lines : List ℕ → ℕ → Option (List ℕ) → List ℕ
+last_lines closing count None = closing
+last_lines closing count (Some why) = bad_line (count + 1) why
+
+-- the answers to the lines before the first bad one, and what comes behind them
+abbrev pub output_of : {Item Cause : Type 0} → Command Item Cause → (List Item → List ℕ) → LinesRead Item → List ℕ
+output_of command closing lines =
+    answers_to command lines.items ++ last_lines (closing lines.items) (length lines.items) lines.bad
+
+-- what closes the output where no line is bad
+abbrev pub closing_at : {Item Cause : Type 0} → Command Item Cause → Ending → List Item → List ℕ
+closing_at command End items = command.closing items
+closing_at command Fault items = []
+
+-- the output to these bytes. Of too many bytes only the first are looked at, as where a read failed
+unfoldable pub output : {Item Cause : Type 0} → Command Item Cause → List ℕ → Ending → List ℕ
+output command bytes ending =
+    if nat_lt input_limit (length bytes)
+    then output_of command (λ items. too_much_line) (lines_read command (take input_limit bytes) Fault)
+    else output_of command (closing_at command ending) (lines_read command bytes ending)
+
+-- a sink whose contents can be observed has grown by a prefix of the text
+abbrev pub AppendsPrefix : Option (List ℕ) → Option (List ℕ) → List ℕ → Type 0
+AppendsPrefix old new text = (part : List ℕ) × StartsWith text part × Appends old new part

@@ -1,0 +1,16 @@
+//! One driver for all commands that read lines.
+#![tactic(auto)]
+
+pub mod command;
+pub mod driver;
+pub mod laws;
+pub mod output;
+mod printing;
+mod service;
+pub mod status;
+#[cfg(test)]
+mod tests;
+
+pub use command::LineCommand;
+pub use driver::drive;
+pub use status::Status;
