@@ -1,0 +1,7 @@
+pub mod BytesWords
+pub mod HmacGrammar
+pub mod HmacReading
+pub mod LineByLine
+pub mod HmacAnswers
+pub mod ViewGrammar
+pub mod ViewAnswers

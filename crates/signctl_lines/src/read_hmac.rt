@@ -1,0 +1,96 @@
+//! Reading a line of `hmac`: one function for each form, by the arguments of the call that it names.
+ghost use Rattle.std.specs.Prelude.{◌≡◌, IfOk};
+ghost use Rattle.signctl_format.specs.Readers.{words_after, Gives};
+ghost use Rattle.signctl_lines.specs.HmacReading.{call_named, unkeyed_form, keyed_form, decode_form, hmac_item_of};
+
+use crate::bytes_word::{bytes, text};
+use crate::{HashCall, HmacItem, KeyedCall, UnkeyedCall};
+use sign_base::NoMemory;
+use signctl_format::read_error::ReadError;
+use signctl_format::word::{at_end_of_line, is_silent, split_word, word_at};
+use std::alloc::Global;
+
+/// The item that a line without its newline spells, None where it spells none.
+///
+/// Nothing of the line is copied but what the item keeps.
+pub fn read_hmac_line(alloc: Global, line: &[u8]) -> Result<Option<HmacItem>, NoMemory<()>>
+    ensures { IfOk result (λ r. r ≡ hmac_item_of line.now) }
+{
+    match item(alloc, line) {
+        Ok(item) => Ok(Some(item)),
+        Err(ReadError::NotUnderstood) => Ok(None),
+        Err(ReadError::OutOfMemory) => Err(NoMemory { back: () }),
+    }
+}
+
+#[tactic(auto, unfolding(crate::specs::HmacReading::hmac_item_of, crate::specs::HmacReading::hmac_words_say))]
+fn item(alloc: Global, line: &[u8]) -> Result<HmacItem, ReadError>
+    ensures { Gives (λ i. i) result (hmac_item_of line.now) }
+{
+    if is_silent(line) {
+        return Ok(HmacItem::Silent);
+    }
+    let (name, rest) = split_word(line);
+    match call(name)? {
+        HashCall::Unkeyed(call) => unkeyed(alloc, call, rest),
+        HashCall::Keyed(call) => keyed(alloc, call, rest),
+        HashCall::Base64Decode => decode(alloc, rest),
+    }
+}
+
+/// The call that a word names.
+#[tactic(auto, unfolding(crate::specs::HmacReading::call_named))]
+fn call(name: &[u8]) -> Result<HashCall, ReadError>
+    ensures { Gives (λ c. c) result (call_named name.now) }
+{
+    if name == b"base64_encode".as_slice() {
+        Ok(HashCall::Unkeyed(UnkeyedCall::Base64Encode))
+    } else if name == b"base64_decode".as_slice() {
+        Ok(HashCall::Base64Decode)
+    } else if name == b"hex_sha1".as_slice() {
+        Ok(HashCall::Unkeyed(UnkeyedCall::HexSha1))
+    } else if name == b"hex_sha256".as_slice() {
+        Ok(HashCall::Unkeyed(UnkeyedCall::HexSha256))
+    } else if name == b"hmac_sha256".as_slice() {
+        Ok(HashCall::Keyed(KeyedCall::HmacSha256))
+    } else if name == b"hex_hmac_sha1".as_slice() {
+        Ok(HashCall::Keyed(KeyedCall::HexHmacSha1))
+    } else if name == b"hex_hmac_sha256".as_slice() {
+        Ok(HashCall::Keyed(KeyedCall::HexHmacSha256))
+    } else if name == b"base64_hmac_sha1".as_slice() {
+        Ok(HashCall::Keyed(KeyedCall::Base64HmacSha1))
+    } else if name == b"base64_hmac_sha256".as_slice() {
+        Ok(HashCall::Keyed(KeyedCall::Base64HmacSha256))
+    } else {
+        Err(ReadError::NotUnderstood)
+    }
+}
+
+#[tactic(auto, unfolding(crate::specs::HmacReading::unkeyed_form))]
+fn unkeyed(alloc: Global, call: UnkeyedCall, rest: &[u8]) -> Result<HmacItem, ReadError>
+    ensures { Gives (λ i. i) result (unkeyed_form call (words_after rest.now)) }
+{
+    let (word, rest) = word_at(rest)?;
+    let content = bytes(alloc, word)?;
+    at_end_of_line(HmacItem::Unkeyed { call, content }, rest)
+}
+
+#[tactic(auto, unfolding(crate::specs::HmacReading::keyed_form))]
+fn keyed(alloc: Global, call: KeyedCall, rest: &[u8]) -> Result<HmacItem, ReadError>
+    ensures { Gives (λ i. i) result (keyed_form call (words_after rest.now)) }
+{
+    let (word, rest) = word_at(rest)?;
+    let key = bytes(alloc, word)?;
+    let (word, rest) = word_at(rest)?;
+    let content = bytes(alloc, word)?;
+    at_end_of_line(HmacItem::Keyed { call, key, content }, rest)
+}
+
+#[tactic(auto, unfolding(crate::specs::HmacReading::decode_form))]
+fn decode(alloc: Global, rest: &[u8]) -> Result<HmacItem, ReadError>
+    ensures { Gives (λ i. i) result (decode_form (words_after rest.now)) }
+{
+    let (word, rest) = word_at(rest)?;
+    let content = text(alloc, word)?;
+    at_end_of_line(HmacItem::Base64Decode { content }, rest)
+}
