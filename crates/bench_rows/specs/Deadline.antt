@@ -3,6 +3,6 @@ use Rattle.std.specs.Prelude.{ℕ, ℤ, Option, Some, None}
 use Rattle.sign_base.specs.Moment.{add_moment}
 
 -- the end of an operation that takes so long from now, where that is a moment
-abbrev pub end_of : Option ℕ → ℤ → Option ℤ
-end_of None now = Some now
-end_of (Some duration) now = add_moment now duration
+abbrev pub key_deadline : Option ℕ → ℤ → Option ℤ
+key_deadline None now = Some now
+key_deadline (Some duration) now = add_moment now duration

@@ -1,7 +1,7 @@
 //! Three calls on a cold cache, run as one list of events.
 use sign_base::NoMemory;
 use sign_desk::{Desk, Event, Loader};
-use signctl_format::{Item, ScriptCredential, ScriptRule, push_reply, read_line};
+use signctl_format::{Item, ScriptCredential, ScriptRule, ScriptVersion, push_reply, read_line};
 use std::alloc::{AllocError, Global};
 use std::test::Fail;
 
@@ -33,8 +33,9 @@ const REPLIES: [&str; 9] = [
 fn events(alloc: Global) -> Result<Vec<Event<ScriptCredential>>, NoMemory<()>> {
     let mut events = Vec::new(alloc);
     for line in EVENTS {
-        if let Some(Item::Event(event)) = read_line(alloc, line.as_bytes())? {
-            events.push(event)?;
+        let item = read_line(alloc, ScriptVersion::One, line.as_bytes())?;
+        if let Some(Item::Event(event)) = item {
+            events.push(event.into_event())?;
         }
     }
     Ok(events)

@@ -42,11 +42,11 @@ impl SigningCredential for Key {
 struct ToTheEnd;
 
 impl DeadlineRule for ToTheEnd {
-    ghost use Rattle.bench_rows.specs.Deadline.{end_of};
+    ghost use Rattle.bench_rows.specs.Deadline.{key_deadline};
 
     type Credential = Key;
 
-    ghost deadline = { λ rule key duration now. end_of duration now };
+    ghost deadline = { λ rule key duration now. key_deadline duration now };
 
     fn required_valid_until(
         &self,
@@ -105,69 +105,73 @@ fn plain(alloc: Global, path: &str) -> Result<Head, NoMemory<()>> {
     })
 }
 
-/// Drives a begun call until it is signed or refused, and hands out the last reply: the provider is
-/// asked only where the desk says so, and the service signs with what the desk hands out.
-fn signed(
+/// The last reply to a call that was driven.
+type Driven = Result<Reply<Key>, NoMemory<()>>;
+
+/// A desk with the provider of its one cache.
+#[derive(Drop)]
+struct KeySigner {
     alloc: Global,
-    desk: &mut Desk<Key, ToTheEnd>,
-    keys: &mut Keys,
-    call: CallId,
-    path: &str,
-    now: Timestamp,
-) -> Result<Reply<Key>, NoMemory<()>> {
-    let mut reply = desk.step(&Event::Poll { call, now });
-    if let Reply::Ask { .. } = reply {
-        let answer = keys.answer(now);
-        reply = desk.step(&Event::Provided { call, now, answer });
-    }
-    match reply {
-        Reply::Sign { credential, .. } => Ok(desk.step(&Event::Signed {
-            call,
-            answer: Verdict::Accepted(made(alloc, path, &credential)?),
-        })),
-        other => Ok(other),
-    }
+    desk: Desk<Key, ToTheEnd>,
+    keys: Keys,
 }
 
-/// Begins a call and drives it, on a desk with no other. Where memory is wanting the call is given
-/// up, so that none stays behind.
-fn driven(
-    alloc: Global,
-    desk: &mut Desk<Key, ToTheEnd>,
-    keys: &mut Keys,
-    call: CallId,
-    path: &str,
-    now: Timestamp,
-) -> Result<Reply<Key>, NoMemory<()>> {
-    let begin = Event::Begin {
-        call,
-        head: plain(alloc, path)?,
-        expires_in: Some(Duration::from_secs(60)),
-    };
-    match desk.step(&begin) {
-        Reply::Begun => {}
-        other => return Ok(other),
-    }
-    match signed(alloc, desk, keys, call, path, now) {
-        Ok(Reply::OutOfMemory) | Err(_) => {
-            let _given_up = desk.step(&Event::Cancel { call });
-            Err(NoMemory { back: () })
+impl KeySigner {
+    /// Begins a call and drives it. Where an allocation fails the call is given up, so that none stays
+    /// behind.
+    fn sign(&mut self, call: CallId, path: &str, now: Timestamp) -> Driven {
+        let begin = Event::Begin {
+            call,
+            head: plain(self.alloc, path)?,
+            expires_in: Some(Duration::from_secs(60)),
+        };
+        match self.desk.step(&begin) {
+            Reply::Begun => {}
+            other => return Ok(other),
         }
-        ended => ended,
+        match self.drive(call, path, now) {
+            Ok(Reply::OutOfMemory) | Err(_) => {
+                let _given_up = self.desk.step(&Event::Cancel { call });
+                Err(NoMemory { back: () })
+            }
+            ended => ended,
+        }
+    }
+
+    /// Drives a begun call until it is signed or refused: the provider is asked only where the desk
+    /// says so, and the service signs with what the desk hands out.
+    fn drive(&mut self, call: CallId, path: &str, now: Timestamp) -> Driven {
+        let mut reply = self.desk.step(&Event::Poll { call, now });
+        if let Reply::Ask { .. } = reply {
+            let answer = self.keys.answer(now);
+            reply = self.desk.step(&Event::Provided { call, now, answer });
+        }
+        match reply {
+            Reply::Sign { credential, .. } => Ok(
+                self.desk.step(&Event::Signed {
+                    call,
+                    answer: Verdict::Accepted(made(self.alloc, path, &credential)?),
+                }),
+            ),
+            other => Ok(other),
+        }
     }
 }
 
 /// A key serves as long as it lasts to the end of the operation, and then the next is asked for.
 #[test]
 fn a_key_is_asked_for_once_while_it_lasts(rt: HostRuntime) -> Result<(), Fail> {
-    let mut desk: Desk<Key, ToTheEnd> = Desk::new(rt.alloc());
-    assert_eq!(rt; desk.add_cache(Loader::Single), Ok(0));
-    assert!(rt; desk.add_rule(ToTheEnd).is_ok());
-    assert_eq!(rt; desk.add_handle(0, 0), Ok(0));
-    let mut keys = Keys {
-        lifetime: Duration::from_secs(600),
-        asked: 0,
+    let mut signer = KeySigner {
+        alloc: rt.alloc(),
+        desk: Desk::new(rt.alloc()),
+        keys: Keys {
+            lifetime: Duration::from_secs(600),
+            asked: 0,
+        },
     };
+    assert_eq!(rt; signer.desk.add_cache(Loader::Single), Ok(0));
+    assert!(rt; signer.desk.add_rule(ToTheEnd).is_ok());
+    assert_eq!(rt; signer.desk.add_handle(0, 0), Ok(0));
     for (number, second, asked, header) in [
         (1, 0, 1, "key 1"),
         (2, 300, 1, "key 1"),
@@ -176,9 +180,7 @@ fn a_key_is_asked_for_once_while_it_lasts(rt: HostRuntime) -> Result<(), Fail> {
     ] {
         let now = Timestamp::from_second(rt.alloc(), second)?;
         let call = CallId { handle: 0, number };
-        let reply = driven(rt.alloc(), &mut desk, &mut keys, call, "/a", now).map_err(
-            |_| AllocError,
-        )?;
+        let reply = signer.sign(call, "/a", now).map_err(|_| AllocError)?;
         let Reply::Done { head } = reply else {
             return Err(Fail::from("the call is done"));
         };
@@ -186,8 +188,8 @@ fn a_key_is_asked_for_once_while_it_lasts(rt: HostRuntime) -> Result<(), Fail> {
             return Err(Fail::from("the head is signed"));
         };
         assert_eq!(rt; field.value.as_slice(), header.as_bytes());
-        assert_eq!(rt; keys.asked, asked);
+        assert_eq!(rt; signer.keys.asked, asked);
     }
-    assert_eq!(rt; desk.live(), 0);
+    assert_eq!(rt; signer.desk.live(), 0);
     Ok(())
 }

@@ -1,8 +1,7 @@
-pub mod Moved
-pub mod SetupIn
-pub mod NextLine
-pub mod LineCut
-pub mod ScriptLines
-pub mod ServedLines
-pub mod Closing
-pub mod RunAdds
+mod SetupIn
+mod ItemsIn
+mod PlainEvents
+mod LineGood
+mod NextLine
+mod Closing
+mod NothingRan

@@ -1,20 +1,18 @@
--- A session after one more good line stands for the items with this one behind them.
-use Rattle.std.proofs.Common.{◌≡◌, ℕ, ◌+◌, Option, Some, None, Result, Ok, Err, nat_lt, if◌then◌else◌, append_assoc, Bool, true, false, not, ◌&&◌, ◌==◌, List, [], ◌∷◌, ◌++◌, length, refl, sym, ap, ◌∙◌, subst, arith, inl, inr}
-use Rattle.std.proofs.lemmas.List.{append-nil, length_push}
-use Rattle.std.proofs.lemmas.Bool.Decides.{nat_tests}
-use Rattle.sequential_signer.specs.Setup.{Setup}
-use Rattle.sequential_signer.specs.Transcript.{kept, is_out_of_memory}
-use Rattle.sequential_signer.specs.ReplyDue.{reply_due}
-use Rattle.sequential_signer.specs.Legal.{IsLegalEntry, entries_due}
+-- A session after one more item represents the items with this one behind them.
+use Rattle.std.proofs.Common.{◌≡◌, ◌<◌, ℕ, arith, Option, Some, None, Result, Ok, Err, nat_lt, if◌then◌else◌, append_assoc, Bool, true, false, not, List, [], ◌∷◌, ◌++◌, length, refl, sym, ap, ◌∙◌, subst, inl, inr, map}
+use Rattle.std.proofs.lemmas.List.{append-nil, map-append}
+use Rattle.sequential_signer.specs.Setup.{Setup, Handle}
+use Rattle.sequential_signer.specs.Transcript.{committed_entries, is_out_of_memory}
+use Rattle.sequential_signer.specs.ExpectedReply.{expected_reply}
+use Rattle.sequential_signer.specs.Legal.{IsLegalEntry, expected_entries}
 use Rattle.sequential_signer.specs.declared.event.Entry.{Entry}
 use Rattle.sequential_signer.specs.declared.event.Event.{Event}
 use Rattle.sequential_signer.specs.declared.event.Loader.{Loader}
-use Rattle.sequential_signer.specs.declared.event.Loader.TheVariants.{Single, Chain}
 use Rattle.sequential_signer.specs.declared.event.Reply.{Reply}
 use Rattle.sequential_signer.specs.declared.event.Reply.TheVariants.{OutOfMemory}
-use Rattle.sequential_signer.proofs.Due.{kept-due}
-use Rattle.sign_desk.specs.Kept.{Kept, Represents, setup_of, was_begun}
-use Rattle.sign_desk.specs.Adding.{with_cache, with_handle, AddAnswer, late, handle_refusal}
+use Rattle.sequential_signer.proofs.ExpectedReplies.{committed_entries-expected, expected_entries-more}
+use Rattle.sign_desk.specs.DeskState.{DeskState, Represents, setup_of, was_begun}
+use Rattle.sign_desk.specs.Adding.{with_cache, with_handle, AddAnswer, late_refusal, handle_refusal}
 use Rattle.sign_desk.specs.declared.adding.AddError.{AddError}
 use Rattle.sign_desk.specs.declared.adding.AddError.TheVariants.{Late, NoCache, NoRule}
 use Rattle.signctl_format.specs.declared.credential.ScriptCredential.{ScriptCredential}
@@ -22,145 +20,243 @@ use Rattle.signctl_format.specs.declared.credential.ScriptRule.{ScriptRule}
 use Rattle.signctl_format.specs.declared.credential.ScriptRule.TheVariants.{Now, Cred}
 use Rattle.signctl_format.specs.declared.item.Item.{Item}
 use Rattle.signctl_format.specs.declared.item.Item.TheVariants as item
+use Rattle.signctl_format.specs.declared.line_error.LineError.{LineError}
+use Rattle.signctl_format.specs.declared.line_error.LineError.TheVariants as line_error
+use Rattle.signctl_format.specs.declared.script_version.ScriptVersion.{ScriptVersion}
 use Rattle.signctl_format.specs.Policy.{script_policy}
-use Rattle.signctl_core.specs.Script.{setup_in, events_in, is_empty, is_built, place_of_rule}
-use Rattle.signctl_core.specs.ScriptOutput.{transcript_of, ended}
-use Rattle.signctl_core.specs.Standing.{StandsFor}
-use Rattle.signctl_core.proofs.SetupIn.{setup_in-silent, setup_in-cache, setup_in-handle, setup_in-event, events_in-more, transcript-none, transcript-silent, transcript-event, rules-same}
+use Rattle.signctl_format.specs.ScriptEvents.{plain_event}
+use Rattle.sign_base.specs.Bytes.{newline}
+use Rattle.sign_base.specs.Lines.{input_limit}
+use Rattle.signctl_core.specs.Script.{setup_in, events_in, items_in, version_in, is_empty, item_error, place_of_rule}
+use Rattle.signctl_core.specs.ScriptOutput.{transcript_of, with_newline}
+use Rattle.signctl_core.specs.SessionState.{SessionState, RepresentsItems, SessionRepresents}
+use Rattle.signctl_core.specs.declared.script_line.ScriptLine.{ScriptLine}
+use Rattle.signctl_core.specs.declared.script_line.ScriptLine.TheVariants.{VersionTwo, Says}
+use Rattle.signctl_format.specs.declared.script_version.ScriptVersion.TheVariants.{Two}
+use Rattle.signctl_core.proofs.SetupIn.{setup_in-silent, setup_in-cache, setup_in-handle, setup_in-event, events_in-more, rules-same}
+use Rattle.signctl_core.proofs.PlainEvents.{plain-reply}
+use Rattle.signctl_core.proofs.ItemsIn.{caches-few, handles-few, items_in-says, version_after-says}
 
-right_of : (a b : Bool) → (a && b) ≡ true → b ≡ true
-right_of true b h = h
-right_of false b h = cc
+-- a good line that sets the signer up comes before the first event, and its cache exists
+good_setup : (none there : Bool) → (if none then (if there then None else Some line_error.NoSuchCache) else Some line_error.Late) ≡ None → (none ≡ true) × (there ≡ true)
+good_setup true true h = (refl, refl)
+good_setup true false h = absurd (cc)
+good_setup false there h = absurd (cc)
 
-left_of : (a b : Bool) → (a && b) ≡ true → a ≡ true
-left_of true b h = refl
-left_of false b h = cc
+pub cache-no_event : (items : List Item) (loader : Loader) → item_error items (item.Cache loader) ≡ None → is_empty (events_in items) ≡ true
+cache-no_event items loader h = (good_setup (is_empty (events_in items)) true h).0
 
--- a cache and a handle are built only before the first event
-pub cache-no_event : (items : List Item) (loader : Loader) → is_built items (item.Cache loader) ≡ true → is_empty (events_in items) ≡ true
-cache-no_event items Single h = right_of _ _ h
-cache-no_event items (Chain n) h = cc
+pub handle-no_event : (items : List Item) (cache : ℕ) (rule : ScriptRule) → item_error items (item.Handle cache rule) ≡ None → is_empty (events_in items) ≡ true
+handle-no_event items cache rule h = (good_setup (is_empty (events_in items)) _ h).0
 
-pub handle-no_event : (items : List Item) (cache : ℕ) (rule : ScriptRule) → is_built items (item.Handle cache rule) ≡ true → is_empty (events_in items) ≡ true
-handle-no_event items cache rule h = right_of _ _ h
+pub handle-cache : (items : List Item) (cache : ℕ) (rule : ScriptRule) → item_error items (item.Handle cache rule) ≡ None → nat_lt cache (length (setup_in items).loaders) ≡ true
+handle-cache items cache rule h = (good_setup (is_empty (events_in items)) _ h).1
 
-module _ (desk : Kept ScriptCredential ScriptRule) (had : Bool) (lines : ℕ) (items : List Item) (stands : StandsFor desk had lines items) where
-  -- before the first event no begin was accepted
-  pub not_started : is_empty (events_in items) ≡ true → desk.started ≡ false
-  unfolding kept
+-- the note of an event makes an event list that isn't empty
+one-more : (xs : List (Event ScriptCredential)) (x : Event ScriptCredential) → not (is_empty (xs ++ x ∷ [])) ≡ true
+one-more [] x = refl
+one-more (y ∷ rest) x = refl
+
+-- a session that is seen so represents what it is seen as
+pub as_seen : (inside session : SessionState) (items : List Item) → inside ≡ session → RepresentsItems session items → RepresentsItems inside items
+as_seen inside session items seen stands = let P : SessionState → Type 0 = λ s. RepresentsItems s items in subst P (sym seen) stands
+
+-- a session with this desk and this note
+abbrev with_desk : DeskState ScriptCredential ScriptRule → Bool → SessionState → SessionState
+with_desk desk had_event session = record session { desk = desk; had_event = had_event }
+
+-- nothing came before the first event
+stepped-none : (stepped events : List (Event ScriptCredential)) → map plain_event stepped ≡ events → is_empty events ≡ true → stepped ≡ []
+stepped-none [] events e h = refl
+stepped-none (x ∷ rest) [] e h = absurd (cc)
+stepped-none (x ∷ rest) (y ∷ more) e h = absurd (cc)
+
+module _ (session : SessionState) (items : List Item) (stands : RepresentsItems session items) where
+  -- before the first event the desk has taken none
+  no_steps : is_empty (events_in items) ≡ true → stands.stepped ≡ []
+  no_steps h = stepped-none stands.stepped (events_in items) stands.events h
+
+  -- so it represents the empty transcript
+  no_transcript : is_empty (events_in items) ≡ true → expected_entries script_policy (setup_in items) stands.stepped ≡ []
+  unfolding expected_entries
+  no_transcript h = ap (λ (v : List (Event ScriptCredential)). expected_entries script_policy (setup_in items) v) (no_steps h)
+
+  -- and no begin was accepted
+  pub not_started : is_empty (events_in items) ≡ true → session.desk.started ≡ false
+  unfolding committed_entries
   not_started h =
       stands.represents.started
-      ∙ ap (λ (t : List (Entry ScriptCredential)). was_begun (kept t)) (transcript-none items h)
+      ∙ ap (λ (t : List (Entry ScriptCredential)). was_begun (committed_entries t)) (no_transcript h)
 
-  pub next-silent : StandsFor desk had (lines + 1) (items ++ item.Silent ∷ [])
+  -- a line that leaves setup and events
+  pub next-silent : RepresentsItems session (items ++ item.Silent ∷ [])
   next-silent = record {
     setup = stands.setup ∙ sym (setup_in-silent items);
-    represents = let P : List (Entry ScriptCredential) → Type 0 = λ t. Represents script_policy desk t in subst P (sym (transcript-silent items)) stands.represents;
-    events = stands.events ∙ ap (λ (v : List (Event ScriptCredential)). not (is_empty v)) (sym (events_in-more items item.Silent ∙ append-nil (events_in items)));
-    count = ap (λ n. n + 1) stands.count ∙ sym (length_push items item.Silent);
+    stepped = stands.stepped;
+    events = stands.events ∙ sym (events_in-more items item.Silent ∙ append-nil (events_in items));
+    represents =
+        let P : Setup ScriptRule → Type 0 = λ s. Represents script_policy session.desk (expected_entries script_policy s stands.stepped) in
+        subst P (sym (setup_in-silent items)) stands.represents;
+    note = stands.note ∙ ap (λ (v : List (Event ScriptCredential)). not (is_empty v)) (sym (events_in-more items item.Silent ∙ append-nil (events_in items)));
   }
 
   -- a desk that is set up further, before the first event
-  next-setup : (new : Kept ScriptCredential ScriptRule) (x : Item) → is_empty (events_in items) ≡ true → events_in (items ++ x ∷ []) ≡ events_in items → setup_of new ≡ setup_in (items ++ x ∷ []) → Represents script_policy new [] → StandsFor new had (lines + 1) (items ++ x ∷ [])
+  next-setup : (new : DeskState ScriptCredential ScriptRule) (x : Item) → is_empty (events_in items) ≡ true → events_in (items ++ x ∷ []) ≡ events_in items
+      → setup_of new ≡ setup_in (items ++ x ∷ []) → Represents script_policy new [] → RepresentsItems (with_desk new session.had_event session) (items ++ x ∷ [])
+  unfolding expected_entries
   next-setup new x none same setup fresh = record {
     setup = setup;
-    represents = let P : List (Entry ScriptCredential) → Type 0 = λ t. Represents script_policy new t in subst P (sym (transcript-none (items ++ x ∷ []) (ap (λ (v : List (Event ScriptCredential)). is_empty v) same ∙ none))) fresh;
-    events = stands.events ∙ ap (λ (v : List (Event ScriptCredential)). not (is_empty v)) (sym same);
-    count = ap (λ n. n + 1) stands.count ∙ sym (length_push items x);
+    stepped = [];
+    events = ap (λ (v : List (Event ScriptCredential)). map plain_event v) (sym (no_steps none)) ∙ stands.events ∙ sym same;
+    represents = fresh;
+    note = stands.note ∙ ap (λ (v : List (Event ScriptCredential)). not (is_empty v)) (sym same);
   }
 
-  pub next-cache : (new : Kept ScriptCredential ScriptRule) (loader : Loader) → is_built items (item.Cache loader) ≡ true → new ≡ with_cache loader desk → Represents script_policy new [] → StandsFor new had (lines + 1) (items ++ item.Cache loader ∷ [])
-  next-cache new loader built added fresh =
-      next-setup new (item.Cache loader) (cache-no_event items loader built)
+  -- one cache more
+  pub next-cache : (new : DeskState ScriptCredential ScriptRule) (loader : Loader) → item_error items (item.Cache loader) ≡ None → new ≡ with_cache loader session.desk
+      → Represents script_policy new [] → RepresentsItems (with_desk new session.had_event session) (items ++ item.Cache loader ∷ [])
+  next-cache new loader good added fresh =
+      next-setup new (item.Cache loader) (cache-no_event items loader good)
       (events_in-more items (item.Cache loader) ∙ append-nil (events_in items))
-      (ap (λ (d : Kept ScriptCredential ScriptRule). setup_of d) added
+      (ap (λ (d : DeskState ScriptCredential ScriptRule). setup_of d) added
       ∙ ap (λ (s : Setup ScriptRule). record s { loaders = s.loaders ++ loader ∷ [] }) stands.setup
       ∙ sym (setup_in-cache items loader))
       fresh
 
-  pub next-handle : (new : Kept ScriptCredential ScriptRule) (cache : ℕ) (rule : ScriptRule) → is_built items (item.Handle cache rule) ≡ true → new ≡ with_handle cache (place_of_rule rule) desk → Represents script_policy new [] → StandsFor new had (lines + 1) (items ++ item.Handle cache rule ∷ [])
-  next-handle new cache rule built added fresh =
-      next-setup new (item.Handle cache rule) (handle-no_event items cache rule built)
+  -- one handle more
+  pub next-handle : (new : DeskState ScriptCredential ScriptRule) (cache : ℕ) (rule : ScriptRule) → item_error items (item.Handle cache rule) ≡ None → new ≡ with_handle cache (place_of_rule rule) session.desk
+      → Represents script_policy new [] → RepresentsItems (with_desk new session.had_event session) (items ++ item.Handle cache rule ∷ [])
+  next-handle new cache rule good added fresh =
+      next-setup new (item.Handle cache rule) (handle-no_event items cache rule good)
       (events_in-more items (item.Handle cache rule) ∙ append-nil (events_in items))
-      (ap (λ (d : Kept ScriptCredential ScriptRule). setup_of d) added
+      (ap (λ (d : DeskState ScriptCredential ScriptRule). setup_of d) added
       ∙ ap (λ (s : Setup ScriptRule). record s { handles = s.handles ++ record { cache = cache; rule = place_of_rule rule } ∷ [] }) stands.setup
       ∙ sym (setup_in-handle items cache rule))
       fresh
 
-  -- the transcript counts whole, so the reply that is legal in memory is the one that is due
-  pub reply-due : (event : Event ScriptCredential) (reply : Reply ScriptCredential) → IsLegalEntry script_policy (setup_of desk) (kept (transcript_of items)) (record { event = event; reply = reply }) → (reply ≡ OutOfMemory → ⊥) → reply ≡ reply_due script_policy (setup_in items) (transcript_of items) event
-  reply-due event reply (inl due) in_memory =
-      due
-      ∙ ap (λ (s : Setup ScriptRule). reply_due script_policy s (kept (transcript_of items)) event) stands.setup
-      ∙ ap (λ (t : List (Entry ScriptCredential)). reply_due script_policy (setup_in items) t event) (kept-due script_policy (setup_in items) (events_in items))
-  reply-due event reply (inr lost) in_memory = absurd (in_memory lost.0)
+  -- all entries are committed, so the legal reply other than out of memory is the expected one, also to the event as the
+  -- line has it
+  pub reply-expected : (event : Event ScriptCredential) (reply : Reply ScriptCredential)
+      → IsLegalEntry script_policy (setup_of session.desk) (committed_entries (expected_entries script_policy (setup_in items) stands.stepped)) (record { event = event; reply = reply })
+      → (reply ≡ OutOfMemory → ⊥) → reply ≡ expected_reply script_policy (setup_in items) (expected_entries script_policy (setup_in items) stands.stepped) event
+  reply-expected event reply (inl expected) in_memory =
+      expected
+      ∙ ap (λ (s : Setup ScriptRule). expected_reply script_policy s (committed_entries (expected_entries script_policy (setup_in items) stands.stepped)) event) stands.setup
+      ∙ ap (λ (t : List (Entry ScriptCredential)). expected_reply script_policy (setup_in items) t event) (committed_entries-expected script_policy (setup_in items) stands.stepped)
+  reply-expected event reply (inr lost) in_memory = absurd (in_memory lost.0)
 
-  pub next-event : (new : Kept ScriptCredential ScriptRule) (event : Event ScriptCredential) (reply : Reply ScriptCredential) → setup_of new ≡ setup_of desk → Represents script_policy new (transcript_of items ++ record { event = event; reply = reply } ∷ []) → reply ≡ reply_due script_policy (setup_in items) (transcript_of items) event → StandsFor new true (lines + 1) (items ++ item.Event event ∷ [])
-  next-event new event reply setup represents due = record {
-    setup = setup ∙ stands.setup ∙ sym (setup_in-event items event);
+  -- the expected reply to an event as the line has it
+  pub reply-plain : (event : Event ScriptCredential) → expected_reply script_policy (setup_in items) (expected_entries script_policy (setup_in items) stands.stepped) event
+      ≡ expected_reply script_policy (setup_in items) (transcript_of items) (plain_event event)
+  reply-plain event =
+      sym (plain-reply (setup_in items) stands.stepped event)
+      ∙ ap (λ (v : List (Event ScriptCredential)). expected_reply script_policy (setup_in items) (expected_entries script_policy (setup_in items) v) (plain_event event)) stands.events
+
+  -- one event more
+  pub next-event : (new : DeskState ScriptCredential ScriptRule) (event : Event ScriptCredential) (reply : Reply ScriptCredential) → setup_of new ≡ setup_of session.desk
+      → Represents script_policy new (expected_entries script_policy (setup_in items) stands.stepped ++ record { event = event; reply = reply } ∷ [])
+      → reply ≡ expected_reply script_policy (setup_in items) (expected_entries script_policy (setup_in items) stands.stepped) event
+      → RepresentsItems (with_desk new true session) (items ++ item.Event (plain_event event) ∷ [])
+  next-event new event reply setup represents expected = record {
+    setup = setup ∙ stands.setup ∙ sym (setup_in-event items (plain_event event));
+    stepped = stands.stepped ++ event ∷ [];
+    events = map-append plain_event stands.stepped (event ∷ []) ∙ ap (λ (v : List (Event ScriptCredential)). v ++ plain_event event ∷ []) stands.events ∙ sym (events_in-more items (item.Event (plain_event event)));
     represents =
         let P : List (Entry ScriptCredential) → Type 0 = λ t. Represents script_policy new t in
-        subst P (ap (λ (r : Reply ScriptCredential). transcript_of items ++ record { event = event; reply = r } ∷ []) due ∙ sym (transcript-event items event)) represents;
-    events = sym (ap (λ (v : List (Event ScriptCredential)). not (is_empty v)) (events_in-more items (item.Event event)) ∙ one-more (events_in items) event);
-    count = ap (λ n. n + 1) stands.count ∙ sym (length_push items (item.Event event));
+        let Q : Setup ScriptRule → Type 0 = λ s. Represents script_policy new (expected_entries script_policy s (stands.stepped ++ event ∷ [])) in
+        subst Q (sym (setup_in-event items (plain_event event)))
+        (subst P (ap (λ (r : Reply ScriptCredential). expected_entries script_policy (setup_in items) stands.stepped ++ record { event = event; reply = r } ∷ []) expected ∙ sym (expected_entries-more script_policy (setup_in items) stands.stepped event)) represents);
+    note = sym (ap (λ (v : List (Event ScriptCredential)). not (is_empty v)) (events_in-more items (item.Event (plain_event event))) ∙ one-more (events_in items) (plain_event event));
   }
-    where
-      one-more : (xs : List (Event ScriptCredential)) (x : Event ScriptCredential) → not (is_empty (xs ++ x ∷ [])) ≡ true
-      one-more [] x = refl
-      one-more (y ∷ rest) x = refl
 
-  loaders-same : desk.loaders ≡ (setup_in items).loaders
+  -- the caches of the desk are those of the lines
+  pub loaders-same : session.desk.loaders ≡ (setup_in items).loaders
   loaders-same = ap (λ (s : Setup ScriptRule). s.loaders) stands.setup
 
-  -- before the first event the one refusal of a new cache is want of memory, and its number counts those before it
-  answer-in_time : (why : Option AddError) (number : ℕ) (answer : Result ℕ AddError) → is_empty (events_in items) ≡ true → AddAnswer (if desk.started then Some Late else why) number answer → AddAnswer why number answer
+  -- so are its handles
+  pub handles-same : session.desk.handles ≡ (setup_in items).handles
+  handles-same = ap (λ (s : Setup ScriptRule). s.handles) stands.setup
+
+  -- there is a number for one cache more
+  pub caches-fit : length items < input_limit → length session.desk.loaders < 4294967295
+  caches-fit few = omega (arith, few, caches-few items, ap (λ (v : List Loader). length v) loaders-same)
+
+  -- and for one handle more
+  pub handles-fit : length items < input_limit → length session.desk.handles < 4294967295
+  handles-fit few = omega (arith, few, handles-few items, ap (λ (v : List Handle). length v) handles-same)
+
+  -- before the first event nothing is added too late
+  answer-in_time : (why : Option AddError) (number : ℕ) (answer : Result ℕ AddError) → is_empty (events_in items) ≡ true
+      → AddAnswer (if session.desk.started then Some Late else why) number answer → AddAnswer why number answer
   answer-in_time why number answer none h =
       let P : Bool → Type 0 = λ b. AddAnswer (if b then Some Late else why) number answer in subst P (not_started none) h
 
-  pub cache-wanting : (loader : Loader) (e : AddError) → is_built items (item.Cache loader) ≡ true → AddAnswer (late desk) (length desk.loaders) (Err e) → e ≡ AddError.OutOfMemory
-  cache-wanting loader e built h = answer-in_time None (length desk.loaders) (Err e) (cache-no_event items loader built) h
+  -- the one refusal of a new cache is out of memory, and its number counts those before it
+  pub cache-out_of_memory : (loader : Loader) (e : AddError) → item_error items (item.Cache loader) ≡ None → AddAnswer (late_refusal session.desk) (length session.desk.loaders) (Err e) → e ≡ AddError.OutOfMemory
+  cache-out_of_memory loader e good h = answer-in_time None (length session.desk.loaders) (Err e) (cache-no_event items loader good) h
 
-  pub cache-number : (loader : Loader) (n : ℕ) → is_built items (item.Cache loader) ≡ true → AddAnswer (late desk) (length desk.loaders) (Ok n) → n ≡ length (setup_in items).loaders
-  cache-number loader n built h =
-      answer-in_time None (length desk.loaders) (Ok n) (cache-no_event items loader built) h ∙ ap (λ (v : List Loader). length v) loaders-same
+  pub cache-number : (loader : Loader) (n : ℕ) → item_error items (item.Cache loader) ≡ None → AddAnswer (late_refusal session.desk) (length session.desk.loaders) (Ok n) → n ≡ length (setup_in items).loaders
+  cache-number loader n good h =
+      answer-in_time None (length session.desk.loaders) (Ok n) (cache-no_event items loader good) h ∙ ap (λ (v : List Loader). length v) loaders-same
 
-  -- the cache of a handle is there, and so are both rules
-  handle-in_place : (cache : ℕ) (rule : ScriptRule) → is_built items (item.Handle cache rule) ≡ true → (number : ℕ) (answer : Result ℕ AddError) → AddAnswer (handle_refusal desk cache (place_of_rule rule)) number answer → AddAnswer None number answer
-  handle-in_place cache rule built number answer h =
-      let front = left_of _ _ (left_of _ _ built) in
-      let zero : (cache == 0) ≡ true = left_of _ _ front in
-      let one : (length (setup_in items).loaders == 1) ≡ true = right_of (cache == 0) _ front in
-      let there : nat_lt cache (length desk.loaders) ≡ true = below_one cache (length desk.loaders) zero (ap (λ (v : List Loader). length v == 1) loaders-same ∙ one) in
-      let ruled : nat_lt (place_of_rule rule) (length desk.rules) ≡ true = both_rules rule (ap (λ (s : Setup ScriptRule). s.rules) stands.setup) in
-      let timely = answer-in_time (if nat_lt cache (length desk.loaders) then (if nat_lt (place_of_rule rule) (length desk.rules) then None else Some (NoRule (place_of_rule rule))) else Some (NoCache cache)) number answer (handle-no_event items cache rule built) h in
-      let P : Bool → Type 0 = λ b. AddAnswer (if b then (if nat_lt (place_of_rule rule) (length desk.rules) then None else Some (NoRule (place_of_rule rule))) else Some (NoCache cache)) number answer in
+  -- both rules are there
+  both_rules : (r : ScriptRule) → session.desk.rules ≡ (setup_in items).rules → nat_lt (place_of_rule r) (length session.desk.rules) ≡ true
+  both_rules Now e = ap (λ (v : List ScriptRule). nat_lt 0 (length v)) (e ∙ rules-same items)
+  both_rules Cred e = ap (λ (v : List ScriptRule). nat_lt 1 (length v)) (e ∙ rules-same items)
+
+  -- the cache of a handle is there, and so is its rule
+  handle-in_place : (cache : ℕ) (rule : ScriptRule) → item_error items (item.Handle cache rule) ≡ None → (number : ℕ) (answer : Result ℕ AddError)
+      → AddAnswer (handle_refusal session.desk cache (place_of_rule rule)) number answer → AddAnswer None number answer
+  handle-in_place cache rule good number answer h =
+      let there : nat_lt cache (length session.desk.loaders) ≡ true = ap (λ (v : List Loader). nat_lt cache (length v)) loaders-same ∙ handle-cache items cache rule good in
+      let ruled : nat_lt (place_of_rule rule) (length session.desk.rules) ≡ true = both_rules rule (ap (λ (s : Setup ScriptRule). s.rules) stands.setup) in
+      let timely = answer-in_time (if nat_lt cache (length session.desk.loaders) then (if nat_lt (place_of_rule rule) (length session.desk.rules) then None else Some (NoRule (place_of_rule rule))) else Some (NoCache cache)) number answer (handle-no_event items cache rule good) h in
+      let P : Bool → Type 0 = λ b. AddAnswer (if b then (if nat_lt (place_of_rule rule) (length session.desk.rules) then None else Some (NoRule (place_of_rule rule))) else Some (NoCache cache)) number answer in
       let Q : Bool → Type 0 = λ b. AddAnswer (if b then None else Some (NoRule (place_of_rule rule))) number answer in
       subst Q ruled (subst P there timely)
-    where
-      below_one : (n m : ℕ) → (n == 0) ≡ true → (m == 1) ≡ true → nat_lt n m ≡ true
-      below_one n m z o = grind (arith, nat_tests)
 
-      both_rules : (r : ScriptRule) → desk.rules ≡ (setup_in items).rules → nat_lt (place_of_rule r) (length desk.rules) ≡ true
-      both_rules Now e = ap (λ (v : List ScriptRule). nat_lt 0 (length v)) (e ∙ rules-same items)
-      both_rules Cred e = ap (λ (v : List ScriptRule). nat_lt 1 (length v)) (e ∙ rules-same items)
+  -- the one refusal of a new handle is out of memory, and its number counts those before it
+  pub handle-out_of_memory : (cache : ℕ) (rule : ScriptRule) (e : AddError) → item_error items (item.Handle cache rule) ≡ None → AddAnswer (handle_refusal session.desk cache (place_of_rule rule)) (length session.desk.handles) (Err e) → e ≡ AddError.OutOfMemory
+  handle-out_of_memory cache rule e good h = handle-in_place cache rule good (length session.desk.handles) (Err e) h
 
-  pub handle-wanting : (cache : ℕ) (rule : ScriptRule) (e : AddError) → is_built items (item.Handle cache rule) ≡ true → AddAnswer (handle_refusal desk cache (place_of_rule rule)) (length desk.handles) (Err e) → e ≡ AddError.OutOfMemory
-  handle-wanting cache rule e built h = handle-in_place cache rule built (length desk.handles) (Err e) h
-
-  pub handle-number : (cache : ℕ) (rule : ScriptRule) (n : ℕ) → is_built items (item.Handle cache rule) ≡ true → AddAnswer (handle_refusal desk cache (place_of_rule rule)) (length desk.handles) (Ok n) → n ≡ length (setup_in items).handles
-  handle-number cache rule n built h =
-      handle-in_place cache rule built (length desk.handles) (Ok n) h ∙ ap (λ (s : Setup ScriptRule). length s.handles) stands.setup
+  pub handle-number : (cache : ℕ) (rule : ScriptRule) (n : ℕ) → item_error items (item.Handle cache rule) ≡ None → AddAnswer (handle_refusal session.desk cache (place_of_rule rule)) (length session.desk.handles) (Ok n) → n ≡ length (setup_in items).handles
+  handle-number cache rule n good h =
+      handle-in_place cache rule good (length session.desk.handles) (Ok n) h ∙ ap (λ (s : Setup ScriptRule). length s.handles) stands.setup
 
 -- a line that is added and ended
-pub line-ended : (old mid new line : List ℕ) → mid ≡ old ++ line → new ≡ mid ++ 10 ∷ [] → new ≡ old ++ ended line
-line-ended old mid new line added end =
-    end ∙ ap (λ (v : List ℕ). v ++ 10 ∷ []) added ∙ append_assoc old line (10 ∷ [])
+pub line-with_newline : (old mid new line : List ℕ) → mid ≡ old ++ line → new ≡ mid ++ newline ∷ [] → new ≡ old ++ with_newline line
+line-with_newline old mid new line added end =
+    end ∙ ap (λ (v : List ℕ). v ++ newline ∷ []) added ∙ append_assoc old line (newline ∷ [])
 
 -- a desk with the two rules alone stands before the first line
-pub first-line : (desk : Kept ScriptCredential ScriptRule) → setup_of desk ≡ record { loaders = []; rules = Now ∷ Cred ∷ []; handles = [] } → Represents script_policy desk [] → StandsFor desk false 0 []
-unfolding setup_in events_in entries_due
-first-line desk setup fresh = record { setup = setup; represents = fresh; events = refl; count = refl }
+pub first-line : (session : SessionState) → setup_of session.desk ≡ record { loaders = []; rules = Now ∷ Cred ∷ []; handles = [] } → Represents script_policy session.desk [] → session.had_event ≡ false → RepresentsItems session []
+unfolding setup_in events_in expected_entries
+first-line session setup fresh none = record { setup = setup; stepped = []; events = refl; represents = fresh; note = none }
 
--- a reply that isn't want of memory
-pub not-wanting : (reply : Reply ScriptCredential) → is_out_of_memory reply ≡ false → reply ≡ OutOfMemory → ⊥
-not-wanting reply kept_reply lost = let e : is_out_of_memory reply ≡ true = ap (λ (r : Reply ScriptCredential). is_out_of_memory r) lost in absurd (cc)
+-- a reply that isn't out of memory
+pub not-out_of_memory : (reply : Reply ScriptCredential) → is_out_of_memory reply ≡ false → reply ≡ OutOfMemory → ⊥
+not-out_of_memory reply good lost = let e : is_out_of_memory reply ≡ true = ap (λ (r : Reply ScriptCredential). is_out_of_memory r) lost in absurd (cc)
+
+-- the note of a version leaves what a session represents
+noted : (session : SessionState) (items : List Item) (version : Option ScriptVersion) → RepresentsItems session items → RepresentsItems (record session { version = version }) items
+noted session items version r = record { setup = r.setup; stepped = r.stepped; events = r.events; represents = r.represents; note = r.note }
+
+-- after the version line
+pub next-version : (inside session : SessionState) → inside ≡ session → SessionRepresents session [] → SessionRepresents (record inside { version = Some Two }) (VersionTwo ∷ [])
+unfolding items_in
+next-version inside session seen r = record { items = noted inside [] (Some Two) (as_seen inside session [] seen r.items); version = refl }
+
+-- after a line that says something
+pub next-says : (inside session : SessionState) (lines : List ScriptLine) (item : Item) (version : ScriptVersion) → inside ≡ session → RepresentsItems session (items_in lines ++ item ∷ [])
+    → Some version ≡ Some (version_in lines) → SessionRepresents (record inside { version = Some version }) (lines ++ Says item ∷ [])
+next-says inside session lines item version seen r v =
+    let P : List Item → Type 0 = λ items. RepresentsItems (record inside { version = Some version }) items in record {
+      items = subst P (sym (items_in-says lines item)) (noted inside _ (Some version) (as_seen inside session _ seen r));
+      version = v ∙ sym (version_after-says lines item);
+    }
+
+-- a session before the first line
+pub first-session : (desk : DeskState ScriptCredential ScriptRule) → setup_of desk ≡ record { loaders = []; rules = Now ∷ Cred ∷ []; handles = [] } → Represents script_policy desk []
+    → SessionRepresents (record { desk = desk; had_event = false; version = None }) []
+unfolding items_in
+first-session desk setup fresh = record { items = first-line (record { desk = desk; had_event = false; version = None }) setup fresh refl; version = refl }

@@ -4,18 +4,13 @@ use Rattle.std.specs.List.{filter_map}
 use Rattle.std.proofs.lemmas.List.{append-nil}
 use Rattle.std.proofs.lemmas.List.Elements.{filter_map-append}
 use Rattle.sequential_signer.specs.Setup.{Setup, Handle}
-use Rattle.sequential_signer.specs.ReplyDue.{reply_due}
-use Rattle.sequential_signer.specs.Legal.{entries_due}
 use Rattle.sequential_signer.specs.declared.event.Event.{Event}
 use Rattle.sequential_signer.specs.declared.event.Loader.{Loader}
-use Rattle.sequential_signer.proofs.Due.{entries_due-more}
 use Rattle.signctl_format.specs.declared.credential.ScriptCredential.{ScriptCredential}
 use Rattle.signctl_format.specs.declared.credential.ScriptRule.{ScriptRule}
 use Rattle.signctl_format.specs.declared.item.Item.{Item}
 use Rattle.signctl_format.specs.declared.item.Item.TheVariants as item
-use Rattle.signctl_format.specs.Policy.{script_policy}
-use Rattle.signctl_core.specs.Script.{setup_in, events_in, is_empty, loader_in, handle_in, event_in, script_rules, place_of_rule}
-use Rattle.signctl_core.specs.ScriptOutput.{transcript_of}
+use Rattle.signctl_core.specs.Script.{setup_in, events_in, loader_in, handle_in, event_in, script_rules, place_of_rule}
 
 abbrev setup_by : List Loader → List Handle → Setup ScriptRule
 setup_by loaders handles = record { loaders = loaders; rules = script_rules; handles = handles }
@@ -65,25 +60,3 @@ unfolding setup_in
 setup_in-handle items cache rule =
     setup_in-more items (item.Handle cache rule)
     ∙ ap (λ (v : List Loader). setup_by v (filter_map handle_in items ++ record { cache = cache; rule = place_of_rule rule } ∷ [])) (append-nil _)
-
--- no event yet: the transcript is empty
-pub none-nil : {A : Type 0} (xs : List A) → is_empty xs ≡ true → xs ≡ []
-none-nil [] h = refl
-none-nil (x ∷ rest) h = cc
-
-pub transcript-none : (items : List Item) → is_empty (events_in items) ≡ true → transcript_of items ≡ []
-unfolding entries_due
-transcript-none items h = ap (λ (v : List (Event ScriptCredential)). entries_due script_policy (setup_in items) v) (none-nil (events_in items) h)
-
--- one event more: its reply is the one that is due
-pub transcript-event : (items : List Item) (e : Event ScriptCredential) → transcript_of (items ++ item.Event e ∷ []) ≡ transcript_of items ++ record { event = e; reply = reply_due script_policy (setup_in items) (transcript_of items) e } ∷ []
-transcript-event items e =
-    ap (λ (s : Setup ScriptRule). entries_due script_policy s (events_in (items ++ item.Event e ∷ []))) (setup_in-event items e)
-    ∙ ap (λ (v : List (Event ScriptCredential)). entries_due script_policy (setup_in items) v) (events_in-more items (item.Event e))
-    ∙ entries_due-more script_policy (setup_in items) (events_in items) e
-
--- a silent line leaves the transcript
-pub transcript-silent : (items : List Item) → transcript_of (items ++ item.Silent ∷ []) ≡ transcript_of items
-transcript-silent items =
-    ap (λ (s : Setup ScriptRule). entries_due script_policy s (events_in (items ++ item.Silent ∷ []))) (setup_in-silent items)
-    ∙ ap (λ (v : List (Event ScriptCredential)). entries_due script_policy (setup_in items) v) (events_in-more items item.Silent ∙ append-nil (events_in items))

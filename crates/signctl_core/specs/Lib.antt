@@ -1,8 +1,5 @@
-pub mod Status
-pub mod Input
-pub mod Output
 pub mod Script
 pub mod ScriptOutput
-pub mod Standing
-pub mod Serving
-pub mod Run
+pub mod SessionState
+pub mod Answering
+pub mod Commands

@@ -1,43 +1,44 @@
--- How a script is read: its lines, and the items that they spell, up to the first bad line.
-use Rattle.std.specs.Prelude.{ℕ, Bool, true, false, ◌&&◌, ◌==◌, List, [], ◌∷◌, ◌++◌, Option, Some, None, if◌then◌else◌, length, filter_map}
-use Rattle.std.specs.List.{slice_split}
+-- How the lines of a script are read.
+use Rattle.std.specs.Prelude.{ℕ, Bool, true, false, ◌&&◌, List, [], ◌∷◌, Option, Some, None, Result, Ok, Err, if◌then◌else◌, nat_lt, length, filter_map, unwrap_or}
 use Rattle.sequential_signer.specs.Setup.{Setup, Handle}
 use Rattle.sequential_signer.specs.declared.event.Event.{Event}
 use Rattle.sequential_signer.specs.declared.event.Loader.{Loader}
-use Rattle.sequential_signer.specs.declared.event.Loader.TheVariants.{Single, Chain}
 use Rattle.signctl_format.specs.declared.credential.ScriptCredential.{ScriptCredential}
 use Rattle.signctl_format.specs.declared.credential.ScriptRule.{ScriptRule}
 use Rattle.signctl_format.specs.declared.credential.ScriptRule.TheVariants.{Now, Cred}
 use Rattle.signctl_format.specs.declared.item.Item.{Item}
 use Rattle.signctl_format.specs.declared.item.Item.TheVariants as item
-use Rattle.signctl_format.specs.declared.print.Cause.{Cause}
-use Rattle.signctl_format.specs.declared.print.Cause.TheVariants.{NotUnderstood, NotBuilt}
+use Rattle.signctl_format.specs.declared.line_error.LineError.{LineError}
+use Rattle.signctl_format.specs.declared.line_error.LineError.TheVariants.{NotUnderstood, Late, NoSuchCache}
+use Rattle.signctl_format.specs.declared.script_version.ScriptVersion.{ScriptVersion}
+use Rattle.signctl_format.specs.declared.script_version.ScriptVersion.TheVariants.{One, Two}
 use Rattle.signctl_format.specs.Reading.{item_of}
+use Rattle.signctl_format.specs.Grammar.{is_version_line}
+use Rattle.signctl_core.specs.declared.script_line.ScriptLine.{ScriptLine}
+use Rattle.signctl_core.specs.declared.script_line.ScriptLine.TheVariants.{VersionTwo, Says}
 
--- how the bytes come to their end: all were read, or a read failed
-pub data Ending : Type 0 where
-  End : Ending
-  Fault : Ending
+-- the item of a line
+abbrev pub item_in : ScriptLine → Option Item
+item_in VersionTwo = None
+item_in (Says item) = Some item
 
--- the ending by whether all was read
-abbrev pub ending_by : Bool → Ending
-ending_by true = End
-ending_by false = Fault
+-- the items of some lines
+unfoldable pub items_in : List ScriptLine → List Item
+items_in lines = filter_map item_in lines
 
--- the byte that ends a line
-abbrev pub is_newline : ℕ → Bool
-is_newline b = b == 10
+-- the version that a first line makes
+abbrev pub version_by : ScriptLine → ScriptVersion
+version_by VersionTwo = Two
+version_by (Says item) = One
 
--- a list without its last item
-abbrev pub all_but_last : {A : Type 0} → List A → List A
-all_but_last [] = []
-all_but_last (x ∷ []) = []
-all_but_last (x ∷ (y ∷ rest)) = x ∷ all_but_last (y ∷ rest)
+-- the version of a script, once it has a line
+abbrev pub version_after : List ScriptLine → Option ScriptVersion
+version_after [] = None
+version_after (first ∷ rest) = Some (version_by first)
 
--- the lines of the bytes. What stands behind the last newline is a line at the end, and none where a read failed
-abbrev pub lines_of : List ℕ → Ending → List (List ℕ)
-lines_of bytes End = slice_split is_newline bytes
-lines_of bytes Fault = all_but_last (slice_split is_newline bytes)
+-- the version that a line is read in, behind these
+abbrev pub version_in : List ScriptLine → ScriptVersion
+version_in lines = unwrap_or (version_after lines) One
 
 -- the loader of a cache line
 abbrev pub loader_in : Item → Option Loader
@@ -80,41 +81,31 @@ abbrev pub is_empty : {A : Type 0} → List A → Bool
 is_empty [] = true
 is_empty (x ∷ rest) = false
 
--- whether the program serves a line of this kind yet, behind the items of the lines before it
-abbrev pub is_built : List Item → Item → Bool
-is_built before item.Silent = true
-is_built before (item.Cache Single) = is_empty (setup_in before).loaders && is_empty (events_in before)
-is_built before (item.Cache (Chain providers)) = false
-is_built before (item.Handle cache rule) =
-    (cache == 0) && (length (setup_in before).loaders == 1) && is_empty (setup_in before).handles && is_empty (events_in before)
-is_built before (item.Event event) = true
+-- why a line that sets the signer up is bad behind these items, where it is: an event came before it, or its cache does
+-- not exist
+abbrev pub setup_error : List Item → Bool → Option LineError
+setup_error before there =
+    if is_empty (events_in before) then (if there then None else Some NoSuchCache) else Some Late
 
--- a line is good, with the item that it spells, or it is bad
-pub data Reading : Type 0 where
-  Good : Item → Reading
-  Bad : Cause → Reading
+-- why an item is bad behind these, where it is
+abbrev pub item_error : List Item → Item → Option LineError
+item_error before item.Silent = None
+item_error before (item.Cache loader) = setup_error before true
+item_error before (item.Handle cache rule) = setup_error before (nat_lt cache (length (setup_in before).loaders))
+item_error before (item.Event event) = None
 
--- a line that spells this item, or none, behind the items of the lines before it
-abbrev pub reading_of : List Item → Option Item → Reading
-reading_of before None = Bad NotUnderstood
-reading_of before (Some item) = if is_built before item then Good item else Bad NotBuilt
+-- a line with this item, or this error
+abbrev pub line_or : Item → Option LineError → Result ScriptLine LineError
+line_or item None = Ok (Says item)
+line_or item (Some why) = Err why
 
--- a script up to its first bad line: the items of the lines before it, and why it is bad
-pub record Script : Type 0 where
-  pub items : List Item
-  pub bad : Option Cause
+-- a line that spells this item, or none, behind these items
+abbrev pub item_reading : List Item → Option Item → Result ScriptLine LineError
+item_reading before None = Err NotUnderstood
+item_reading before (Some item) = line_or item (item_error before item)
 
--- a script with this line: it goes on where the line is good
-abbrev pub script_by : List Item → (List Item → Script) → Reading → Script
-script_by before go_on (Good item) = go_on (before ++ item ∷ [])
-script_by before go_on (Bad cause) = record { items = before; bad = Some cause }
-
--- the script that these lines go on with, behind the items of the lines before them
-unfoldable pub script_from : List Item → List (List ℕ) → Script
-script_from before [] = record { items = before; bad = None }
-script_from before (line ∷ rest) =
-    script_by before (λ items. script_from items rest) (reading_of before (item_of line))
-
--- the script of some bytes
-abbrev pub script_of : List ℕ → Ending → Script
-script_of bytes ending = script_from [] (lines_of bytes ending)
+-- what a line of a script reads as, behind these
+abbrev pub script_reading : List ScriptLine → List ℕ → Result ScriptLine LineError
+script_reading before line =
+    if is_empty before && is_version_line line then Ok VersionTwo
+    else item_reading (items_in before) (item_of (version_in before) line)

@@ -1,75 +1,83 @@
 //! The top call: a command by its words, over a source and a sink.
-ghost use Rattle.std.specs.Prelude.{◌≡◌, ◌≤◌, ◌↔◌, true, false, map, string_bytes};
-ghost use Rattle.sign_base.specs.Faults.{HasRisen};
-ghost use Rattle.signctl_core.specs.Run.{is_script, IfTold, ScriptAdds, IsAnswer, ended_by};
+ghost use Rattle.std.specs.Prelude.{◌≡◌, ◌≢◌, ◌↔◌, None, IfSome, map, string_bytes, is_some, IsTrue};
+ghost use Rattle.sign_base.specs.Faults.{CountsFault};
+ghost use Rattle.signctl_driver.specs.Status.{is_read_fault, is_write_fault};
+ghost use Rattle.signctl_core.specs.Commands.{command_by_word, command_named, Runs};
 
-use crate::input::{Close, Input};
-use crate::script::{Stop, serve_input};
-use crate::status::Status;
+use crate::session::Session;
 use sign_base::{Sink, Source};
+use signctl_driver::{Status, drive};
+use signctl_lines::{HmacCommand, ViewCommand};
 use std::alloc::Global;
 
-/// Runs the command that the words name. `script` reads a script from the source, and writes the
-/// answers to the sink; other words are none.
+/// A command of the program.
+#[derive(Clone, Copy, Debug, PartialEq, Eq)]
+pub enum CommandName {
+    Script,
+    Hmac,
+    View,
+}
+
+/// Runs the command that the words name: it reads lines from the source, and writes what they are
+/// answered to the sink.
 pub fn run<S: Source, D: Sink>(
     alloc: Global,
     words: &[String],
     source: &mut S,
     sink: &mut D,
 ) -> Status
-    // Usage comes exactly where the words are not the one word `script`, and touches nothing.
-    ensures usage { (result ≡ Status.Usage) ↔ (is_script (map string_bytes words.now) ≡ false) }
+    // Usage comes exactly where the words name no command, and touches nothing.
+    ensures usage { (result ≡ Status.Usage) ↔ (command_named (map string_bytes words.now) ≡ None) }
     ensures untouched { result ≡ Status.Usage → (source.new ≡ source.old) × (sink.new ≡ sink.old) }
 
-    // What was taken and added, of a source and a sink that tell their bytes.
-    ensures bytes { IfTold (S.left source.old) (S.left source.new) (D.holds sink.old) (D.holds sink.new) (ScriptAdds result) }
+    // What was taken and added.
+    ensures bytes { IfSome (command_named (map string_bytes words.now)) (λ name. Runs name result
+        (record { before = S.left source.old; after = S.left source.new })
+        (record { before = D.holds sink.old; after = D.holds sink.new })) }
 
-    // Of any source and sink.
-    ensures read_fault { result ≡ Status.ReadFault → HasRisen (S.faults source.old) (S.faults source.new) }
-    ensures write_fault { result ≡ Status.WriteFault → HasRisen (D.faults sink.old) (D.faults sink.new) }
-    ensures reads { S.faults source.old ≤ S.faults source.new }
-    ensures writes { D.faults sink.old ≤ D.faults sink.new }
-
-    // Where no fault was met, a script is answered, unless memory was wanting.
-    ensures complete { is_script (map string_bytes words.now) ≡ true
-        → (HasRisen (S.faults source.old) (S.faults source.new) → ⊥)
-        → (HasRisen (D.faults sink.old) (D.faults sink.new) → ⊥) → IsAnswer result }
+    // A count of faults rises by one exactly where the status says so, and else stays.
+    ensures reads { CountsFault (is_read_fault result) (S.faults source.old) (S.faults source.new) }
+    ensures writes { CountsFault (is_write_fault result) (D.faults sink.old) (D.faults sink.new) }
 {
-    if !is_script_command(words) {
-        return Status::Usage;
-    }
-    match Input::read(alloc, source) {
-        Ok(input) => status_of(serve_input(alloc, &input, sink), input.close),
-        Err(_) => Status::OutOfMemory,
+    match command_of(words) {
+        None => Status::Usage,
+        Some(CommandName::Script) => run_script(alloc, source, sink),
+        Some(CommandName::Hmac) => drive(alloc, HmacCommand, source, sink),
+        Some(CommandName::View) => drive(alloc, ViewCommand, source, sink),
     }
 }
 
-/// Whether the words are the one word `script`.
-fn is_script_command(words: &[String]) -> bool
-    ensures { result ≡ is_script (map string_bytes words.now) }
+/// The command that the words name.
+fn command_of(words: &[String]) -> Option<CommandName>
+    ensures { result ≡ command_named (map string_bytes words.now) }
 {
     match words {
-        [word] => word.as_str() == "script",
-        _ => false,
+        [word] => command_by_word(word.as_str()),
+        _ => None,
     }
 }
 
-/// How a run ends by why the script's lines stopped, and how the reading had.
-fn status_of(served: Result<(), Stop>, close: Close) -> Status
-    ensures { result ≡ ended_by served close }
+fn command_by_word(word: &str) -> Option<CommandName>
+    ensures { result ≡ command_by_word word.now }
 {
-    match served {
-        Err(Stop::OutOfMemory) => Status::OutOfMemory,
-        Err(Stop::WriteFault) => Status::WriteFault,
-        Err(Stop::BadLine) => match close {
-            Close::End => Status::Refused,
-            Close::Fault => Status::ReadFault,
-            Close::TooMuch => Status::Refused,
-        },
-        Ok(()) => match close {
-            Close::End => Status::Done,
-            Close::Fault => Status::ReadFault,
-            Close::TooMuch => Status::Refused,
-        },
+    match word {
+        "script" => Some(CommandName::Script),
+        "hmac" => Some(CommandName::Hmac),
+        "view" => Some(CommandName::View),
+        _ => None,
+    }
+}
+
+fn run_script<S: Source, D: Sink>(alloc: Global, source: &mut S, sink: &mut D) -> Status
+    ensures ran { result ≢ Status.Usage }
+    ensures bytes { Runs CommandName.Script result
+        (record { before = S.left source.old; after = S.left source.new })
+        (record { before = D.holds sink.old; after = D.holds sink.new }) }
+    ensures reads { CountsFault (is_read_fault result) (S.faults source.old) (S.faults source.new) }
+    ensures writes { CountsFault (is_write_fault result) (D.faults sink.old) (D.faults sink.new) }
+{
+    match Session::new(alloc) {
+        Ok(session) => drive(alloc, session, source, sink),
+        Err(_) => Status::OutOfMemory,
     }
 }

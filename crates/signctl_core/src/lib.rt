@@ -2,13 +2,11 @@
 #![tactic(auto)]
 
 pub mod commands;
-pub mod input;
-pub mod output;
-mod script;
+mod script_line;
 mod session;
-pub mod status;
 #[cfg(test)]
 mod tests;
 
 pub use commands::run;
-pub use status::Status;
+pub use script_line::ScriptLine;
+pub use signctl_driver::Status;

@@ -1,38 +1,54 @@
-//! A script served line by line: the desk that its cache and handle lines set up, and a note of
-//! what was read so far.
-ghost use Rattle.std.specs.Prelude.{◌≡◌, ◌++◌, ◌∷◌, ◌+◌, ◌<◌, ◌≤◌, [], List, true, not, length, OnOk, IfOk};
+//! `signctl script`, line by line: the desk that the cache and handle lines set up, and what is kept
+//! of the lines so far.
+ghost use Rattle.std.specs.Prelude.{◌≡◌, ◌++◌, ◌∷◌, ◌<◌, [], List, length, OnOk, IfOk, unwrap_or};
+ghost use Rattle.sequential_signer.specs.Transcript.{is_out_of_memory};
+ghost use Rattle.sign_desk.specs.DeskState.{Represents};
+ghost use Rattle.sign_desk.specs.Adding.{with_rule};
+ghost use Rattle.sign_base.specs.Bytes.{newline};
+ghost use Rattle.signctl_format.specs.Policy.{script_policy};
 ghost use Rattle.signctl_format.specs.declared.item.Item.{Item};
 ghost use Rattle.signctl_format.specs.declared.item.Item.TheVariants as item;
-ghost use Rattle.sequential_signer.specs.Transcript.{is_out_of_memory};
-ghost use Rattle.sign_desk.specs.Kept.{Represents};
-ghost use Rattle.sign_desk.specs.Adding.{with_rule};
-ghost use Rattle.signctl_format.specs.Policy.{script_policy};
-ghost use Rattle.signctl_format.specs.Reading.{item_of};
-ghost use Rattle.signctl_core.specs.Script.{is_built, place_of_rule, reading_of};
-ghost use Rattle.signctl_core.specs.ScriptOutput.{answer_to};
-ghost use Rattle.signctl_core.specs.Standing.{StandsFor, StandsForSome, MayAnswer, ReadsAs, ServesLine};
+ghost use Rattle.signctl_format.specs.declared.script_version.ScriptVersion.TheVariants.{One};
+ghost use Rattle.signctl_core.specs.Script.{item_error, setup_error, place_of_rule};
+ghost use Rattle.signctl_core.specs.ScriptOutput.{final_lines};
+ghost use Rattle.signctl_core.specs.SessionState.{RepresentsItems};
+ghost use Rattle.signctl_core.specs.Answering.{CanAnswer, AnswersItem};
+ghost use Rattle.signctl_core.specs.declared.script_line.ScriptLine.{ScriptLine};
 
-use sequential_signer::{Event, Loader, Reply};
+use crate::script_line::ScriptLine;
+use sequential_signer::{Loader, Reply};
 use sign_base::NoMemory;
 use sign_desk::{AddError, Desk};
+use signctl_driver::LineCommand;
 use signctl_format::{
-    Cause, Item, ScriptCredential, ScriptRule, push_cache, push_fault, push_handle, push_reply,
-    read_line,
+    Item, LineError, ScriptCredential, ScriptEvent, ScriptRule, ScriptVersion, is_version_line,
+    push_cache, push_final, push_handle, push_reply, read_line,
 };
 use std::alloc::Global;
+use std::marker::Model;
 
 /// What is kept of a script whose lines were good so far.
 #[derive(Drop)]
 pub struct Session {
-    pub desk: Desk<ScriptCredential, ScriptRule>,
-    pub had_event: bool,
-    pub lines: u64,
+    desk: Desk<ScriptCredential, ScriptRule>,
+    had_event: bool,
+    version: Option<ScriptVersion>,
+}
+
+impl Model for Session {
+    ghost use Rattle.signctl_core.specs.SessionState.{SessionState};
+
+    ghost Value = { SessionState };
+
+    ghost view = { λ s. record { desk = s.desk; had_event = s.had_event; version = s.version } };
 }
 
 impl Session {
+    ghost use Rattle.signctl_core.specs.SessionState.{SessionRepresents};
+
     /// A session before the first line.
     pub fn new(alloc: Global) -> Result<Session, NoMemory<()>>
-        ensures { IfOk result (λ s. StandsFor s.desk s.had_event s.lines []) }
+        ensures { IfOk result (λ s. SessionRepresents s []) }
     {
         let mut desk = Desk::new(alloc);
         add_rule(&mut desk, ScriptRule::Now)?;
@@ -40,39 +56,51 @@ impl Session {
         Ok(Session {
             desk,
             had_event: false,
-            lines: 0,
+            version: None,
         })
     }
 
-    /// Whether the program serves an item yet, behind the items so far.
-    fn is_built(&self, item: &Item) -> bool
-        ensures { (items : List Item) → StandsFor self.now.desk self.now.had_event self.now.lines items → result ≡ is_built items item.now }
+    /// The version in which the next line is read.
+    fn script_version(&self) -> ScriptVersion
+        ensures { result ≡ unwrap_or self.now.version One }
+    {
+        self.version.unwrap_or(ScriptVersion::One)
+    }
+
+    /// Why an item is bad behind the items so far, where it is.
+    fn item_error(&self, item: &Item) -> Option<LineError>
+        ensures { (items : List Item) → RepresentsItems self.now items → result ≡ item_error items item.now }
     {
         match item {
-            Item::Silent => true,
-            Item::Cache(Loader::Single) => self.desk.caches() == 0 && !self.had_event,
-            Item::Cache(Loader::Chain(_)) => false,
-            Item::Handle { cache, .. } => {
-                *cache == 0
-                    && self.desk.caches() == 1
-                    && self.desk.handles() == 0
-                    && !self.had_event
-            }
-            Item::Event(_) => true,
+            Item::Silent | Item::Event(_) => None,
+            Item::Cache(_) => self.setup_error(true),
+            Item::Handle { cache, .. } => self.setup_error(*cache < self.desk.caches()),
+        }
+    }
+
+    /// Why a line that sets the signer up is bad, where it is.
+    fn setup_error(&self, there: bool) -> Option<LineError>
+        ensures { (items : List Item) → RepresentsItems self.now items → result ≡ setup_error items there }
+    {
+        if self.had_event {
+            Some(LineError::Late)
+        } else if there {
+            None
+        } else {
+            Some(LineError::NoSuchCache)
         }
     }
 
     /// Adds a cache, and its line to the text.
     fn answer_cache(&mut self, loader: Loader, text: &mut Vec<u8>) -> Result<(), NoMemory<()>>
-        requires { MayAnswer self.old.desk self.old.had_event self.old.lines (item.Cache loader) }
-        ensures answers { OnOk result ((items : List Item) → StandsFor self.old.desk self.old.had_event self.old.lines items → is_built items (item.Cache loader) ≡ true
-            → StandsFor self.new.desk self.new.had_event (self.new.lines + 1) (items ++ item.Cache loader ∷ [])
-            × (text.new.items ≡ text.old.items ++ answer_to items (item.Cache loader))) }
-        ensures lines { self.new.lines ≡ self.old.lines }
+        requires { CanAnswer self.old (item.Cache loader) }
+        ensures answers { OnOk result (AnswersItem (item.Cache loader)
+            (record { session = self.old; text = text.old.items }) (record { session = self.new; text = text.new.items })) }
+        ensures version { self.new.version ≡ self.old.version }
     {
         match self.desk.add_cache(loader) {
             Ok(number) => push_cache(text, u64::from(number))?,
-            Err(refusal) => return Err(wanting(refusal)),
+            Err(refusal) => return Err(out_of_memory(refusal)),
         }
         end_line(text)?;
         Ok(())
@@ -85,33 +113,27 @@ impl Session {
         rule: ScriptRule,
         text: &mut Vec<u8>,
     ) -> Result<(), NoMemory<()>>
-        requires { MayAnswer self.old.desk self.old.had_event self.old.lines (item.Handle cache rule) }
-        ensures answers { OnOk result ((items : List Item) → StandsFor self.old.desk self.old.had_event self.old.lines items → is_built items (item.Handle cache rule) ≡ true
-            → StandsFor self.new.desk self.new.had_event (self.new.lines + 1) (items ++ item.Handle cache rule ∷ [])
-            × (text.new.items ≡ text.old.items ++ answer_to items (item.Handle cache rule))) }
-        ensures lines { self.new.lines ≡ self.old.lines }
+        requires { CanAnswer self.old (item.Handle cache rule) }
+        ensures answers { OnOk result (AnswersItem (item.Handle cache rule)
+            (record { session = self.old; text = text.old.items }) (record { session = self.new; text = text.new.items })) }
+        ensures version { self.new.version ≡ self.old.version }
     {
         match self.desk.add_handle(cache, place_of(rule)) {
             Ok(number) => push_handle(text, u64::from(number))?,
-            Err(refusal) => return Err(wanting(refusal)),
+            Err(refusal) => return Err(out_of_memory(refusal)),
         }
         end_line(text)?;
         Ok(())
     }
 
     /// Steps the desk, and adds the reply's line to the text.
-    fn answer_event(
-        &mut self,
-        event: &Event<ScriptCredential>,
-        text: &mut Vec<u8>,
-    ) -> Result<(), NoMemory<()>>
-        ensures answers { OnOk result ((items : List Item) → StandsFor self.old.desk self.old.had_event self.old.lines items → is_built items (item.Event event.now) ≡ true
-            → StandsFor self.new.desk self.new.had_event (self.new.lines + 1) (items ++ item.Event event.now ∷ [])
-            × (text.new.items ≡ text.old.items ++ answer_to items (item.Event event.now))) }
-        ensures lines { self.new.lines ≡ self.old.lines }
+    fn answer_event(&mut self, event: &ScriptEvent, text: &mut Vec<u8>) -> Result<(), NoMemory<()>>
+        ensures answers { OnOk result (AnswersItem (item.Event event.now)
+            (record { session = self.old; text = text.old.items }) (record { session = self.new; text = text.new.items })) }
+        ensures version { self.new.version ≡ self.old.version }
     {
-        let reply = self.desk.step(event);
-        if is_wanting(&reply) {
+        let reply = self.desk.step(event.as_event());
+        if is_out_of_memory(&reply) {
             return Err(NoMemory { back: () });
         }
         self.had_event = true;
@@ -121,12 +143,11 @@ impl Session {
     }
 
     /// Adds the answer to an item.
-    fn answer(&mut self, item: Item, text: &mut Vec<u8>) -> Result<(), NoMemory<()>>
-        requires { MayAnswer self.old.desk self.old.had_event self.old.lines item }
-        ensures answers { OnOk result ((items : List Item) → StandsFor self.old.desk self.old.had_event self.old.lines items → is_built items item ≡ true
-            → StandsFor self.new.desk self.new.had_event (self.new.lines + 1) (items ++ item ∷ [])
-            × (text.new.items ≡ text.old.items ++ answer_to items item)) }
-        ensures lines { self.new.lines ≡ self.old.lines }
+    fn answer_item(&mut self, item: Item, text: &mut Vec<u8>) -> Result<(), NoMemory<()>>
+        requires { CanAnswer self.old item }
+        ensures answers { OnOk result (AnswersItem item
+            (record { session = self.old; text = text.old.items }) (record { session = self.new; text = text.new.items })) }
+        ensures version { self.new.version ≡ self.old.version }
     {
         match item {
             Item::Silent => Ok(()),
@@ -136,48 +157,76 @@ impl Session {
         }
     }
 
-    /// What a line says behind the lines so far: an item to answer, or why it is bad.
-    fn read(&self, alloc: Global, line: &[u8]) -> Result<Result<Item, Cause>, NoMemory<()>>
-        ensures { IfOk result (λ found. (items : List Item) → StandsFor self.now.desk self.now.had_event self.now.lines items
-            → ReadsAs (reading_of items (item_of line.now)) found) }
+    /// Adds the lines that say what each cache holds in the end.
+    fn push_finals(&self, text: &mut Vec<u8>) -> Result<(), NoMemory<()>>
+        ensures { OnOk result ((lines : List ScriptLine) → SessionRepresents self.now lines
+            → text.new.items ≡ text.old.items ++ final_lines lines) }
     {
-        match read_line(alloc, line)? {
-            None => Ok(Err(Cause::NotUnderstood)),
-            Some(item) => {
-                if self.is_built(&item) {
-                    Ok(Ok(item))
-                } else {
-                    Ok(Err(Cause::NotBuilt))
-                }
-            }
+        let version = self.script_version();
+        for cache in 0..self.desk.caches() {
+            push_final(
+                text,
+                version,
+                u64::from(cache),
+                self.desk.cached(cache).copied(),
+            )?;
+            end_line(text)?;
+        }
+        Ok(())
+    }
+}
+
+impl LineCommand for Session {
+    ghost use Rattle.signctl_core.specs.ScriptOutput.{script_command};
+    ghost use Rattle.signctl_core.specs.SessionState.{SessionRepresents};
+
+    type Item = ScriptLine;
+
+    type Cause = LineError;
+
+    ghost command = { script_command };
+
+    ghost represents = { SessionRepresents };
+
+    fn read(
+        &self,
+        alloc: Global,
+        line: &[u8],
+    ) -> Result<Result<ScriptLine, LineError>, NoMemory<()>> {
+        if self.version.is_none() && is_version_line(line) {
+            return Ok(Ok(ScriptLine::VersionTwo));
+        }
+        let Some(item) = read_line(alloc, self.script_version(), line)? else {
+            return Ok(Err(LineError::NotUnderstood));
+        };
+        match self.item_error(&item) {
+            None => Ok(Ok(ScriptLine::Says(item))),
+            Some(why) => Ok(Err(why)),
         }
     }
 
-    /// Serves one line: adds its answer to the text, or the line that names it. Answers whether it
-    /// was good. Nothing is kept of a bad line.
-    pub fn serve(
+    fn answer(
         &mut self,
-        alloc: Global,
-        line: &[u8],
+        _alloc: Global,
+        line: ScriptLine,
         text: &mut Vec<u8>,
-    ) -> Result<bool, NoMemory<()>>
-        requires { StandsForSome self.old.desk self.old.had_event self.old.lines }
-        ensures served { IfOk result (λ good. (items : List Item) → StandsFor self.old.desk self.old.had_event self.old.lines items
-            → ServesLine (reading_of items (item_of line.now)) items text.old.items good self.new.desk self.new.had_event self.new.lines text.new.items) }
-        ensures count { self.new.lines ≤ self.old.lines + 1 }
-    {
-        match self.read(alloc, line)? {
-            Ok(item) => {
-                self.answer(item, text)?;
-                self.lines += 1;
-                Ok(true)
-            }
-            Err(cause) => {
-                push_fault(text, self.lines + 1, cause)?;
-                end_line(text)?;
-                Ok(false)
+    ) -> Result<(), NoMemory<()>> {
+        match line {
+            ScriptLine::VersionTwo => self.version = Some(ScriptVersion::Two),
+            ScriptLine::Says(item) => {
+                self.answer_item(item, text)?;
+                self.version = Some(self.script_version());
             }
         }
+        Ok(())
+    }
+
+    fn push_cause(cause: LineError, text: &mut Vec<u8>) -> Result<(), NoMemory<()>> {
+        Ok(text.extend_from_slice(cause.as_str().as_bytes())?)
+    }
+
+    fn close(&self, _alloc: Global, text: &mut Vec<u8>) -> Result<(), NoMemory<()>> {
+        self.push_finals(text)
     }
 }
 
@@ -206,30 +255,24 @@ fn place_of(rule: ScriptRule) -> u32
     }
 }
 
-/// The one refusal that a line before the first event can meet.
-fn wanting(refusal: AddError) -> NoMemory<()>
+/// The one refusal that a good line can meet.
+fn out_of_memory(refusal: AddError) -> NoMemory<()>
     requires { refusal ≡ AddError.OutOfMemory }
 {
     let _ = refusal;
     NoMemory { back: () }
 }
 
-/// Whether a reply says that memory was wanting.
-fn is_wanting(reply: &Reply<ScriptCredential>) -> bool
+/// Whether a reply says that an allocation failed.
+fn is_out_of_memory(reply: &Reply<ScriptCredential>) -> bool
     ensures { result ≡ is_out_of_memory reply.now }
 {
-    match reply {
-        Reply::OutOfMemory => true,
-        _ => false,
-    }
+    matches!(reply, Reply::OutOfMemory)
 }
 
 /// Ends a line of the text.
-pub fn end_line(text: &mut Vec<u8>) -> Result<(), NoMemory<()>>
-    ensures { OnOk result (text.new.items ≡ text.old.items ++ 10 ∷ []) }
+fn end_line(text: &mut Vec<u8>) -> Result<(), NoMemory<()>>
+    ensures { OnOk result (text.new.items ≡ text.old.items ++ newline ∷ []) }
 {
-    match text.push(b'\n') {
-        Ok(()) => Ok(()),
-        Err(_) => Err(NoMemory { back: () }),
-    }
+    Ok(text.push(b'\n')?)
 }

@@ -1,118 +1,154 @@
-//! Scripts and their answers, over sources and sinks in memory: whole, in pieces, and with faults.
+//! Scripts and their answers, over sources and sinks in memory: whole, in pieces, with faults, and at
+//! the limits.
+mod hostile;
 mod rows;
 
-use crate::input::MOST_BYTES;
 use crate::{Status, run};
-use rows::ROWS;
+use rows::{MORE_ROWS, ROWS, Row};
 use sign_base::{FaultySink, FaultySource, MemorySink, MemorySource, Sink, Source};
 use std::alloc::{AllocError, Global};
+use std::process::Abort;
 use std::test::Fail;
 
 /// The bytes that the sinks of these tests have room for.
 const ROOM: usize = 4096;
 
-fn script(alloc: Global) -> Result<Vec<String>, AllocError> {
-    let mut words = Vec::new(alloc);
-    words.push(String::from_str(alloc, "script")?)?;
-    Ok(words)
-}
+/// The most bytes of an input that are looked at.
+const INPUT_LIMIT: usize = 67_108_864;
 
-fn run_script<S: Source, D: Sink>(
+fn run_word<S: Source, D: Sink>(
     alloc: Global,
+    word: &str,
     source: &mut S,
     sink: &mut D,
 ) -> Result<Status, AllocError> {
-    let words = script(alloc)?;
+    let mut words = Vec::new(alloc);
+    words.push(String::from_str(alloc, word)?)?;
     Ok(run(alloc, words.as_slice(), source, sink))
+}
+
+/// What a script in memory is answered, and how it ends.
+fn answer(alloc: Global, bytes: Vec<u8>) -> Result<(Status, MemorySink), AllocError> {
+    let mut source = MemorySource::new(bytes);
+    let mut sink = MemorySink::new(alloc, ROOM).map_err(|_| AllocError)?;
+    let status = run_word(alloc, "script", &mut source, &mut sink)?;
+    Ok((status, sink))
+}
+
+/// Each row's script is answered as the row says. The rows are handed in, so that no proof carries
+/// their texts.
+fn answers_rows(rt: &impl Abort, alloc: Global, rows: &[Row]) -> Result<(), Fail> {
+    for row in rows {
+        let (status, sink) = answer(alloc, Vec::from_slice(alloc, row.input.as_bytes())?)?;
+        assert_eq!(rt; sink.written(), row.output.as_bytes(), "{}", row.shows);
+        assert_eq!(rt; status, row.status, "{}", row.shows);
+    }
+    Ok(())
+}
+
+/// The same where the source gives, and the sink takes, at most this many bytes at a time.
+fn answers_rows_in_pieces(
+    rt: &impl Abort,
+    alloc: Global,
+    piece: usize,
+    rows: &[Row],
+) -> Result<(), Fail>
+    requires { 0 < piece }
+{
+    for row in rows {
+        let bytes = Vec::from_slice(alloc, row.input.as_bytes())?;
+        let mut source = FaultySource::new(bytes, piece, Vec::new(alloc));
+        let mut sink = FaultySink::new(alloc, ROOM, piece, Vec::new(alloc)).map_err(
+            |_| AllocError,
+        )?;
+        let status = run_word(alloc, "script", &mut source, &mut sink)?;
+        assert_eq!(rt; sink.written(), row.output.as_bytes(), "{}", row.shows);
+        assert_eq!(rt; status, row.status, "{}", row.shows);
+    }
+    Ok(())
 }
 
 #[test]
 fn scripts_are_answered(rt: HostRuntime) -> Result<(), Fail> {
-    for row in &ROWS {
-        let mut source = MemorySource::new(Vec::from_slice(rt.alloc(), row.input.as_bytes())?);
-        let mut sink = MemorySink::new(rt.alloc(), ROOM).map_err(|_| AllocError)?;
-        let status = run_script(rt.alloc(), &mut source, &mut sink)?;
-        assert_eq!(rt; sink.written(), row.output.as_bytes(), "{}", row.shows);
-        assert_eq!(rt; status, row.status, "{}", row.shows);
-    }
-    Ok(())
+    answers_rows(&rt, rt.alloc(), &ROWS)
+}
+
+#[test]
+fn more_scripts_are_answered(rt: HostRuntime) -> Result<(), Fail> {
+    answers_rows(&rt, rt.alloc(), &MORE_ROWS)
 }
 
 #[test]
 fn pieces_of_one_byte_make_no_difference(rt: HostRuntime) -> Result<(), Fail> {
-    for row in &ROWS {
-        let bytes = Vec::from_slice(rt.alloc(), row.input.as_bytes())?;
-        let mut source = FaultySource::new(bytes, 1, Vec::new(rt.alloc()));
-        let mut sink = FaultySink::new(rt.alloc(), ROOM, 1, Vec::new(rt.alloc())).map_err(
-            |_| AllocError,
-        )?;
-        let status = run_script(rt.alloc(), &mut source, &mut sink)?;
-        assert_eq!(rt; sink.written(), row.output.as_bytes(), "{}", row.shows);
-        assert_eq!(rt; status, row.status, "{}", row.shows);
+    answers_rows_in_pieces(&rt, rt.alloc(), 1, &ROWS)
+}
+
+#[test]
+fn pieces_of_one_byte_make_no_difference_to_more(rt: HostRuntime) -> Result<(), Fail> {
+    answers_rows_in_pieces(&rt, rt.alloc(), 1, &MORE_ROWS)
+}
+
+#[test]
+fn pieces_of_a_page_make_no_difference(rt: HostRuntime) -> Result<(), Fail> {
+    answers_rows_in_pieces(&rt, rt.alloc(), 4096, &ROWS)
+}
+
+#[test]
+fn pieces_of_a_page_make_no_difference_to_more(rt: HostRuntime) -> Result<(), Fail> {
+    answers_rows_in_pieces(&rt, rt.alloc(), 4096, &MORE_ROWS)
+}
+
+/// Lines of exactly the limit, and of one byte more.
+#[test]
+fn long_lines_are_refused(rt: HostRuntime) -> Result<(), Fail> {
+    let alloc = rt.alloc();
+    let cases = [
+        (b'#', 65_536, "", Status::Done),
+        (b'#', 65_537, "line 1: too long\n", Status::Refused),
+        (b'x', 65_537, "line 1: too long\n", Status::Refused),
+        (b'#', INPUT_LIMIT + 1, "line 1: too long\n", Status::Refused),
+    ];
+    for (byte, count, output, ends) in cases {
+        let (status, sink) = answer(alloc, vec![in alloc; byte; count]?)?;
+        assert_eq!(rt; sink.written(), output.as_bytes(), "{count} of {byte}");
+        assert_eq!(rt; status, ends, "{count} of {byte}");
     }
     Ok(())
 }
 
-/// The lines before the fault are answered, and the one that it cuts is not.
+/// Inputs of exactly the limit, in remarks of 64 bytes, and of one byte more.
 #[test]
-fn a_read_fails_in_a_line(rt: HostRuntime) -> Result<(), Fail> {
-    let input = "cache single\nhandle 0 now\nbegin 0 1 - GET https://e.x/ 1.1\npoll 0 1 5";
-    let bytes = Vec::from_slice(rt.alloc(), input.as_bytes())?;
-    let mut source = FaultySource::new(bytes, 1, vec![in rt.alloc(); 62]?);
-    let mut sink = MemorySink::new(rt.alloc(), ROOM).map_err(|_| AllocError)?;
-    let status = run_script(rt.alloc(), &mut source, &mut sink)?;
-    assert_eq!(rt; sink.written(), b"cache 0\nhandle 0\nbegun\n".as_slice());
-    assert_eq!(rt; status, Status::ReadFault);
-    Ok(())
-}
-
-/// The sink takes one byte at a time, and fails at its third call.
-#[test]
-fn a_write_fails_in_a_line(rt: HostRuntime) -> Result<(), Fail> {
-    let bytes = Vec::from_slice(rt.alloc(), b"cache single\nhandle 0 now\n")?;
-    let mut source = MemorySource::new(bytes);
-    let mut sink = FaultySink::new(rt.alloc(), ROOM, 1, vec![in rt.alloc(); 2]?).map_err(
-        |_| AllocError,
-    )?;
-    let status = run_script(rt.alloc(), &mut source, &mut sink)?;
-    assert_eq!(rt; sink.written(), b"ca".as_slice());
-    assert_eq!(rt; status, Status::WriteFault);
-    Ok(())
-}
-
-/// As many newlines, with what is written and how it ends.
-fn newlines(alloc: Global, count: usize) -> Result<(Status, MemorySink), AllocError> {
-    let mut source = MemorySource::new(vec![in alloc; b'\n'; count]?);
-    let mut sink = MemorySink::new(alloc, ROOM).map_err(|_| AllocError)?;
-    let status = run_script(alloc, &mut source, &mut sink)?;
-    Ok((status, sink))
-}
-
-#[test]
-fn the_longest_input_is_read(rt: HostRuntime) -> Result<(), Fail> {
-    let (status, sink) = newlines(rt.alloc(), MOST_BYTES)?;
-    assert_eq!(rt; sink.written(), b"".as_slice());
-    assert_eq!(rt; status, Status::Done);
-    Ok(())
-}
-
-#[test]
-fn one_byte_more_is_too_long(rt: HostRuntime) -> Result<(), Fail> {
-    let (status, sink) = newlines(rt.alloc(), MOST_BYTES + 1)?;
-    assert_eq!(rt; sink.written(), b"input too long\n".as_slice());
-    assert_eq!(rt; status, Status::Refused);
+fn long_inputs_are_refused(rt: HostRuntime) -> Result<(), Fail> {
+    let alloc = rt.alloc();
+    let mut piece = Vec::new(alloc);
+    for _ in 0..1024 {
+        piece.extend_from_slice(
+            b"###############################################################\n",
+        )?;
+    }
+    for (more, output, ends) in [
+        (0, "", Status::Done),
+        (1, "input too long\n", Status::Refused),
+    ] {
+        let mut bytes = Vec::with_capacity(alloc, INPUT_LIMIT + 1)?;
+        for _ in 0..1024 {
+            bytes.extend_from_slice(piece.as_slice())?;
+        }
+        bytes.extend_from_slice(&b"#"[..more])?;
+        let (status, sink) = answer(alloc, bytes)?;
+        assert_eq!(rt; sink.written(), output.as_bytes());
+        assert_eq!(rt; status, ends);
+    }
     Ok(())
 }
 
 /// Other words touch neither the source nor the sink.
 #[test]
 fn other_words_are_no_command(rt: HostRuntime) -> Result<(), Fail> {
-    for word in ["scripts", "load", "--help", ""] {
+    for word in ["scripts", "load", "load 01", "--help", ""] {
         let mut source = MemorySource::new(Vec::from_slice(rt.alloc(), b"cache single\n")?);
         let mut sink = MemorySink::new(rt.alloc(), ROOM).map_err(|_| AllocError)?;
-        let mut words = Vec::new(rt.alloc());
-        words.push(String::from_str(rt.alloc(), word)?)?;
-        let status = run(rt.alloc(), words.as_slice(), &mut source, &mut sink);
+        let status = run_word(rt.alloc(), word, &mut source, &mut sink)?;
         assert_eq!(rt; status, Status::Usage);
         assert_eq!(rt; sink.written(), b"".as_slice());
     }
