@@ -2,7 +2,7 @@
 use Rattle.std.specs.Prelude.{◌≡◌, pos}
 use Rattle.jiff_core.specs.declared.civil.datetime.DateTime.{DateTime}
 use Rattle.jiff_core.specs.Date.{weekday_of}
-use Rattle.sign_base.specs.declared.civil.Civil.{Civil as Fields}
+use Rattle.sign_base.specs.declared.civil.CivilFields.{CivilFields}
 use Rattle.sign_base.specs.Calendar.{Civil}
 use Rattle.sign_base.specs.MomentText.{weekday_name, month_name}
 
@@ -17,7 +17,7 @@ pub record ShowsCivil (shown : DateTime) (c : Civil) : Type 0 where
   pub second : shown.time.second ≡ c.second
 
 -- the fields of a text
-pub record PrintsCivil (fields : Fields) (c : Civil) : Type 0 where
+pub record PrintsCivil (fields : CivilFields) (c : Civil) : Type 0 where
   pub year : fields.year.0 ≡ pos c.year
   pub month : fields.month.0 ≡ c.month
   pub month_name : fields.month_name.now ≡ month_name c.month

@@ -12,7 +12,7 @@ use jiff::tz::Offset;
 
 /// What a calendar and a clock in UTC show.
 #[derive(Clone, Copy)]
-pub(crate) struct Civil {
+pub(crate) struct CivilFields {
     pub year: Year,
     pub month: TwoDigits,
     pub month_name: &'static str,
@@ -23,13 +23,13 @@ pub(crate) struct Civil {
     pub second: TwoDigits,
 }
 
-impl Civil {
-    pub(crate) fn of(timestamp: Timestamp) -> Civil
+impl CivilFields {
+    pub(crate) fn of(timestamp: Timestamp) -> CivilFields
         ensures { IsFourDigitYear timestamp → PrintsCivil result (civil_of timestamp) }
     {
         let shown = shown(timestamp);
         let month = TwoDigits::of(shown.month());
-        Civil {
+        CivilFields {
             year: Year(shown.year()),
             month,
             month_name: month_name(month.0),

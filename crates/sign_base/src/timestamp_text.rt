@@ -4,7 +4,7 @@ ghost use Rattle.std.specs.String.{string_bytes};
 ghost use Rattle.sign_base.specs.Calendar.{IsFourDigitYear, civil_of};
 ghost use Rattle.sign_base.specs.MomentText.{date_text, iso8601_text, http_date_text, rfc3339_text};
 
-use crate::civil::Civil;
+use crate::civil::CivilFields;
 use crate::{NoMemory, Timestamp};
 use std::alloc::Global;
 
@@ -13,7 +13,7 @@ impl Timestamp {
     pub fn format_date(self, alloc: Global) -> Result<String, NoMemory<()>>
         ensures { IsFourDigitYear self → IfOk result (λ text. string_bytes text ≡ date_text (civil_of self)) }
     {
-        let c = Civil::of(self);
+        let c = CivilFields::of(self);
         Ok(format!(in alloc; "{}{}{}", c.year, c.month, c.day)?)
     }
 
@@ -21,7 +21,7 @@ impl Timestamp {
     pub fn format_iso8601(self, alloc: Global) -> Result<String, NoMemory<()>>
         ensures { IsFourDigitYear self → IfOk result (λ text. string_bytes text ≡ iso8601_text (civil_of self)) }
     {
-        let c = Civil::of(self);
+        let c = CivilFields::of(self);
         Ok(format!(in alloc;
             "{}{}{}T{}{}{}Z",
             c.year, c.month, c.day, c.hour, c.minute, c.second
@@ -32,7 +32,7 @@ impl Timestamp {
     pub fn format_http_date(self, alloc: Global) -> Result<String, NoMemory<()>>
         ensures { IsFourDigitYear self → IfOk result (λ text. string_bytes text ≡ http_date_text (civil_of self)) }
     {
-        let c = Civil::of(self);
+        let c = CivilFields::of(self);
         Ok(format!(in alloc;
             "{}, {} {} {} {}:{}:{} GMT",
             c.weekday, c.day, c.month_name, c.year, c.hour, c.minute, c.second
@@ -43,7 +43,7 @@ impl Timestamp {
     pub fn format_rfc3339_zulu(self, alloc: Global) -> Result<String, NoMemory<()>>
         ensures { IsFourDigitYear self → IfOk result (λ text. string_bytes text ≡ rfc3339_text (civil_of self)) }
     {
-        let c = Civil::of(self);
+        let c = CivilFields::of(self);
         Ok(format!(in alloc;
             "{}-{}-{}T{}:{}:{}Z",
             c.year, c.month, c.day, c.hour, c.minute, c.second

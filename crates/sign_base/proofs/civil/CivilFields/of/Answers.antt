@@ -3,7 +3,7 @@ use Rattle.jiff_core.proofs.SignedLemmas.{signed_arith}
 use Rattle.jiff_core.proofs.CalendarLemmas.{days_in_month_bounds}
 use Rattle.sign_base.specs.Calendar.{month_reached, day_of}
 use Rattle.sign_base.specs.MomentText.{weekday_name, month_name}
-use Rattle.sign_base.proofs.civil.Civil.of.Goals as goal
+use Rattle.sign_base.proofs.civil.CivilFields.of.Goals as goal
 
 pub returns : goal.returns
 returns c = λ low.
