@@ -24,7 +24,7 @@ use Rattle.sequential_signer.proofs.Lists.{or_false}
 use Rattle.wake_lock.proofs.Calls.{same_call-eq, same_call-refl}
 use Rattle.sequential_signer.proofs.OwnEntries.{entries_of-own, answers_in-more}
 use Rattle.sequential_signer.proofs.PollOrder.{is_polled, is_served-own, is_served-other, turn_moment-found}
-use Rattle.sequential_signer.proofs.LegalStep.{HoldReaches}
+use Rattle.sequential_signer.proofs.LegalStep.{HoldPoint, HoldReaches, at_look, at_answer}
 use Rattle.sequential_signer.proofs.Run.{IsRun}
 use Rattle.sequential_signer.proofs.CallInvariant.{Waits, Loads, answers-own_none, refused_answers, had-more, begin-stays}
 use Rattle.sequential_signer.proofs.CallInvariantSteps.{looked, looked_moment}
@@ -99,10 +99,10 @@ module _ {K D : Type 0} (policy : Policy K D) (setup : Setup D) where
         rw (begin, answers, moment) refl
 
     -- an undisturbed call on the cache leaves what the hold leaves
-    left_by : (call : CallId) (i : ℕ) (moment : Option ℤ) (answers : List (Answer K × ℤ)) (outcome : Outcome K) (left : Option K) → (g : HoldReaches policy setup entries call i moment answers (Over outcome left)) → (o : Option Loader) → o ≡ slice_get setup.loaders i → (input : Option (HoldInput K D)) → input ≡ input_by (rule_of setup call) (begin_of entries call) moment answers → cache_after policy o input (sequential_cache policy setup entries i) ≡ left
-    left_by call i moment answers outcome left g None h input k = let l = g.loads in cc
-    left_by call i moment answers outcome left g (Some loader) h None k = let l = g.inputs in cc
-    left_by call i moment answers outcome left g (Some loader) h (Some input) k =
+    left_by : (hold : HoldPoint K) (outcome : Outcome K) (left : Option K) → (g : HoldReaches policy setup entries hold (Over outcome left)) → (o : Option Loader) → o ≡ slice_get setup.loaders hold.cache → (input : Option (HoldInput K D)) → input ≡ input_by (rule_of setup hold.call) (begin_of entries hold.call) hold.moment hold.answers → cache_after policy o input (sequential_cache policy setup entries hold.cache) ≡ left
+    left_by hold outcome left g None h input k = let l = g.loads in cc
+    left_by hold outcome left g (Some loader) h None k = let l = g.inputs in cc
+    left_by hold outcome left g (Some loader) h (Some input) k =
         let l = g.loads in
         let same : loader ≡ g.loader = cc in
         let n = g.inputs in
@@ -111,35 +111,35 @@ module _ {K D : Type 0} (policy : Policy K D) (setup : Setup D) where
 
     -- a hold that a look ends leaves what the look leaves
     pub serves_looked : (call : CallId) (now : ℤ) (outcome : Outcome K) (left : Option K) (wake : Option CallId) (i : ℕ)
-        → Waits setup entries i call → has_turn setup entries i call ≡ true → (g : HoldReaches policy setup entries call i (Some now) [] (Over outcome left))
+        → Waits setup entries i call → has_turn setup entries i call ≡ true → (g : HoldReaches policy setup entries (at_look call i now) (Over outcome left))
         → sequential_cache policy setup (entries ++ record { event = Poll call now; reply = with_wake (progress_reply (Over outcome left)) wake } ∷ []) i ≡ left
     serves_looked call now outcome left wake i w turn g = by_outcome outcome g
       where
-        by_outcome : (outcome : Outcome K) → (g : HoldReaches policy setup entries call i (Some now) [] (Over outcome left)) → sequential_cache policy setup (entries ++ record { event = Poll call now; reply = with_wake (progress_reply (Over outcome left)) wake } ∷ []) i ≡ left
+        by_outcome : (outcome : Outcome K) → (g : HoldReaches policy setup entries (at_look call i now) (Over outcome left)) → sequential_cache policy setup (entries ++ record { event = Poll call now; reply = with_wake (progress_reply (Over outcome left)) wake } ∷ []) i ≡ left
         by_outcome (HandOut c) g =
             let e : Entry K = record { event = Poll call now; reply = Sign c wake } in
             cache_serves policy setup entries run e i g.at w.unserved w.unfinished refl (looked policy setup entries i call g.at now (Sign c wake) refl w turn).polled
-            ∙ left_by call i (Some now) [] (HandOut c) left g (slice_get setup.loaders i) refl (hold_input {K = K} setup (entries ++ e ∷ []) i call) (input_looked call now (Sign c wake) i g.at refl w turn w.begun)
+            ∙ left_by (at_look call i now) (HandOut c) left g (slice_get setup.loaders i) refl (hold_input {K = K} setup (entries ++ e ∷ []) i call) (input_looked call now (Sign c wake) i g.at refl w turn w.begun)
         by_outcome (Refuse cause) g =
             let e : Entry K = record { event = Poll call now; reply = Refused cause wake } in
             cache_serves policy setup entries run e i g.at w.unserved w.unfinished refl (looked policy setup entries i call g.at now (Refused cause wake) refl w turn).polled
-            ∙ left_by call i (Some now) [] (Refuse cause) left g (slice_get setup.loaders i) refl (hold_input {K = K} setup (entries ++ e ∷ []) i call) (input_looked call now (Refused cause wake) i g.at refl w turn w.begun)
+            ∙ left_by (at_look call i now) (Refuse cause) left g (slice_get setup.loaders i) refl (hold_input {K = K} setup (entries ++ e ∷ []) i call) (input_looked call now (Refused cause wake) i g.at refl w turn w.begun)
 
     -- a hold that an answer ends leaves what the answer leaves
     pub serves_got : (call : CallId) (now : ℤ) (answer : Answer K) (outcome : Outcome K) (left : Option K) (wake : Option CallId) (i : ℕ)
-        → Loads setup entries i call → (g : HoldReaches policy setup entries call i (turn_moment setup entries i call) (answers_of entries call ++ (answer, now) ∷ []) (Over outcome left))
+        → Loads setup entries i call → (g : HoldReaches policy setup entries (at_answer setup entries i call (answer, now)) (Over outcome left))
         → sequential_cache policy setup (entries ++ record { event = Provided call now answer; reply = with_wake (progress_reply (Over outcome left)) wake } ∷ []) i ≡ left
     serves_got call now answer outcome left wake i w g = by_outcome outcome g
       where
-        by_outcome : (outcome : Outcome K) → (g : HoldReaches policy setup entries call i (turn_moment setup entries i call) (answers_of entries call ++ (answer, now) ∷ []) (Over outcome left)) → sequential_cache policy setup (entries ++ record { event = Provided call now answer; reply = with_wake (progress_reply (Over outcome left)) wake } ∷ []) i ≡ left
+        by_outcome : (outcome : Outcome K) → (g : HoldReaches policy setup entries (at_answer setup entries i call (answer, now)) (Over outcome left)) → sequential_cache policy setup (entries ++ record { event = Provided call now answer; reply = with_wake (progress_reply (Over outcome left)) wake } ∷ []) i ≡ left
         by_outcome (HandOut c) g =
             let e : Entry K = record { event = Provided call now answer; reply = Sign c wake } in
             cache_serves policy setup entries run e i g.at w.unserved w.unfinished refl (had-more setup entries i e call w.had).polled
-            ∙ left_by call i (turn_moment setup entries i call) (answers_of entries call ++ (answer, now) ∷ []) (HandOut c) left g (slice_get setup.loaders i) refl (hold_input {K = K} setup (entries ++ e ∷ []) i call) (input_got call now answer (Sign c wake) i g.at refl w)
+            ∙ left_by (at_answer setup entries i call (answer, now)) (HandOut c) left g (slice_get setup.loaders i) refl (hold_input {K = K} setup (entries ++ e ∷ []) i call) (input_got call now answer (Sign c wake) i g.at refl w)
         by_outcome (Refuse cause) g =
             let e : Entry K = record { event = Provided call now answer; reply = Refused cause wake } in
             cache_serves policy setup entries run e i g.at w.unserved w.unfinished refl (had-more setup entries i e call w.had).polled
-            ∙ left_by call i (turn_moment setup entries i call) (answers_of entries call ++ (answer, now) ∷ []) (Refuse cause) left g (slice_get setup.loaders i) refl (hold_input {K = K} setup (entries ++ e ∷ []) i call) (input_got call now answer (Refused cause wake) i g.at refl w)
+            ∙ left_by (at_answer setup entries i call (answer, now)) (Refuse cause) left g (slice_get setup.loaders i) refl (hold_input {K = K} setup (entries ++ e ∷ []) i call) (input_got call now answer (Refused cause wake) i g.at refl w)
 
 -- of two calls of a list one stands before the other
 before_either : (a b : CallId) → same_call a b ≡ false → (xs : List CallId) → list_any (same_call a) xs ≡ true → (list_any (same_call a) (before_call b xs) ≡ true) ⊎ (list_any (same_call b) (before_call a xs) ≡ true)

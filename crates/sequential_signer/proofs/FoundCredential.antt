@@ -2,11 +2,10 @@
 -- cache.
 use Rattle.std.proofs.Common.{◌≡◌, ℕ, ℤ, ◌+◌, Bool, true, false, List, [], ◌∷◌, ◌++◌, Option, Some, None, refl, sym, ◌∙◌, ap, subst, length, length-append, nat_lt, if◌then◌else◌}
 use Rattle.wake_lock.specs.declared.CallId.{CallId}
-use Rattle.sequential_signer.specs.Lookup.{Outcome, HandOut, Refuse, cache_lookup, check_by}
+use Rattle.sequential_signer.specs.Lookup.{Outcome, HandOut, Refuse, cache_lookup, check_by, check_refreshed}
 use Rattle.sequential_signer.specs.Policy.{Policy}
 use Rattle.sequential_signer.specs.SequentialCall.{HoldInput, Progress, Asking, Over, next_of_chain, found_progress, load_progress, after_lookup, sequential_call}
 use Rattle.sequential_signer.specs.Setup.{Setup, cache_of, rule_of, is_of_cache}
-use Rattle.sequential_signer.specs.Transcript.{call_of}
 use Rattle.sequential_signer.specs.Phase.{phase_of, is_waiting, is_loading}
 use Rattle.sequential_signer.specs.Turn.{has_turn}
 use Rattle.sequential_signer.specs.Hold.{BeginInput, begin_of, answers_of, turn_moment, input_by}
@@ -26,7 +25,7 @@ use Rattle.sequential_signer.specs.declared.event.Why.{Why}
 use Rattle.sequential_signer.specs.declared.event.Why.TheVariants.{Short}
 use Rattle.sequential_signer.specs.declared.event.Why.TheVariants as why
 use Rattle.sequential_signer.proofs.Lists.{last_of-more}
-use Rattle.sequential_signer.proofs.LegalStep.{LegalStep, HoldReaches, not_now, begins, waits, pending, looks, takes_effect, accepts, fails, cancels}
+use Rattle.sequential_signer.proofs.LegalStep.{LegalStep, HoldReaches, at_look, at_answer, not_now, begins, waits, pending, looks, takes_effect, accepts, fails, cancels}
 use Rattle.sequential_signer.proofs.Run.{IsRun}
 use Rattle.sequential_signer.proofs.CallInvariantSteps.{run_waits}
 use Rattle.sequential_signer.proofs.CacheLaw.{is_number-eq}
@@ -38,10 +37,10 @@ module _ {K D : Type 0} (policy : Policy K D) where
   -- a call whose look finds nothing goes by the number of its answers and the last of them
   pub call_loads : (cache : Option K) (loader : Loader) (input : HoldInput K D) (answers : List (Answer K × ℤ)) (last : Answer K × ℤ)
       → cache_lookup policy cache input.rule input.duration input.now ≡ None → input.answers ≡ answers ++ last ∷ []
-      → sequential_call policy cache loader input ≡ load_progress policy loader input.rule input.duration cache (length answers + 1) (Some last)
+      → sequential_call policy cache loader input ≡ load_progress (check_refreshed policy input.rule input.duration) loader cache (length answers + 1) (Some last)
   call_loads cache loader input answers last none more =
       rw (none, more, last_of-more answers last)
-      (ap (λ n. load_progress policy loader input.rule input.duration cache n (Some last)) (length-append answers (last ∷ [])))
+      (ap (λ n. load_progress (check_refreshed policy input.rule input.duration) loader cache n (Some last)) (length-append answers (last ∷ [])))
 
   check_hands_out : (c k : K) (now : ℤ) (cache left : Option K) (deadline : Option ℤ) → Over (HandOut k) left ≡ found_progress (check_by policy c now deadline) cache → c ≡ k
   check_hands_out c k now cache left None h = cc
@@ -60,14 +59,14 @@ module _ {K D : Type 0} (policy : Policy K D) where
 
   -- a load hands out what was found last
   load_hands_out : (loader : Loader) (rule : D) (duration : Option ℕ) (cache left : Option K) (count : ℕ) (answer : Answer K) (now : ℤ) (k : K)
-      → Over (HandOut k) left ≡ load_progress policy loader rule duration cache count (Some (answer, now)) → answer ≡ Found k
+      → Over (HandOut k) left ≡ load_progress (check_refreshed policy rule duration) loader cache count (Some (answer, now)) → answer ≡ Found k
   load_hands_out loader rule duration cache left count (Found c) now k h = ap Found (check_hands_out c k now cache left (policy.deadline rule c duration now) h)
   load_hands_out Single rule duration cache left count Missing now k h = cc
   load_hands_out Single rule duration cache left count (Failed e) now k h = cc
   load_hands_out (Chain n) rule duration cache left count Missing now k h = absurd (chain_hands_nothing_out n cache left count k h)
   load_hands_out (Chain n) rule duration cache left count (Failed e) now k h = absurd (chain_hands_nothing_out n cache left count k h)
 
-  load_begins : (loader : Loader) (rule : D) (duration : Option ℕ) (cache : Option K) → cache_left cache (load_progress policy loader rule duration cache 0 None) ≡ cache
+  load_begins : (loader : Loader) (rule : D) (duration : Option ℕ) (cache : Option K) → cache_left cache (load_progress (check_refreshed policy rule duration) loader cache 0 None) ≡ cache
   load_begins Single rule duration cache = refl
   load_begins (Chain n) rule duration cache = by_test (nat_lt 0 n)
     where
@@ -83,7 +82,7 @@ module _ {K D : Type 0} (policy : Policy K D) where
   pub look_leaves_cache : (cache : Option K) (loader : Loader) (input : HoldInput K D) → input.answers ≡ [] → cache_left cache (sequential_call policy cache loader input) ≡ cache
   look_leaves_cache cache loader input none =
       rw none
-      (after_lookup-leaves (cache_lookup policy cache input.rule input.duration input.now) cache (load_progress policy loader input.rule input.duration cache 0 None)
+      (after_lookup-leaves (cache_lookup policy cache input.rule input.duration input.now) cache (load_progress (check_refreshed policy input.rule input.duration) loader cache 0 None)
       (load_begins loader input.rule input.duration cache))
 
 -- two inputs of one call differ in their answers alone
@@ -111,7 +110,7 @@ is_refresh event _ = false
 
 module _ {K D : Type 0} (policy : Policy K D) (setup : Setup D) (entries : List (Entry K)) (run : IsRun policy setup entries) where
   answer_found : (call : CallId) (now : ℤ) (answer : Answer K) (j : ℕ) (k : K) (left : Option K) → is_loading (phase_of entries call) ≡ true
-      → HoldReaches policy setup entries call j (turn_moment setup entries j call) (answers_of entries call ++ (answer, now) ∷ []) (Over (HandOut k) left) → answer ≡ Found k
+      → HoldReaches policy setup entries (at_answer setup entries j call (answer, now)) (Over (HandOut k) left) → answer ≡ Found k
   answer_found call now answer j k left l g =
       let on : LoadsOn policy setup entries j call = loads_on policy setup entries run call j g.at l in
       let input : IsSameInput g.input on.input (answers_of entries call ++ (answer, now) ∷ []) =
@@ -134,26 +133,16 @@ module _ {K D : Type 0} (policy : Policy K D) (setup : Setup D) (entries : List 
       → sequential_cache policy setup (entries ++ record { event = Provided call now (Found c); reply = Refused cause wake } ∷ []) i ≡ sequential_cache policy setup entries i
   refused_found_leaves call now c cause wake step i = cache_unhanded policy setup entries run (Provided call now (Found c)) (Refused cause wake) step refl i
 
-  -- a credential that is found and handed out: the cache of its call holds it, and the other caches stay
-  pub record SignsFound (e : Entry K) (c handed : K) (i : ℕ) : Type 0 where
-    pub same : handed ≡ c
-    pub cache : sequential_cache policy setup (entries ++ e ∷ []) i ≡ Some c
-    pub others : (j : ℕ) → is_of_cache setup j (call_of e.event) ≡ false → sequential_cache policy setup (entries ++ e ∷ []) j ≡ sequential_cache policy setup entries j
-
   -- what is handed out where a credential was found is that credential, and it is cached
   pub signed_found_is_cached : (call : CallId) (now : ℤ) (c handed : K) (wake : Option CallId) (i : ℕ) → LegalStep policy setup entries (Provided call now (Found c)) (Sign handed wake) → cache_of setup call ≡ Some i
-      → SignsFound (record { event = Provided call now (Found c); reply = Sign handed wake }) c handed i
+      → (handed ≡ c) × (sequential_cache policy setup (entries ++ record { event = Provided call now (Found c); reply = Sign handed wake } ∷ []) i ≡ Some c)
   signed_found_is_cached call now c handed wake i step at =
       let found : Found c ≡ Found handed = found_is_handed_out call now (Found c) (Sign handed wake) handed step refl in
       let same : handed ≡ c = cc in
-      record {
-        same = same;
-        cache = cache_own policy setup entries run (Provided call now (Found c)) (Sign handed wake) step i at ∙ ap Some same;
-        others = cache_elsewhere policy setup entries run (Provided call now (Found c)) (Sign handed wake) step;
-      }
+      (same, cache_own policy setup entries run (Provided call now (Found c)) (Sign handed wake) step i at ∙ ap Some same)
 
   looked_leaves : (call : CallId) (now : ℤ) (k : K) (left : Option K) (wake : Option CallId) (j : ℕ) → is_waiting (phase_of entries call) ≡ true → has_turn setup entries j call ≡ true
-      → (g : HoldReaches policy setup entries call j (Some now) [] (Over (HandOut k) left))
+      → (g : HoldReaches policy setup entries (at_look call j now) (Over (HandOut k) left))
       → sequential_cache policy setup (entries ++ record { event = Poll call now; reply = Sign k wake } ∷ []) j ≡ sequential_cache policy setup entries j
   looked_leaves call now k left wake j w t g =
       serves_looked policy setup entries run call now (HandOut k) left wake j (run_waits policy setup entries run call j g.at w) t g

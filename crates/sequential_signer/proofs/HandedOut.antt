@@ -8,7 +8,6 @@ use Rattle.sequential_signer.specs.SequentialCall.{HoldInput, Progress, Asking, 
 use Rattle.sequential_signer.specs.Setup.{Setup, cache_of, is_of_cache, is_number}
 use Rattle.sequential_signer.specs.Transcript.{call_of, last_of}
 use Rattle.sequential_signer.specs.Turn.{serves, hold_is_finished, is_served, has_turn}
-use Rattle.sequential_signer.specs.Hold.{answers_of, turn_moment}
 use Rattle.sequential_signer.specs.SequentialCache.{cache_left, sequential_cache}
 use Rattle.sequential_signer.specs.ExpectedReply.{progress_reply, with_wake}
 use Rattle.sequential_signer.specs.LawsOfCaches.{handed_out}
@@ -23,7 +22,7 @@ use Rattle.sequential_signer.specs.declared.event.Reply.{Reply}
 use Rattle.sequential_signer.specs.declared.event.Reply.TheVariants.{Ask}
 use Rattle.sequential_signer.specs.declared.event.Why.TheVariants as why
 use Rattle.wake_lock.proofs.Truth.{number_refl}
-use Rattle.sequential_signer.proofs.LegalStep.{LegalStep, HoldReaches, not_now, begins, waits, pending, looks, takes_effect, accepts, fails, cancels}
+use Rattle.sequential_signer.proofs.LegalStep.{LegalStep, HoldPoint, HoldReaches, at_look, at_answer, not_now, begins, waits, pending, looks, takes_effect, accepts, fails, cancels}
 use Rattle.sequential_signer.proofs.Run.{IsRun}
 use Rattle.sequential_signer.proofs.CallInvariant.{Waits, Loads}
 use Rattle.sequential_signer.proofs.CallInvariantSteps.{run_waits, run_loads, run_signs}
@@ -46,8 +45,8 @@ module _ {K D : Type 0} (policy : Policy K D) where
       by_test true = refl
       by_test false = refl
 
-  load_leaves_handed_out : (loader : Loader) (rule : D) (duration : Option ℕ) (cache : Option K) (count : ℕ) (last : Option (Answer K × ℤ)) → LeavesHandedOut cache (load_progress policy loader rule duration cache count last)
-  load_leaves_handed_out loader rule duration cache count (Some (Found c, now)) = found_leaves (check_refreshed policy c rule duration now) cache
+  load_leaves_handed_out : (loader : Loader) (rule : D) (duration : Option ℕ) (cache : Option K) (count : ℕ) (last : Option (Answer K × ℤ)) → LeavesHandedOut cache (load_progress (check_refreshed policy rule duration) loader cache count last)
+  load_leaves_handed_out loader rule duration cache count (Some (Found c, now)) = found_leaves (check_refreshed policy rule duration c now) cache
   load_leaves_handed_out Single rule duration cache count None = refl
   load_leaves_handed_out Single rule duration cache count (Some (Missing, now)) = refl
   load_leaves_handed_out Single rule duration cache count (Some (Failed e, now)) = refl
@@ -75,14 +74,14 @@ module _ {K D : Type 0} (policy : Policy K D) where
   pub call_leaves : (cache : Option K) (loader : Loader) (input : HoldInput K D) → LeavesHandedOut cache (sequential_call policy cache loader input)
   call_leaves cache loader input =
       look_leaves_handed_out cache input.rule input.duration input.now
-      (load_progress policy loader input.rule input.duration cache (length input.answers) (last_of input.answers))
+      (load_progress (check_refreshed policy input.rule input.duration) loader cache (length input.answers) (last_of input.answers))
       (load_leaves_handed_out loader input.rule input.duration cache (length input.answers) (last_of input.answers))
 
 module _ {K D : Type 0} (policy : Policy K D) (setup : Setup D) (entries : List (Entry K)) where
   -- the cache that a hold leaves: what it hands out, or else what was cached
-  left_is : (call : CallId) (i : ℕ) (moment : Option ℤ) (answers : List (Answer K × ℤ)) (progress : Progress K) → HoldReaches policy setup entries call i moment answers progress → LeavesHandedOut (sequential_cache policy setup entries i) progress
-  left_is call i moment answers progress g =
-      subst (λ (p : Progress K). LeavesHandedOut (sequential_cache policy setup entries i) p) (sym g.reaches) (call_leaves policy (sequential_cache policy setup entries i) g.loader g.input)
+  left_is : (hold : HoldPoint K) (progress : Progress K) → HoldReaches policy setup entries hold progress → LeavesHandedOut (sequential_cache policy setup entries hold.cache) progress
+  left_is hold progress g =
+      subst (λ (p : Progress K). LeavesHandedOut (sequential_cache policy setup entries hold.cache) p) (sym g.reaches) (call_leaves policy (sequential_cache policy setup entries hold.cache) g.loader g.input)
 
   -- the entry ends a hold that had its turn at cache j, and leaves there what it hands out, or else what was cached
   pub record EndsHold (e : Entry K) (j : ℕ) : Type 0 where
@@ -99,7 +98,7 @@ module _ {K D : Type 0} (policy : Policy K D) (setup : Setup D) (entries : List 
     ends_hold_at : (j : ℕ) → EndsHold e j → CacheStep e
 
   module _ (run : IsRun policy setup entries) where
-    look_changes : (call : CallId) (now : ℤ) (j : ℕ) (progress : Progress K) (wake : Option CallId) → Waits setup entries j call → has_turn setup entries j call ≡ true → HoldReaches policy setup entries call j (Some now) [] progress
+    look_changes : (call : CallId) (now : ℤ) (j : ℕ) (progress : Progress K) (wake : Option CallId) → Waits setup entries j call → has_turn setup entries j call ≡ true → HoldReaches policy setup entries (at_look call j now) progress
         → CacheStep (record { event = Poll call now; reply = with_wake (progress_reply progress) wake })
     look_changes call now j (Asking k) wake x t g = leaves_all refl (stays_other policy setup entries run (record { event = Poll call now; reply = Ask k }) refl refl)
     look_changes call now j (Over (HandOut c) left) wake x t g =
@@ -109,7 +108,7 @@ module _ {K D : Type 0} (policy : Policy K D) (setup : Setup D) (entries : List 
           unfinished = x.unfinished;
           unserved = x.unserved;
           serving = refl;
-          cache = serves_looked policy setup entries run call now (HandOut c) left wake j x t g ∙ left_is call j (Some now) [] (Over (HandOut c) left) g;
+          cache = serves_looked policy setup entries run call now (HandOut c) left wake j x t g ∙ left_is (at_look call j now) (Over (HandOut c) left) g;
         })
     look_changes call now j (Over (Refuse cause) left) wake x t g =
         ends_hold_at j (record {
@@ -118,11 +117,11 @@ module _ {K D : Type 0} (policy : Policy K D) (setup : Setup D) (entries : List 
           turn = t;
           unfinished = x.unfinished;
           unserved = x.unserved;
-          cache = serves_looked policy setup entries run call now (Refuse cause) left wake j x t g ∙ left_is call j (Some now) [] (Over (Refuse cause) left) g;
+          cache = serves_looked policy setup entries run call now (Refuse cause) left wake j x t g ∙ left_is (at_look call j now) (Over (Refuse cause) left) g;
         })
 
     answer_changes : (call : CallId) (now : ℤ) (answer : Answer K) (j : ℕ) (progress : Progress K) (wake : Option CallId) → Loads setup entries j call
-        → HoldReaches policy setup entries call j (turn_moment setup entries j call) (answers_of entries call ++ (answer, now) ∷ []) progress
+        → HoldReaches policy setup entries (at_answer setup entries j call (answer, now)) progress
         → CacheStep (record { event = Provided call now answer; reply = with_wake (progress_reply progress) wake })
     answer_changes call now answer j (Asking k) wake x g = leaves_all refl (stays_unserved policy setup entries run (record { event = Provided call now answer; reply = Ask k }) x.unserved refl)
     answer_changes call now answer j (Over (HandOut c) left) wake x g =
@@ -132,7 +131,7 @@ module _ {K D : Type 0} (policy : Policy K D) (setup : Setup D) (entries : List 
           unfinished = x.unfinished;
           unserved = x.unserved;
           serving = refl;
-          cache = serves_got policy setup entries run call now answer (HandOut c) left wake j x g ∙ left_is call j (turn_moment setup entries j call) (answers_of entries call ++ (answer, now) ∷ []) (Over (HandOut c) left) g;
+          cache = serves_got policy setup entries run call now answer (HandOut c) left wake j x g ∙ left_is (at_answer setup entries j call (answer, now)) (Over (HandOut c) left) g;
         })
     answer_changes call now answer j (Over (Refuse cause) left) wake x g =
         ends_hold_at j (record {
@@ -141,7 +140,7 @@ module _ {K D : Type 0} (policy : Policy K D) (setup : Setup D) (entries : List 
           turn = x.had.turn;
           unfinished = x.unfinished;
           unserved = x.unserved;
-          cache = serves_got policy setup entries run call now answer (Refuse cause) left wake j x g ∙ left_is call j (turn_moment setup entries j call) (answers_of entries call ++ (answer, now) ∷ []) (Over (Refuse cause) left) g;
+          cache = serves_got policy setup entries run call now answer (Refuse cause) left wake j x g ∙ left_is (at_answer setup entries j call (answer, now)) (Over (Refuse cause) left) g;
         })
 
     -- each legal step is one of the two

@@ -91,4 +91,4 @@ found_credential_is_cached K D policy setup before call now c handed wake i l at
     let e : Entry K = found_entry call now c (Sign handed wake) in
     let found = signed_found_is_cached policy setup (committed_entries before) (legal_run policy setup before (legal_before policy setup before e l)) call now c handed wake i
     (legal_entry_step policy setup (committed_entries before) e refl (legal_last policy setup before e l)) at in
-    (found.same, ap (λ v. sequential_cache policy setup v i) (committed_entries-more before e refl) ∙ found.cache)
+    (found.0, ap (λ v. sequential_cache policy setup v i) (committed_entries-more before e refl) ∙ found.1)

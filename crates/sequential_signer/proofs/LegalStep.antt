@@ -29,14 +29,30 @@ is_busy Loading = true
 is_busy Signing = true
 is_busy _ = false
 
--- the hold of the call at cache i goes on with these answers, and gets this far
-pub record HoldReaches {K D : Type 0} (policy : Policy K D) (setup : Setup D) (entries : List (Entry K)) (call : CallId) (i : ℕ) (moment : Option ℤ) (answers : List (Answer K × ℤ)) (progress : Progress K) : Type 0 where
-  pub at : cache_of setup call ≡ Some i
+-- a point of a hold: its call, its cache, the moment of its look, and the answers so far
+pub record HoldPoint (K : Type 0) : Type 0 where
+  pub call : CallId
+  pub cache : ℕ
+  pub moment : Option ℤ
+  pub answers : List (Answer K × ℤ)
+
+-- the look of a call at cache i
+abbrev pub at_look : {K : Type 0} → CallId → ℕ → ℤ → HoldPoint K
+at_look call i now = record { call = call; cache = i; moment = Some now; answers = [] }
+
+-- one more answer to a call that loads for cache i
+abbrev pub at_answer : {K D : Type 0} → Setup D → List (Entry K) → ℕ → CallId → Answer K × ℤ → HoldPoint K
+at_answer setup entries i call answer =
+    record { call = call; cache = i; moment = turn_moment setup entries i call; answers = answers_of entries call ++ answer ∷ [] }
+
+-- the hold goes on from this point, and gets this far
+pub record HoldReaches {K D : Type 0} (policy : Policy K D) (setup : Setup D) (entries : List (Entry K)) (hold : HoldPoint K) (progress : Progress K) : Type 0 where
+  pub at : cache_of setup hold.call ≡ Some hold.cache
   pub loader : Loader
-  pub loads : slice_get setup.loaders i ≡ Some loader
+  pub loads : slice_get setup.loaders hold.cache ≡ Some loader
   pub input : HoldInput K D
-  pub inputs : input_by (rule_of setup call) (begin_of entries call) moment answers ≡ Some input
-  pub reaches : progress ≡ sequential_call policy (sequential_cache policy setup entries i) loader input
+  pub inputs : input_by (rule_of setup hold.call) (begin_of entries hold.call) hold.moment hold.answers ≡ Some input
+  pub reaches : progress ≡ sequential_call policy (sequential_cache policy setup entries hold.cache) loader input
 
 -- a live call waits or is busy
 live_cases : (p : Phase) → is_live p ≡ true → is_waiting p ≡ false → is_busy p ≡ true
@@ -54,8 +70,8 @@ module _ {K D : Type 0} where
     begins : (call : CallId) (head : Head) (expires_in : Option Duration) (i : ℕ) → cache_of setup call ≡ Some i → is_new_number entries call ≡ true → LegalStep policy setup entries (Begin call head expires_in) Begun
     waits : (call : CallId) (now : ℤ) (i : ℕ) → cache_of setup call ≡ Some i → is_waiting (phase_of entries call) ≡ true → has_turn setup entries i call ≡ false → LegalStep policy setup entries (Poll call now) Pending
     pending : (call : CallId) (now : ℤ) → is_busy (phase_of entries call) ≡ true → LegalStep policy setup entries (Poll call now) Pending
-    looks : (call : CallId) (now : ℤ) (i : ℕ) (progress : Progress K) (wake : Option CallId) → is_waiting (phase_of entries call) ≡ true → has_turn setup entries i call ≡ true → HoldReaches policy setup entries call i (Some now) [] progress → LegalStep policy setup entries (Poll call now) (with_wake (progress_reply progress) wake)
-    takes_effect : (call : CallId) (now : ℤ) (answer : Answer K) (i : ℕ) (progress : Progress K) (wake : Option CallId) → is_loading (phase_of entries call) ≡ true → HoldReaches policy setup entries call i (turn_moment setup entries i call) (answers_of entries call ++ (answer, now) ∷ []) progress → LegalStep policy setup entries (Provided call now answer) (with_wake (progress_reply progress) wake)
+    looks : (call : CallId) (now : ℤ) (i : ℕ) (progress : Progress K) (wake : Option CallId) → is_waiting (phase_of entries call) ≡ true → has_turn setup entries i call ≡ true → HoldReaches policy setup entries (at_look call i now) progress → LegalStep policy setup entries (Poll call now) (with_wake (progress_reply progress) wake)
+    takes_effect : (call : CallId) (now : ℤ) (answer : Answer K) (i : ℕ) (progress : Progress K) (wake : Option CallId) → is_loading (phase_of entries call) ≡ true → HoldReaches policy setup entries (at_answer setup entries i call (answer, now)) progress → LegalStep policy setup entries (Provided call now answer) (with_wake (progress_reply progress) wake)
     accepts : (call : CallId) (candidate : Head) → is_signing (phase_of entries call) ≡ true → LegalStep policy setup entries (Signed call (Accepted candidate)) (Done (done_head (begin_of entries call) candidate))
     fails : (call : CallId) (e i : ℕ) → cache_of setup call ≡ Some i → is_signing (phase_of entries call) ≡ true → LegalStep policy setup entries (Signed call (Failed e)) (Refused (why.Service e) None)
     cancels : (call : CallId) (wake : Option CallId) → is_live (phase_of entries call) ≡ true → LegalStep policy setup entries (Cancel call) (Cancelled wake)

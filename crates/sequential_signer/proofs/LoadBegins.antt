@@ -3,7 +3,7 @@ use Rattle.std.proofs.Common.{◌≡◌, ℕ, ℤ, true, false, not, cond, ◌==
 use Rattle.std.proofs.lemmas.Bool.Decides.{nat_tests}
 use Rattle.wake_lock.specs.declared.CallId.{CallId}
 use Rattle.sequential_signer.specs.Policy.{Policy}
-use Rattle.sequential_signer.specs.Lookup.{Outcome, HandOut, Refuse, cache_lookup, lookup_by}
+use Rattle.sequential_signer.specs.Lookup.{Outcome, HandOut, Refuse, cache_lookup, lookup_by, check_refreshed}
 use Rattle.sequential_signer.specs.SequentialCall.{Asking, Over, sequential_call, after_lookup, load_progress}
 use Rattle.sequential_signer.specs.Setup.{Setup, cache_of, rule_of}
 use Rattle.sequential_signer.specs.Transcript.{committed_entries}
@@ -54,8 +54,8 @@ module _ {K D : Type 0} (policy : Policy K D) where
 
   -- a load begins with the first provider, or with a refusal where there is none
   load_reply : (loader : Loader) (rule : D) (duration : Option ℕ) (cache : Option K) (wake : Option CallId)
-      → (begins_load loader (with_wake (progress_reply (load_progress policy loader rule duration cache 0 None)) wake) ≡ true)
-      × (is_sign (with_wake (progress_reply (load_progress policy loader rule duration cache 0 None)) wake) ≡ false)
+      → (begins_load loader (with_wake (progress_reply (load_progress (check_refreshed policy rule duration) loader cache 0 None)) wake) ≡ true)
+      × (is_sign (with_wake (progress_reply (load_progress (check_refreshed policy rule duration) loader cache 0 None)) wake) ≡ false)
   load_reply Single rule duration cache wake = (refl, refl)
   load_reply (Chain n) rule duration cache wake =
       (elim (nat_lt 0 n) as (λ v. (n == 0) ≡ not v → (begins_load (Chain n) (with_wake (progress_reply (cond v (Asking 0) (Over (Refuse Missing) cache))) wake) ≡ true) × (is_sign (with_wake (progress_reply (cond v (Asking 0) (Over (Refuse Missing) cache))) wake) ≡ false)) [
@@ -66,7 +66,7 @@ module _ {K D : Type 0} (policy : Policy K D) where
   module _ (cache : Option K) (loader : Loader) (rule : D) (duration : Option ℕ) (now : ℤ) (wake : Option CallId) where
     -- the reply at a look
     abbrev pub look_reply : Option (Outcome K) → Reply K
-    look_reply o = with_wake (progress_reply (after_lookup o cache (load_progress policy loader rule duration cache 0 None))) wake
+    look_reply o = with_wake (progress_reply (after_lookup o cache (load_progress (check_refreshed policy rule duration) loader cache 0 None))) wake
 
     begins_by : (o : Option (Outcome K)) → cache_lookup policy cache rule duration now ≡ o → begins_load loader (look_reply o) ≡ is_none o
     begins_by None h = (load_reply loader rule duration cache wake).0

@@ -1,7 +1,7 @@
 -- A call that loads would load again: its look at the sequential cache still finds nothing to hand out.
 use Rattle.std.proofs.Common.{◌≡◌, ℕ, Bool, true, false, ◌==◌, List, [], ◌∷◌, ◌++◌, Option, Some, None, refl, sym, ◌∙◌, ap, subst, length}
 use Rattle.wake_lock.specs.declared.CallId.{CallId}
-use Rattle.sequential_signer.specs.Lookup.{Outcome, HandOut, Refuse, cache_lookup}
+use Rattle.sequential_signer.specs.Lookup.{Outcome, HandOut, Refuse, cache_lookup, check_refreshed}
 use Rattle.sequential_signer.specs.Policy.{Policy}
 use Rattle.sequential_signer.specs.SequentialCall.{HoldInput, Asking, Over, sequential_call, load_progress, after_lookup}
 use Rattle.sequential_signer.specs.Setup.{Setup, cache_of}
@@ -35,7 +35,7 @@ module _ {K D : Type 0} (policy : Policy K D) (setup : Setup D) where
     pub none : cache_lookup policy (sequential_cache policy setup entries i) input.rule input.duration input.now ≡ None
 
   asking_by : (cache : Option K) (loader : Loader) (input : HoldInput K D) (k : ℕ) (o : Option (Outcome K)) → cache_lookup policy cache input.rule input.duration input.now ≡ o
-      → Asking k ≡ after_lookup o cache (load_progress policy loader input.rule input.duration cache (length input.answers) (last_of input.answers)) → o ≡ None
+      → Asking k ≡ after_lookup o cache (load_progress (check_refreshed policy input.rule input.duration) loader cache (length input.answers) (last_of input.answers)) → o ≡ None
   asking_by cache loader input k None h e = refl
   asking_by cache loader input k (Some outcome) h e = cc
 

@@ -2,7 +2,7 @@
 use Rattle.std.proofs.Common.{◌≡◌, ℕ, ℤ, Bool, true, false, not, ◌&&◌, List, [], ◌∷◌, ◌++◌, Option, Some, None, refl, sym, ◌∙◌, ap, subst}
 use Rattle.std.specs.List.{list_all}
 use Rattle.wake_lock.specs.declared.CallId.{CallId}
-use Rattle.sequential_signer.specs.Lookup.{Outcome, HandOut, cache_lookup, lookup_by}
+use Rattle.sequential_signer.specs.Lookup.{Outcome, HandOut, cache_lookup, lookup_by, check_refreshed}
 use Rattle.sequential_signer.specs.Policy.{Policy}
 use Rattle.sequential_signer.specs.SequentialCall.{HoldInput, Progress, Over, sequential_call, after_lookup, load_progress}
 use Rattle.sequential_signer.specs.Setup.{Setup, cache_of, rule_of, is_of_cache, is_number}
@@ -23,7 +23,7 @@ use Rattle.sequential_signer.specs.declared.event.Reply.TheVariants.{NotNow, Sig
 use Rattle.wake_lock.proofs.Truth.{and_left, and_right, number_refl}
 use Rattle.sequential_signer.proofs.Lists.{and_false, false_by}
 use Rattle.wake_lock.proofs.Calls.{same_call-eq}
-use Rattle.sequential_signer.proofs.LegalStep.{LegalStep, HoldReaches, not_now, begins, waits, pending, looks, takes_effect, accepts, fails, cancels}
+use Rattle.sequential_signer.proofs.LegalStep.{LegalStep, HoldReaches, at_look, not_now, begins, waits, pending, looks, takes_effect, accepts, fails, cancels}
 use Rattle.sequential_signer.proofs.Run.{IsRun, more, legal_run, committed_entries-more, committed_entries-lost, legal_entry_step, out_of_memory-is}
 use Rattle.sequential_signer.proofs.CallInvariant.{Loads, phase-other, loads-own_mark, loads-own_unmarked}
 use Rattle.sequential_signer.proofs.CallInvariantSteps.{run_loads}
@@ -53,7 +53,7 @@ module _ {K D : Type 0} (policy : Policy K D) (setup : Setup D) (i : ℕ) (c : K
 
   module _ (entries : List (Entry K)) (loaded : HasLoaded entries) where
     -- a look at the cached credential hands it out
-    look_hits : (call : CallId) (now : ℤ) (progress : Progress K) → HoldReaches policy setup entries call i (Some now) [] progress → ServesLook policy setup i c entries (record { event = Poll call now; reply = NotNow })
+    look_hits : (call : CallId) (now : ℤ) (progress : Progress K) → HoldReaches policy setup entries (at_look call i now) progress → ServesLook (serves_at policy c) setup i entries (record { event = Poll call now; reply = NotNow })
         → is_waiting (phase_of entries call) ≡ true → has_turn setup entries i call ≡ true → progress ≡ Over (HandOut c) (Some c)
     look_hits call now progress g serves w t = look_by (rule_of setup call) refl (begin_of entries call) refl g.inputs
       where
@@ -68,14 +68,14 @@ module _ {K D : Type 0} (policy : Policy K D) (setup : Setup D) (i : ℕ) (c : K
             g.reaches
             ∙ ap (λ (v : HoldInput K D). sequential_call policy (sequential_cache policy setup entries i) g.loader v) (sym e)
             ∙ ap (λ (v : Option K). sequential_call policy v g.loader input) loaded.cache
-            ∙ ap (λ (v : Option (Outcome K)). after_lookup v (Some c) (load_progress policy g.loader rule begin.duration (Some c) 0 None)) hit
+            ∙ ap (λ (v : Option (Outcome K)). after_lookup v (Some c) (load_progress (check_refreshed policy rule begin.duration) g.loader (Some c) 0 None)) hit
 
     -- nobody of the cache loads
     nobody_loads : (call : CallId) → cache_of setup call ≡ Some i → is_loading (phase_of entries call) ≡ true → ⊥
     nobody_loads call at l = let n : is_loading (phase_of entries call) ≡ false = loaded.idle call at in cc
 
     -- an entry of the cache asks nobody, and hands out nothing that was found
-    asks_nobody : (event : Event K) (reply : Reply K) → LegalStep policy setup entries event reply → cache_of setup (call_of event) ≡ Some i → ServesLook policy setup i c entries (record { event = event; reply = reply })
+    asks_nobody : (event : Event K) (reply : Reply K) → LegalStep policy setup entries event reply → cache_of setup (call_of event) ≡ Some i → ServesLook (serves_at policy c) setup i entries (record { event = event; reply = reply })
         → (is_ask reply ≡ false) × (is_refresh event reply ≡ false)
     asks_nobody event reply (not_now e) at serves = (refl, refl)
     asks_nobody event reply (begins call head expires_in j atj new) at serves = (refl, refl)
@@ -89,7 +89,7 @@ module _ {K D : Type 0} (policy : Policy K D) (setup : Setup D) (i : ℕ) (c : K
         let atj = g.at in
         let same : j ≡ i = cc in
         let turn : has_turn setup entries i call ≡ true = subst (λ n. has_turn setup entries n call ≡ true) same t in
-        let goes : HoldReaches policy setup entries call i (Some now) [] progress = subst (λ n. HoldReaches policy setup entries call n (Some now) [] progress) same g in
+        let goes : HoldReaches policy setup entries (at_look call i now) progress = subst (λ n. HoldReaches policy setup entries (at_look call n now) progress) same g in
         rw (look_hits call now progress goes serves w turn) (refl, refl)
 
     -- so after it no call of the cache loads
@@ -109,7 +109,7 @@ module _ {K D : Type 0} (policy : Policy K D) (setup : Setup D) (i : ℕ) (c : K
         cc
 
     -- a legal step keeps the credential cached and the cache idle, and asks nobody
-    loaded_step : (event : Event K) (reply : Reply K) → LegalStep policy setup entries event reply → ServesLook policy setup i c entries (record { event = event; reply = reply }) → (h : Bool) → is_of_cache setup i (call_of event) ≡ h
+    loaded_step : (event : Event K) (reply : Reply K) → LegalStep policy setup entries event reply → ServesLook (serves_at policy c) setup i entries (record { event = event; reply = reply }) → (h : Bool) → is_of_cache setup i (call_of event) ≡ h
         → HasLoaded (entries ++ record { event = event; reply = reply } ∷ []) × (not (is_of_cache setup i (call_of event) && is_ask reply) ≡ true)
     loaded_step event reply step serves true h =
         let keeps = asks_nobody event reply step (is_number-eq i (cache_of setup (call_of event)) h) serves in
@@ -131,7 +131,7 @@ module _ {K D : Type 0} (policy : Policy K D) (setup : Setup D) (i : ℕ) (c : K
     )
 
   -- so does a legal entry, and one that ran out of memory leaves all
-  loaded_entry : (before : List (Entry K)) (e : Entry K) → HasLoaded (committed_entries before) → ServesLook policy setup i c (committed_entries before) e → IsLegalEntry policy setup (committed_entries before) e
+  loaded_entry : (before : List (Entry K)) (e : Entry K) → HasLoaded (committed_entries before) → ServesLook (serves_at policy c) setup i (committed_entries before) e → IsLegalEntry policy setup (committed_entries before) e
       → HasLoaded (committed_entries (before ++ e ∷ [])) × (not (is_of_cache setup i (call_of e.event) && is_ask e.reply) ≡ true)
   loaded_entry before e l serves legal = by_memory (is_out_of_memory e.reply) refl
     where
@@ -143,7 +143,7 @@ module _ {K D : Type 0} (policy : Policy K D) (setup : Setup D) (i : ℕ) (c : K
           let unasked : is_ask e.reply ≡ false = ap is_ask (out_of_memory-is e.reply m) in
           (subst (λ (v : List (Entry K)). HasLoaded v) (sym (committed_entries-lost before e m)) l, rw (unasked, and_false (is_of_cache setup i (call_of e.event))) refl)
 
-  nobody_asked : (before after : List (Entry K)) → HasLoaded (committed_entries before) → IsLegalAfter policy setup before after → ServesLooks policy setup i c before after → list_all (λ e. not (is_of_cache setup i (call_of e.event) && is_ask e.reply)) after ≡ true
+  nobody_asked : (before after : List (Entry K)) → HasLoaded (committed_entries before) → IsLegalAfter policy setup before after → ServesLooks (serves_at policy c) setup i before after → list_all (λ e. not (is_of_cache setup i (call_of e.event) && is_ask e.reply)) after ≡ true
   nobody_asked before [] l legal serves = refl
   nobody_asked before (e ∷ rest) l legal serves =
       let next = loaded_entry before e l serves.0 legal.0 in
@@ -170,7 +170,7 @@ module _ {K D : Type 0} (policy : Policy K D) (setup : Setup D) (i : ℕ) (c : K
       by_step (leaves_all none _) = absurd (cc)
       by_step (ends_hold_at j x) = record {
         run = more entries (Provided call now (Found c)) (Sign handed wake) run step;
-        cache = (signed_found_is_cached policy setup entries run call now c handed wake i step at).cache;
+        cache = (signed_found_is_cached policy setup entries run call now c handed wake i step at).1;
         idle = λ b atb. idle j x b atb (same_call b call) refl;
       }
 

@@ -38,20 +38,21 @@ lasts_to policy c now (Some deadline) = policy.valid_at c deadline now
 abbrev pub serves_at : {K D : Type 0} → Policy K D → K → D → Option ℕ → ℤ → Bool
 serves_at policy c rule duration now = policy.valid c now && lasts_to policy c now (policy.deadline rule c duration now)
 
--- where the entry, after the committed entries, is a look at cache i, the credential serves it
-abbrev pub ServesLook : {K D : Type 0} → Policy K D → Setup D → ℕ → K → List (Entry K) → Entry K → Type 0
-ServesLook {D = D} policy setup i c entries entry =
+-- where the entry, after the committed entries, is a look at cache i, what serves by a rule, a duration and a moment
+-- serves it
+abbrev pub ServesLook : {K D : Type 0} → (D → Option ℕ → ℤ → Bool) → Setup D → ℕ → List (Entry K) → Entry K → Type 0
+ServesLook {D = D} serves setup i entries entry =
     (call : CallId) (now : ℤ) (rule : D) (begin : BeginInput)
     → entry.event ≡ Poll call now → cache_of setup call ≡ Some i
     → IsTrue (is_waiting (phase_of entries call)) → IsTrue (has_turn setup entries i call)
     → rule_of setup call ≡ Some rule → begin_of entries call ≡ Some begin
-    → IsTrue (serves_at policy c rule begin.duration now)
+    → IsTrue (serves rule begin.duration now)
 
--- the credential serves each look at cache i among these entries, the first of which comes after `before`
-abbrev pub ServesLooks : {K D : Type 0} → Policy K D → Setup D → ℕ → K → List (Entry K) → List (Entry K) → Type 0
-ServesLooks policy setup i c before [] = Unit {0}
-ServesLooks policy setup i c before (entry ∷ rest) =
-    ServesLook policy setup i c (committed_entries before) entry × ServesLooks policy setup i c (before ++ entry ∷ []) rest
+-- it serves each look at cache i among these entries, the first of which comes after `before`
+abbrev pub ServesLooks : {K D : Type 0} → (D → Option ℕ → ℤ → Bool) → Setup D → ℕ → List (Entry K) → List (Entry K) → Type 0
+ServesLooks serves setup i before [] = Unit {0}
+ServesLooks serves setup i before (entry ∷ rest) =
+    ServesLook serves setup i (committed_entries before) entry × ServesLooks serves setup i (before ++ entry ∷ []) rest
 
 -- whether the reply asks a provider
 abbrev pub is_ask : {K : Type 0} → Reply K → Bool
@@ -67,7 +68,7 @@ abbrev pub OneLoadServesAll : Type 0 → Type 0 → Type 0
 OneLoadServesAll K D =
     (policy : Policy K D) (setup : Setup D) (before after : List (Entry K)) (call : CallId) (now : ℤ) (c handed : K) (wake : Option CallId) (i : ℕ)
     → IsLegal policy setup (before ++ found_entry call now c (Sign handed wake) ∷ after) → cache_of setup call ≡ Some i
-    → ServesLooks policy setup i c (before ++ found_entry call now c (Sign handed wake) ∷ []) after
+    → ServesLooks (serves_at policy c) setup i (before ++ found_entry call now c (Sign handed wake) ∷ []) after
     → IsTrue (list_all (λ e. not (is_of_cache setup i (call_of e.event) && is_ask e.reply)) after)
 
 -- the credential that a reply hands out

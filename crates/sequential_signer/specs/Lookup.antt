@@ -28,6 +28,6 @@ check_by policy c now (Some deadline) =
     if policy.valid_at c deadline now then HandOut c else Refuse (Short deadline)
 
 -- what a credential that was just loaded is good for; whether it is fresh is not asked
-abbrev pub check_refreshed : {K D : Type 0} → Policy K D → K → D → Option ℕ → ℤ → Outcome K
-check_refreshed policy c rule duration now =
+abbrev pub check_refreshed : {K D : Type 0} → Policy K D → D → Option ℕ → K → ℤ → Outcome K
+check_refreshed policy rule duration c now =
     check_by policy c now (policy.deadline rule c duration now)

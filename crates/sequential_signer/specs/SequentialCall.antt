@@ -23,16 +23,15 @@ abbrev pub found_progress : {K : Type 0} → Outcome K → Option K → Progress
 found_progress (HandOut c) cache = Over (HandOut c) (Some c)
 found_progress (Refuse cause) cache = Over (Refuse cause) cache
 
--- the load, by the number of answers and the last of them
-abbrev pub load_progress : {K D : Type 0} → Policy K D → Loader → D → Option ℕ → Option K → ℕ → Option (Answer K × ℤ) → Progress K
-load_progress policy loader rule duration cache count (Some (Found c, now)) =
-    found_progress (check_refreshed policy c rule duration now) cache
-load_progress policy Single rule duration cache count None = Asking 0
-load_progress policy Single rule duration cache count (Some (Missing, now)) = Over (Refuse why.Missing) cache
-load_progress policy Single rule duration cache count (Some (Failed e, now)) = Over (Refuse (why.Loader e)) cache
-load_progress policy (Chain n) rule duration cache count None = next_of_chain n cache count
-load_progress policy (Chain n) rule duration cache count (Some (Missing, now)) = next_of_chain n cache count
-load_progress policy (Chain n) rule duration cache count (Some (Failed e, now)) = next_of_chain n cache count
+-- the load, by the check of what is found, the number of answers and the last of them
+abbrev pub load_progress : {K : Type 0} → (K → ℤ → Outcome K) → Loader → Option K → ℕ → Option (Answer K × ℤ) → Progress K
+load_progress check loader cache count (Some (Found c, now)) = found_progress (check c now) cache
+load_progress check Single cache count None = Asking 0
+load_progress check Single cache count (Some (Missing, now)) = Over (Refuse why.Missing) cache
+load_progress check Single cache count (Some (Failed e, now)) = Over (Refuse (why.Loader e)) cache
+load_progress check (Chain n) cache count None = next_of_chain n cache count
+load_progress check (Chain n) cache count (Some (Missing, now)) = next_of_chain n cache count
+load_progress check (Chain n) cache count (Some (Failed e, now)) = next_of_chain n cache count
 
 -- a look that decides leaves the cache; else the load goes on
 abbrev pub after_lookup : {K : Type 0} → Option (Outcome K) → Option K → Progress K → Progress K
@@ -53,4 +52,4 @@ sequential_call policy cache loader i =
     after_lookup
     (cache_lookup policy cache i.rule i.duration i.now)
     cache
-    (load_progress policy loader i.rule i.duration cache (length i.answers) (last_of i.answers))
+    (load_progress (check_refreshed policy i.rule i.duration) loader cache (length i.answers) (last_of i.answers))

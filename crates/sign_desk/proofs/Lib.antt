@@ -10,7 +10,6 @@ pub mod Refine
 pub mod RefineBegin
 pub mod LiveRecord
 pub mod RefineLive
-pub mod RefineHold
 pub mod RefinePoll
 pub mod RefineLoad
 pub mod RefineEnd

@@ -55,24 +55,24 @@ below_true a b h = grind (arith, nat_tests)
 module _ {K D : Type 0} (policy : Policy K D) (setup : Setup D) where
   -- a provider is asked only where there is one more
   first_asks : (loader : Loader) (input : HoldInput K D) (cache : Option K) (k : ℕ) → input.answers ≡ [] → Asking k ≡ sequential_call policy cache loader input → 0 < provider_count loader
-  first_asks loader input cache k a h = by_look (cache_lookup policy cache input.rule input.duration input.now) (h ∙ ap (λ (x : List (Answer K × ℤ)). after_lookup (cache_lookup policy cache input.rule input.duration input.now) cache (load_progress policy loader input.rule input.duration cache (length x) (last_of x))) a)
+  first_asks loader input cache k a h = by_look (cache_lookup policy cache input.rule input.duration input.now) (h ∙ ap (λ (x : List (Answer K × ℤ)). after_lookup (cache_lookup policy cache input.rule input.duration input.now) cache (load_progress (check_refreshed policy input.rule input.duration) loader cache (length x) (last_of x))) a)
     where
       by_chain : (n : ℕ) (b : Bool) → nat_lt 0 n ≡ b → Asking k ≡ cond b (Asking 0) (Over (Refuse why.Missing) cache) → 0 < n
       by_chain n true e h = below_true 0 n e
       by_chain n false e h = cc
 
-      by_loader : (loader : Loader) → Asking k ≡ load_progress policy loader input.rule input.duration cache 0 None → 0 < provider_count loader
+      by_loader : (loader : Loader) → Asking k ≡ load_progress (check_refreshed policy input.rule input.duration) loader cache 0 None → 0 < provider_count loader
       by_loader Single h = omega arith
       by_loader (Chain n) h = by_chain n (nat_lt 0 n) refl h
 
-      by_look : (o : Option (Outcome K)) → Asking k ≡ after_lookup o cache (load_progress policy loader input.rule input.duration cache 0 None) → 0 < provider_count loader
+      by_look : (o : Option (Outcome K)) → Asking k ≡ after_lookup o cache (load_progress (check_refreshed policy input.rule input.duration) loader cache 0 None) → 0 < provider_count loader
       by_look (Some x) h = cc
       by_look None h = by_loader loader h
 
   next_asks : (loader : Loader) (input : HoldInput K D) (cache : Option K) (k : ℕ) (answers : List (Answer K × ℤ)) (answer : Answer K) (now : ℤ) → input.answers ≡ answers ++ (answer, now) ∷ [] → Asking k ≡ sequential_call policy cache loader input → length input.answers < provider_count loader
   next_asks loader input cache k answers answer now a h =
       by_look (cache_lookup policy cache input.rule input.duration input.now)
-      (h ∙ ap (λ (x : Option (Answer K × ℤ)). after_lookup (cache_lookup policy cache input.rule input.duration input.now) cache (load_progress policy loader input.rule input.duration cache (length input.answers) x)) (ap last_of a ∙ last_of-more answers (answer, now)))
+      (h ∙ ap (λ (x : Option (Answer K × ℤ)). after_lookup (cache_lookup policy cache input.rule input.duration input.now) cache (load_progress (check_refreshed policy input.rule input.duration) loader cache (length input.answers) x)) (ap last_of a ∙ last_of-more answers (answer, now)))
     where
       by_chain : (n : ℕ) (b : Bool) → nat_lt (length input.answers) n ≡ b → Asking k ≡ cond b (Asking (length input.answers)) (Over (Refuse why.Missing) cache) → length input.answers < n
       by_chain n true e h = below_true (length input.answers) n e
@@ -82,15 +82,15 @@ module _ {K D : Type 0} (policy : Policy K D) (setup : Setup D) where
       by_found (HandOut c) h = cc
       by_found (Refuse cause) h = cc
 
-      by_loader : (loader : Loader) (answer : Answer K) → Asking k ≡ load_progress policy loader input.rule input.duration cache (length input.answers) (Some (answer, now)) → length input.answers < provider_count loader
-      by_loader Single (Found c) h = absurd (by_found (check_refreshed policy c input.rule input.duration now) h)
+      by_loader : (loader : Loader) (answer : Answer K) → Asking k ≡ load_progress (check_refreshed policy input.rule input.duration) loader cache (length input.answers) (Some (answer, now)) → length input.answers < provider_count loader
+      by_loader Single (Found c) h = absurd (by_found (check_refreshed policy input.rule input.duration c now) h)
       by_loader Single Missing h = cc
       by_loader Single (Failed e) h = cc
-      by_loader (Chain n) (Found c) h = absurd (by_found (check_refreshed policy c input.rule input.duration now) h)
+      by_loader (Chain n) (Found c) h = absurd (by_found (check_refreshed policy input.rule input.duration c now) h)
       by_loader (Chain n) Missing h = by_chain n (nat_lt (length input.answers) n) refl h
       by_loader (Chain n) (Failed e) h = by_chain n (nat_lt (length input.answers) n) refl h
 
-      by_look : (o : Option (Outcome K)) → Asking k ≡ after_lookup o cache (load_progress policy loader input.rule input.duration cache (length input.answers) (Some (answer, now))) → length input.answers < provider_count loader
+      by_look : (o : Option (Outcome K)) → Asking k ≡ after_lookup o cache (load_progress (check_refreshed policy input.rule input.duration) loader cache (length input.answers) (Some (answer, now))) → length input.answers < provider_count loader
       by_look (Some x) h = cc
       by_look None h = by_loader loader answer h
 

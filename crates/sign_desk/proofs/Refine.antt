@@ -4,7 +4,7 @@ use Rattle.std.specs.Option.{IsSomeAnd}
 use Rattle.wake_lock.specs.declared.CallId.{CallId}
 use Rattle.wake_lock.specs.Calls.{same_call}
 use Rattle.sequential_signer.specs.Policy.{Policy}
-use Rattle.sequential_signer.specs.Setup.{Setup, cache_of, is_number}
+use Rattle.sequential_signer.specs.Setup.{Setup, cache_of, is_number, is_of_cache}
 use Rattle.sequential_signer.specs.Transcript.{committed_entries, call_of, is_out_of_memory}
 use Rattle.sequential_signer.specs.Phase.{phase_of, is_live, is_begun, is_not_now, is_poll}
 use Rattle.sequential_signer.specs.Hold.{begin_of, answers_of}
@@ -28,7 +28,8 @@ use Rattle.sequential_signer.proofs.Greatest.{greatest_begun-more}
 use Rattle.sequential_signer.proofs.LegalStep.{LegalStep}
 use Rattle.sequential_signer.proofs.Run.{IsRun, committed_entries-more, committed_entries-lost, legal_run, legal_entry_step, legal-more}
 use Rattle.sequential_signer.proofs.CallInvariant.{begin-own, refused_phase, refused_answers}
-use Rattle.sequential_signer.proofs.FoundCredential.{is_refresh, found_is_handed_out, others_leave, SignsFound, signed_found_is_cached}
+use Rattle.sequential_signer.proofs.HandedOut.{cache_elsewhere}
+use Rattle.sequential_signer.proofs.FoundCredential.{is_refresh, found_is_handed_out, others_leave, signed_found_is_cached}
 use Rattle.sign_desk.specs.Queue.{Queue, with_changed}
 use Rattle.sign_desk.specs.TranscriptQueue.{live_calls, queue_of}
 use Rattle.sign_desk.specs.DeskState.{DeskState, setup_of, find_call, live_view, was_begun, Represents}
@@ -128,8 +129,9 @@ module _ {K D : Type 0} (policy : Policy K D) where
           absurd (cc)
       loaded c i within (Some loader) l = refl
 
-      cached_one : (e : Entry K) (c handed : K) (i : ℕ) → cache_of setup (call_of e.event) ≡ Some i → SignsFound policy setup before ran e c handed i → i < length old.caches → new.caches ≡ slice_set old.caches i (Some c) → CachedAfter e
-      cached_one e c handed i at found within h j = by_number (i == j) refl
+      cached_one : (e : Entry K) (c : K) (i : ℕ) → cache_of setup (call_of e.event) ≡ Some i → sequential_cache policy setup (after e) i ≡ Some c
+          → ((j : ℕ) → is_of_cache setup j (call_of e.event) ≡ false → sequential_cache policy setup (after e) j ≡ sequential_cache policy setup before j) → i < length old.caches → new.caches ≡ slice_set old.caches i (Some c) → CachedAfter e
+      cached_one e c i at cached others within h j = by_number (i == j) refl
         where
           by_number : (b : Bool) → (i == j) ≡ b → slice_get new.caches j ≡ option_map (λ _. sequential_cache policy setup (after e) j) (slice_get old.loaders j)
           by_number true n =
@@ -137,17 +139,19 @@ module _ {K D : Type 0} (policy : Policy K D) where
               (ap (λ (cs : List (Option K)). slice_get cs i) h
               ∙ slice_get-set_same old.caches i (Some c) (place-there old.caches i within)
               ∙ loaded c i within (slice_get old.loaders i) refl
-              ∙ ap (λ x. option_map (λ _. x) (slice_get old.loaders i)) (sym found.cache))
+              ∙ ap (λ x. option_map (λ _. x) (slice_get old.loaders i)) (sym cached))
           by_number false n =
               ap (λ (cs : List (Option K)). slice_get cs j) h
               ∙ slice_get-set_other old.caches i j (Some c) (other_number i j n)
               ∙ stood.caches j
-              ∙ ap (λ x. option_map (λ _. x) (slice_get old.loaders j)) (sym (found.others j (ap (is_number j) at ∙ number_comm j i ∙ n)))
+              ∙ ap (λ x. option_map (λ _. x) (slice_get old.loaders j)) (sym (others j (ap (is_number j) at ∙ number_comm j i ∙ n)))
 
       cached_found : (call : CallId) (now : ℤ) (c handed : K) (wake : Option CallId) → LegalStep policy setup before (Provided call now (Found c)) (Sign handed wake) → (o : Option ℕ) → cache_of setup call ≡ o
           → IsSomeAnd o (λ (i : ℕ). (i < length old.caches) × (new.caches ≡ slice_set old.caches i (Some c))) → CachedAfter (record { event = Provided call now (Found c); reply = Sign handed wake })
       cached_found call now c handed wake step None at x = absurd x
-      cached_found call now c handed wake step (Some i) at x = cached_one (record { event = Provided call now (Found c); reply = Sign handed wake }) c handed i at (signed_found_is_cached policy setup before ran call now c handed wake i step at) x.0 x.1
+      cached_found call now c handed wake step (Some i) at x =
+          cached_one (record { event = Provided call now (Found c); reply = Sign handed wake }) c i at (signed_found_is_cached policy setup before ran call now c handed wake i step at).1
+          (cache_elsewhere policy setup before ran (Provided call now (Found c)) (Sign handed wake) step) x.0 x.1
 
       cached_after : (event : Event K) (reply : Reply K) → LegalStep policy setup before event reply → CachesAfter event reply old new → CachedAfter (record { event = event; reply = reply })
       cached_after (Provided call now (Found c)) (Sign handed wake) step k = cached_found call now c handed wake step (cache_of setup call) refl k.1

@@ -38,8 +38,7 @@ use Rattle.sign_desk.specs.declared.calls.Stage.TheVariants as stage
 use Rattle.sign_desk.specs.declared.state.LiveCallView.{LiveCallView}
 use Rattle.sign_desk.proofs.QueueLaw.{queue-stays, queue-unpolled, queue-gone, closed-absent, unpolled-absent, order-stays}
 use Rattle.sign_desk.proofs.Refine.{Refines, refines-lost, refines-not_now, follows-changed, follows-stays}
-use Rattle.sign_desk.proofs.RefineLive.{refines-end}
-use Rattle.sign_desk.proofs.RefineHold.{waited_leaves, waited_wakes}
+use Rattle.sign_desk.proofs.RefineLive.{refines-end, waited_leaves, waited_wakes}
 use Rattle.sign_desk.proofs.LiveRecord.{Lives, next_holder-is, at, says, invariant, phase-is, misfit}
 
 module _ {K D : Type 0} (policy : Policy K D) (old : DeskState K D) (entries : List (Entry K)) (stood : Represents policy old entries)

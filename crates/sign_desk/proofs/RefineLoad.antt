@@ -47,7 +47,7 @@ use Rattle.sign_desk.specs.declared.calls.Stage.TheVariants as stage
 use Rattle.sign_desk.specs.declared.state.LiveCallView.{LiveCallView}
 use Rattle.sign_desk.proofs.QueueLaw.{order-stays}
 use Rattle.sign_desk.proofs.Refine.{Refines, refines-not_now, caches_after-same}
-use Rattle.sign_desk.proofs.RefineHold.{HoldLaw, refines-hold, waited_wakes, waited_asks, waited_leaves}
+use Rattle.sign_desk.proofs.RefineLive.{HoldLaw, refines-hold, waited_wakes, waited_asks, waited_leaves}
 use Rattle.sign_desk.proofs.LiveRecord.{Lives, at, rule-is, cached, says, invariant, phase-is, misfit}
 
 -- the progress, but for the cache that it leaves
@@ -93,13 +93,13 @@ module _ {K D : Type 0} (policy : Policy K D) (old : DeskState K D) (entries : L
 
   -- how far the load gets
   abbrev progress : Progress K
-  progress = load_progress policy lives.loader lives.rule (option_map as_nanos r.expires_in) (sequential_cache policy setup before h.cache) (r.answers + 1) (Some (answer, now))
+  progress = load_progress (check_refreshed policy lives.rule (option_map as_nanos r.expires_in)) lives.loader (sequential_cache policy setup before h.cache) (r.answers + 1) (Some (answer, now))
 
   -- a load on what the desk keeps is one on the sequential cache
   load_by : (l : Loader) (a : Answer K) → slice_get old.loaders h.cache ≡ Some l
-      → option_map forget (desk_load policy old now view a) ≡ Some (forget (load_progress policy l lives.rule (option_map as_nanos r.expires_in) (sequential_cache policy setup before h.cache) (r.answers + 1) (Some (a, now))))
-  load_by Single (Found c) l = rw lives.ruled (ap Some (found-forgets (check_refreshed policy c lives.rule (option_map as_nanos r.expires_in) now) (sequential_cache policy setup before h.cache)))
-  load_by (Chain n) (Found c) l = rw lives.ruled (ap Some (found-forgets (check_refreshed policy c lives.rule (option_map as_nanos r.expires_in) now) (sequential_cache policy setup before h.cache)))
+      → option_map forget (desk_load policy old now view a) ≡ Some (forget (load_progress (check_refreshed policy lives.rule (option_map as_nanos r.expires_in)) l (sequential_cache policy setup before h.cache) (r.answers + 1) (Some (a, now))))
+  load_by Single (Found c) l = rw lives.ruled (ap Some (found-forgets (check_refreshed policy lives.rule (option_map as_nanos r.expires_in) c now) (sequential_cache policy setup before h.cache)))
+  load_by (Chain n) (Found c) l = rw lives.ruled (ap Some (found-forgets (check_refreshed policy lives.rule (option_map as_nanos r.expires_in) c now) (sequential_cache policy setup before h.cache)))
   load_by Single Missing l = rw l refl
   load_by Single (Failed e) l = rw l refl
   load_by (Chain n) Missing l = rw l (ap Some (chain-forgets (r.answers + 1) (sequential_cache policy setup before h.cache) (nat_lt (r.answers + 1) n)))
@@ -139,7 +139,7 @@ module _ {K D : Type 0} (policy : Policy K D) (old : DeskState K D) (entries : L
     reached : sequential_call policy (sequential_cache policy setup before h.cache) lives.loader (input (answers_of before call ++ (answer, now) ∷ [])) ≡ progress
     reached =
         call_loads policy (sequential_cache policy setup before h.cache) lives.loader (input (answers_of before call ++ (answer, now) ∷ [])) (answers_of before call) (answer, now) looked_none refl
-        ∙ ap (λ n. load_progress policy lives.loader lives.rule (option_map as_nanos r.expires_in) (sequential_cache policy setup before h.cache) (n + 1) (Some (answer, now))) (says policy old entries stood call h r lives).answers
+        ∙ ap (λ n. load_progress (check_refreshed policy lives.rule (option_map as_nanos r.expires_in)) lives.loader (sequential_cache policy setup before h.cache) (n + 1) (Some (answer, now))) (says policy old entries stood call h r lives).answers
 
     expected_load : hold_reply setup before h.cache (Provided call now answer) (hold_progress policy (sequential_cache policy setup before h.cache) (slice_get old.loaders h.cache) (input_by (rule_of setup call) (begin_of before call) (turn_moment setup before h.cache call) (answers_of before call ++ (answer, now) ∷ [])))
         ≡ expected_reply policy setup before (Provided call now answer)

@@ -42,8 +42,7 @@ use Rattle.sign_desk.specs.declared.calls.Stage.TheVariants as stage
 use Rattle.sign_desk.specs.declared.state.LiveCallView.{LiveCallView}
 use Rattle.sign_desk.proofs.QueueLaw.{queue-stays, queue-with_last, queue-without_room, order-polled}
 use Rattle.sign_desk.proofs.Refine.{Follows, Refines, refines-more, follows-changed, follows-stays, keeps_old, live-stays}
-use Rattle.sign_desk.proofs.RefineLive.{refines-live}
-use Rattle.sign_desk.proofs.RefineHold.{HoldLaw, refines-hold, waited_wakes, waited_asks, waited_leaves}
+use Rattle.sign_desk.proofs.RefineLive.{refines-live, HoldLaw, refines-hold, waited_wakes, waited_asks, waited_leaves}
 use Rattle.sign_desk.proofs.LiveRecord.{Lives, at, rule-is, cached, line-is, says, invariant, phase-is, here, own-begin}
 
 held-nobody : (xs : List CallId) → is_held_line xs ≡ false → xs ≡ []

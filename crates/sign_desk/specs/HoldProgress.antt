@@ -31,7 +31,7 @@ desk_lookup policy desk now view =
 -- what a credential that was found is good for now, by the call's rule
 abbrev pub desk_check : {K D : Type 0} → Policy K D → DeskState K D → ℤ → LiveCallView → K → Option (Outcome K)
 desk_check policy desk now view c =
-    option_map (λ rule. check_refreshed policy c rule (option_map as_nanos view.expires_in) now) (slice_get desk.rules view.rule)
+    option_map (λ rule. check_refreshed policy rule (option_map as_nanos view.expires_in) c now) (slice_get desk.rules view.rule)
 
 -- a load after so many answers, none of which was a credential; a single loader refuses for this cause
 abbrev pub next_load : {K : Type 0} → Option Loader → ℕ → Why → Option (Progress K)

@@ -15,6 +15,14 @@ pub record Since : Type 0 where
   pub before : Option (List ℕ)
   pub now : Option (List ℕ)
 
+-- the two streams of a run
+pub record Streams : Type 0 where
+  pub source : Since
+  pub sink : Since
+
+abbrev pub streams_of : Since → Since → Streams
+streams_of source sink = record { source = source; sink = sink }
+
 -- what the bytes handed out say: the lines behind them are read behind these items; or all was read, and no line is bad
 abbrev pub IsReadSoFar : {Item Cause : Type 0} → Command Item Cause → Option (List ℕ) → List Item → List ℕ → LineInput → Type 0
 IsReadSoFar command left items bytes input =
@@ -22,15 +30,15 @@ IsReadSoFar command left items bytes input =
     ⊎ ((input.closed ≡ Some close.End) × IsAtEnd left × (input.held ≡ []) × (lines_read command bytes End ≡ record { items = items; bad = None }))
 
 -- the items of the lines so far, the bytes of these lines, and the answers that were written
-pub record RunState {C Item Cause : Type 0} (command : Command Item Cause) (represents : C → List Item → Type 0) (source sink : Since) (input : LineInput) (service : Service C) : Type 0 where
+pub record RunState {C Item Cause : Type 0} (command : Command Item Cause) (represents : C → List Item → Type 0) (streams : Streams) (input : LineInput) (service : Service C) : Type 0 where
   pub items : List Item
   pub bytes : List ℕ
   pub written : List ℕ
   pub served : HasServed represents service items
-  pub read : IsReadSoFar command source.now items bytes input
+  pub read : IsReadSoFar command streams.source.now items bytes input
   pub handed : length bytes ≡ input.handed
   pub within : IsWithinLimit input
   pub few : length items ≤ input.handed
-  pub taken : Consumes source.before source.now (bytes ++ input.held)
-  pub added : Appends sink.before sink.now written
+  pub taken : Consumes streams.source.before streams.source.now (bytes ++ input.held)
+  pub added : Appends streams.sink.before streams.sink.now written
   pub answered : answers_to command items ≡ written ++ service.text.items

@@ -25,7 +25,7 @@ use Rattle.signctl_driver.proofs.ReadLines.{answers-none, answers-push}
 use Rattle.signctl_driver.proofs.Progress.{GoesOn, goes_on-none, goes_on-line, all_read-last, all_read-none, answers-start_fault, output-good}
 use Rattle.signctl_driver.proofs.Closes.{seen}
 use Rattle.signctl_driver.proofs.Endings.{EndsWith, ends-line, ends-last, ends-too_long, ends-too_much, ends-done, ends-fault}
-use Rattle.signctl_driver.proofs.RunState.{Since, RunState, IsReadSoFar}
+use Rattle.signctl_driver.proofs.RunState.{Since, streams_of, RunState, IsReadSoFar}
 
 -- a prefix of what is a prefix of the output
 pub stops-starts : {Item Cause : Type 0} (command : Command Item Cause) (left : Option (List ℕ)) (taken text part : List ℕ) → StopsEarly command left taken text → StartsWith text part → StopsEarly command left taken part
@@ -75,9 +75,9 @@ module _ {Item Cause : Type 0} (command : Command Item Cause) where
 
 module _ {C Item Cause : Type 0} (command : Command Item Cause) (represents : C → List Item → Type 0) where
   -- before the first line
-  pub state-first : (left holds : Option (List ℕ)) (input : LineInput) (service : Service C) → input ≡ record { handed = 0; held = []; closed = None } → HasServed represents service [] → service.text.items ≡ [] → RunState command represents (record { before = left; now = left }) (record { before = holds; now = holds }) input service
+  pub state-first : (left holds : Option (List ℕ)) (input : LineInput) (service : Service C) → input ≡ record { handed = 0; held = []; closed = None } → HasServed represents service [] → service.text.items ≡ [] → RunState command represents (streams_of (record { before = left; now = left }) (record { before = holds; now = holds })) input service
   state-first left holds input service new served text =
-      let P : LineInput → Type 0 = λ i. RunState command represents (record { before = left; now = left }) (record { before = holds; now = holds }) i service in
+      let P : LineInput → Type 0 = λ i. RunState command represents (streams_of (record { before = left; now = left }) (record { before = holds; now = holds })) i service in
       subst P (sym new) (record {
         items = [];
         bytes = [];
@@ -93,7 +93,7 @@ module _ {C Item Cause : Type 0} (command : Command Item Cause) (represents : C 
       })
 
   -- some answers more are written
-  pub state-written : (source : Since) (holds before now : Option (List ℕ)) (input : LineInput) (old new : Service C) → RunState command represents source (record { before = holds; now = before }) input old → (part : List ℕ) → old.text.items ≡ part ++ new.text.items → Appends before now part → new ≡ record old { text = new.text } → RunState command represents source (record { before = holds; now = now }) input new
+  pub state-written : (source : Since) (holds before now : Option (List ℕ)) (input : LineInput) (old new : Service C) → RunState command represents (streams_of source (record { before = holds; now = before })) input old → (part : List ℕ) → old.text.items ≡ part ++ new.text.items → Appends before now part → new ≡ record old { text = new.text } → RunState command represents (streams_of source (record { before = holds; now = now })) input new
   state-written source holds before now input old new state part text appends same =
       let P : Service C → Type 0 = λ s. HasServed represents s state.items in
       record {
@@ -111,12 +111,12 @@ module _ {C Item Cause : Type 0} (command : Command Item Cause) (represents : C 
       }
 
   -- so it is where the answers that wait, or none of them, were written
-  pub state-wrote : {E : Type 0} (source : Since) (holds before now : Option (List ℕ)) (input : LineInput) (old new : Service C) (result : Result (Unit {0}) E) → RunState command represents source (record { before = holds; now = before }) input old → is_err result ≡ false → OnOk result ((part : List ℕ) × (old.text.items ≡ part ++ new.text.items) × Appends before now part) → new ≡ record old { text = new.text } → RunState command represents source (record { before = holds; now = now }) input new
+  pub state-wrote : {E : Type 0} (source : Since) (holds before now : Option (List ℕ)) (input : LineInput) (old new : Service C) (result : Result (Unit {0}) E) → RunState command represents (streams_of source (record { before = holds; now = before })) input old → is_err result ≡ false → OnOk result ((part : List ℕ) × (old.text.items ≡ part ++ new.text.items) × Appends before now part) → new ≡ record old { text = new.text } → RunState command represents (streams_of source (record { before = holds; now = now })) input new
   state-wrote source holds before now input old new (Ok u) state ok part same =
       state-written source holds before now input old new state part.0 part.1 part.2 same
   state-wrote source holds before now input old new (Err e) state ok part same = absurd (cc)
 
-  module _ (before left : Option (List ℕ)) (sink : Since) (input : LineInput) (service : Service C) (state : RunState command represents (record { before = before; now = left }) sink input service) where
+  module _ (before left : Option (List ℕ)) (sink : Since) (input : LineInput) (service : Service C) (state : RunState command represents (streams_of (record { before = before; now = left }) sink) input service) where
     -- the answers to the lines so far are a prefix of the output to the bytes taken
     pub reached : HasTaken (record { before = before; now = left }) (state.bytes ++ input.held) × StopsEarly command left (state.bytes ++ input.held) (answers_to command state.items)
     reached = (
@@ -169,7 +169,7 @@ taken-kept input left (Ok line) new (inr gives) =
 taken-kept input left (Err close) new closes = ap (λ i. taken i) closes.1
 
 module _ {C Item Cause : Type 0} (command : Command Item Cause) (represents : C → List Item → Type 0) (before left : Option (List ℕ)) (sink : Since) (input : LineInput) (service : Service C)
-    (state : RunState command represents (record { before = before; now = left }) sink input service) (next : Option (List ℕ)) where
+    (state : RunState command represents (streams_of (record { before = before; now = left }) sink) input service) (next : Option (List ℕ)) where
   -- what an open input has taken after an answer
   open-taken : (answer : Result (List ℕ) Close) (new : LineInput) → (h : AnswersOpen input left next answer new) → HasTaken (record { before = before; now = next }) (state.bytes ++ (input.held ++ h.0))
   open-taken answer new h =
@@ -215,7 +215,7 @@ module _ {C Item Cause : Type 0} (command : Command Item Cause) (represents : C 
         ∙ append_assoc state.written service.text.items (command.answer state.items item) ∙ ap (λ v. state.written ++ v) (sym text)
 
     -- with its newline
-    state-whole : (line : List ℕ) (new : LineInput) (h : AnswersOpen input left next (Ok line) new) → GoesOn command state.items state.bytes → GivesLine (with_taken input h.0) line new → reading_of command state.items line ≡ Ok item → RunState command represents (record { before = before; now = next }) sink new served
+    state-whole : (line : List ℕ) (new : LineInput) (h : AnswersOpen input left next (Ok line) new) → GoesOn command state.items state.bytes → GivesLine (with_taken input h.0) line new → reading_of command state.items line ≡ Ok item → RunState command represents (streams_of (record { before = before; now = next }) sink) new served
     state-whole line new h go gives reads =
         let took = open-taken (Ok line) new h in
         let ended = line ++ newline ∷ [] in
@@ -236,12 +236,12 @@ module _ {C Item Cause : Type 0} (command : Command Item Cause) (represents : C 
         }
 
     -- or the last
-    state-last : (line : List ℕ) (new : LineInput) (h : AnswersOpen input left next (Ok line) new) → GoesOn command state.items state.bytes → GivesLastLine (with_taken input h.0) next line new → reading_of command state.items line ≡ Ok item → RunState command represents (record { before = before; now = next }) sink new served
+    state-last : (line : List ℕ) (new : LineInput) (h : AnswersOpen input left next (Ok line) new) → GoesOn command state.items state.bytes → GivesLastLine (with_taken input h.0) next line new → reading_of command state.items line ≡ Ok item → RunState command represents (streams_of (record { before = before; now = next }) sink) new served
     state-last line new h go gives reads =
         let took = open-taken (Ok line) new h in
         let all : state.bytes ++ (input.held ++ h.0) ≡ (state.bytes ++ line) ++ [] = ap (λ v. state.bytes ++ v) gives.3 ∙ sym (append-nil (state.bytes ++ line)) in
         let P : List ℕ → Type 0 = λ v. Consumes before next v in
-        let Q : LineInput → Type 0 = λ i. RunState command represents (record { before = before; now = next }) sink i served in
+        let Q : LineInput → Type 0 = λ i. RunState command represents (streams_of (record { before = before; now = next }) sink) i served in
         let R : LineInput → Type 0 = λ i. IsWithinLimit i in
         let clear = gives.0.2 in
         subst Q (sym gives.4) (record {
@@ -262,19 +262,19 @@ module _ {C Item Cause : Type 0} (command : Command Item Cause) (represents : C 
         clear_line line e part = let S : List ℕ → Type 0 = λ v. HasNoNewline v in subst S e part.0
 
     -- the run goes on behind it
-    pub state-line : (answer : Result (List ℕ) Close) (new : LineInput) → AnswersNext input left next answer new → turn_of command state.items answer ≡ Good item → RunState command represents (record { before = before; now = next }) sink new served
+    pub state-line : (answer : Result (List ℕ) Close) (new : LineInput) → AnswersNext input left next answer new → turn_of command state.items answer ≡ Good item → RunState command represents (streams_of (record { before = before; now = next }) sink) new served
     state-line answer new answers turn = by_read state.read
       where
-        by_answer : (a : Result (List ℕ) Close) → GoesOn command state.items state.bytes → AnswersOpen input left next a new → turn_of command state.items a ≡ Good item → RunState command represents (record { before = before; now = next }) sink new served
+        by_answer : (a : Result (List ℕ) Close) → GoesOn command state.items state.bytes → AnswersOpen input left next a new → turn_of command state.items a ≡ Good item → RunState command represents (streams_of (record { before = before; now = next }) sink) new served
         by_answer (Ok line) go h t = by_reading (reading_of command state.items line) refl t
           where
-            by_reading : (r : Result Item (List ℕ)) → reading_of command state.items line ≡ r → turn_by (length state.items) r ≡ Good item → RunState command represents (record { before = before; now = next }) sink new served
+            by_reading : (r : Result Item (List ℕ)) → reading_of command state.items line ≡ r → turn_by (length state.items) r ≡ Good item → RunState command represents (streams_of (record { before = before; now = next }) sink) new served
             by_reading (Ok x) e same = by_gives h.3
               where
                 reads : reading_of command state.items line ≡ Ok item
                 reads = e ∙ ap (λ (v : Item). Ok v) (good-is x item same)
 
-                by_gives : Answers (with_taken input h.0) next (Ok line) new → RunState command represents (record { before = before; now = next }) sink new served
+                by_gives : Answers (with_taken input h.0) next (Ok line) new → RunState command represents (streams_of (record { before = before; now = next }) sink) new served
                 by_gives (inl gives) = state-whole line new h go gives reads
                 by_gives (inr gives) = state-last line new h go gives reads
             by_reading (Err why) e same = absurd (cc)
@@ -283,7 +283,7 @@ module _ {C Item Cause : Type 0} (command : Command Item Cause) (represents : C 
         by_answer (Err close.End) go h t = absurd (cc)
         by_answer (Err close.Fault) go h t = absurd (cc)
 
-        by_read : IsReadSoFar command left state.items state.bytes input → RunState command represents (record { before = before; now = next }) sink new served
+        by_read : IsReadSoFar command left state.items state.bytes input → RunState command represents (streams_of (record { before = before; now = next }) sink) new served
         by_read (inl runs) =
             let P : Option Close → Type 0 = λ o. MatchOption o (AnswersOpen input left next answer new) (λ close. (answer ≡ Err close) × (new ≡ input)) in
             by_answer answer runs.1 (subst P runs.0 answers) turn
