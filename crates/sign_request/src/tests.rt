@@ -49,7 +49,7 @@ fn pairs(alloc: Global, texts: &[(&str, &str)]) -> Result<Vec<(String, String)>,
 }
 
 // The kind and the message of an error.
-fn told(alloc: Global, error: &Error) -> Result<String, Fail> {
+fn error_text(alloc: Global, error: &Error) -> Result<String, Fail> {
     let kind = error.kind();
     Ok(format!(in alloc; "{kind}: {error}")?)
 }
@@ -148,7 +148,7 @@ fn applied(alloc: Global, built: &str, change: Change, target: &str) -> Result<S
     let mut head = parts(alloc, target, &[("x", b"v")])?;
     let answer = match view.apply(&mut head) {
         Ok(()) => String::from_str(alloc, "done")?,
-        Err(e) => told(alloc, &e)?,
+        Err(e) => error_text(alloc, &e)?,
     };
     let uri = &head.uri;
     let headers = &head.headers;
@@ -203,7 +203,7 @@ fn build_answer(alloc: Global, uri: &str) -> Result<String, Fail> {
     let head = parts(alloc, uri, &[])?;
     match SigningRequest::build(alloc, &head) {
         Ok(_) => Ok(String::from_str(alloc, "done")?),
-        Err(e) => told(alloc, &e),
+        Err(e) => error_text(alloc, &e),
     }
 }
 
@@ -283,7 +283,7 @@ fn value_of(alloc: Global, headers: Headers<'_>, name: &'static [u8]) -> Result<
     let key = HeaderName::from_bytes(alloc, name)?;
     match view.header_get_or_default(&key) {
         Ok(text) => Ok(String::from_str(alloc, text)?),
-        Err(e) => told(alloc, &e),
+        Err(e) => error_text(alloc, &e),
     }
 }
 
@@ -291,7 +291,7 @@ fn with_prefix(alloc: Global, headers: Headers<'_>, prefix: &str) -> Result<Stri
     let view = view(alloc, "https://e.x/", headers)?;
     match view.header_to_vec_with_prefix(prefix) {
         Ok(found) => Ok(format!(in alloc; "{found:?}")?),
-        Err(e) => told(alloc, &e),
+        Err(e) => error_text(alloc, &e),
     }
 }
 
@@ -354,7 +354,7 @@ fn committed(alloc: Global, plain: &Head) -> Result<String, Fail> {
     let mut head = parts(alloc, "https://e.x/a", &[("x", b"v")])?;
     let answer = match commit(alloc, &mut head, plain) {
         Ok(()) => String::from_str(alloc, "done")?,
-        Err(e) => told(alloc, &e)?,
+        Err(e) => error_text(alloc, &e)?,
     };
     let method = &head.method;
     let uri = &head.uri;
@@ -435,7 +435,7 @@ fn crowd_answer(alloc: Global, count: u32) -> Result<String, Fail> {
             let count = parts.headers.len();
             Ok(format!(in alloc; "{count}")?)
         }
-        Err(e) => told(alloc, &e),
+        Err(e) => error_text(alloc, &e),
     }
 }
 

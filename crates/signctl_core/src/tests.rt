@@ -1,10 +1,16 @@
 //! Scripts and their answers, over sources and sinks in memory: whole, in pieces, with faults, and at
 //! the limits.
+ghost use Rattle.std.specs.Prelude.{◌<◌};
+
 mod hostile;
+mod more_rows;
+mod row;
 mod rows;
 
 use crate::{Status, run};
-use rows::{MORE_ROWS, ROWS, Row};
+use more_rows::MANY_CACHES;
+use row::Row;
+use rows::ONE_CACHE;
 use sign_base::{FaultySink, FaultySource, MemorySink, MemorySource, Sink, Source};
 use std::alloc::{AllocError, Global};
 use std::process::Abort;
@@ -35,12 +41,20 @@ fn answer(alloc: Global, bytes: Vec<u8>) -> Result<(Status, MemorySink), AllocEr
     Ok((status, sink))
 }
 
+/// One text behind another.
+fn joined(alloc: Global, first: &str, then: &str) -> Result<Vec<u8>, AllocError> {
+    let mut bytes = Vec::from_slice(alloc, first.as_bytes())?;
+    bytes.extend_from_slice(then.as_bytes())?;
+    Ok(bytes)
+}
+
 /// Each row's script is answered as the row says. The rows are handed in, so that no proof carries
 /// their texts.
 fn answers_rows(rt: &impl Abort, alloc: Global, rows: &[Row]) -> Result<(), Fail> {
     for row in rows {
-        let (status, sink) = answer(alloc, Vec::from_slice(alloc, row.input.as_bytes())?)?;
-        assert_eq!(rt; sink.written(), row.output.as_bytes(), "{}", row.shows);
+        let (status, sink) = answer(alloc, joined(alloc, row.after.input, row.input)?)?;
+        let output = joined(alloc, row.after.output, row.output)?;
+        assert_eq!(rt; sink.written(), output.as_slice(), "{}", row.shows);
         assert_eq!(rt; status, row.status, "{}", row.shows);
     }
     Ok(())
@@ -56,13 +70,14 @@ fn answers_rows_in_pieces(
     requires { 0 < piece }
 {
     for row in rows {
-        let bytes = Vec::from_slice(alloc, row.input.as_bytes())?;
+        let bytes = joined(alloc, row.after.input, row.input)?;
         let mut source = FaultySource::new(bytes, piece, Vec::new(alloc));
         let mut sink = FaultySink::new(alloc, ROOM, piece, Vec::new(alloc)).map_err(
             |_| AllocError,
         )?;
         let status = run_word(alloc, "script", &mut source, &mut sink)?;
-        assert_eq!(rt; sink.written(), row.output.as_bytes(), "{}", row.shows);
+        let output = joined(alloc, row.after.output, row.output)?;
+        assert_eq!(rt; sink.written(), output.as_slice(), "{}", row.shows);
         assert_eq!(rt; status, row.status, "{}", row.shows);
     }
     Ok(())
@@ -70,32 +85,32 @@ fn answers_rows_in_pieces(
 
 #[test]
 fn scripts_are_answered(rt: HostRuntime) -> Result<(), Fail> {
-    answers_rows(&rt, rt.alloc(), &ROWS)
+    answers_rows(&rt, rt.alloc(), &ONE_CACHE)
 }
 
 #[test]
 fn more_scripts_are_answered(rt: HostRuntime) -> Result<(), Fail> {
-    answers_rows(&rt, rt.alloc(), &MORE_ROWS)
+    answers_rows(&rt, rt.alloc(), &MANY_CACHES)
 }
 
 #[test]
 fn pieces_of_one_byte_make_no_difference(rt: HostRuntime) -> Result<(), Fail> {
-    answers_rows_in_pieces(&rt, rt.alloc(), 1, &ROWS)
+    answers_rows_in_pieces(&rt, rt.alloc(), 1, &ONE_CACHE)
 }
 
 #[test]
 fn pieces_of_one_byte_make_no_difference_to_more(rt: HostRuntime) -> Result<(), Fail> {
-    answers_rows_in_pieces(&rt, rt.alloc(), 1, &MORE_ROWS)
+    answers_rows_in_pieces(&rt, rt.alloc(), 1, &MANY_CACHES)
 }
 
 #[test]
 fn pieces_of_a_page_make_no_difference(rt: HostRuntime) -> Result<(), Fail> {
-    answers_rows_in_pieces(&rt, rt.alloc(), 4096, &ROWS)
+    answers_rows_in_pieces(&rt, rt.alloc(), 4096, &ONE_CACHE)
 }
 
 #[test]
 fn pieces_of_a_page_make_no_difference_to_more(rt: HostRuntime) -> Result<(), Fail> {
-    answers_rows_in_pieces(&rt, rt.alloc(), 4096, &MORE_ROWS)
+    answers_rows_in_pieces(&rt, rt.alloc(), 4096, &MANY_CACHES)
 }
 
 /// Lines of exactly the limit, and of one byte more.

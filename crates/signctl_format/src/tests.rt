@@ -7,6 +7,7 @@ use crate::text::{push, push_number, push_word};
 use sequential_signer::{Answer, Event, Loader, Reply, Verdict, Why};
 use sign_base::{NoMemory, Timestamp};
 use std::alloc::Global;
+use std::process::Abort;
 use std::test::*;
 use wake_lock::CallId;
 
@@ -221,48 +222,41 @@ fn again(
     }
 }
 
-#[test]
-fn a_line_of_each_form_is_read_and_written_back(rt: HostRuntime) -> Result<(), Fail> {
-    for version in [ScriptVersion::One, ScriptVersion::Two] {
-        for line in SPELLED {
-            let text = again(rt.alloc(), version, line.as_bytes())
-                .ok()
-                .ok_or("memory")?;
-            let text = text.ok_or("the line is of a form")?;
-            assert_eq!(rt; text.as_slice(), line.as_bytes(), "at {line}");
-        }
-    }
-    Ok(())
-}
+/// Lines of a version.
+type Lines<'a> = (ScriptVersion, &'a [&'a str]);
 
-#[test]
-fn other_lines_are_refused(rt: HostRuntime) -> Result<(), Fail> {
-    for line in REFUSED {
-        let read = read_line(rt.alloc(), ScriptVersion::One, line.as_bytes());
-        assert!(rt; read.ok().ok_or("memory")?.is_none(), "at {line}");
-    }
-    Ok(())
-}
-
-#[test]
-fn fractions_are_read_and_written_back_in_version_2(rt: HostRuntime) -> Result<(), Fail> {
-    for line in SPELLED_IN_TWO {
-        let text = again(rt.alloc(), ScriptVersion::Two, line.as_bytes())
-            .ok()
-            .ok_or("memory")?;
+/// Each line is read, and its item is written as the same line.
+fn are_written_back(rt: &impl Abort, alloc: Global, all: Lines<'_>) -> Result<(), Fail> {
+    let (version, lines) = all;
+    for line in lines {
+        let text = again(alloc, version, line.as_bytes()).ok().ok_or("memory")?;
         let text = text.ok_or("the line is of a form")?;
         assert_eq!(rt; text.as_slice(), line.as_bytes(), "at {line}");
     }
     Ok(())
 }
 
-#[test]
-fn other_fractions_are_refused(rt: HostRuntime) -> Result<(), Fail> {
-    for line in REFUSED_IN_TWO {
-        let read = read_line(rt.alloc(), ScriptVersion::Two, line.as_bytes());
+/// No line is of a form.
+fn are_refused(rt: &impl Abort, alloc: Global, all: Lines<'_>) -> Result<(), Fail> {
+    let (version, lines) = all;
+    for line in lines {
+        let read = read_line(alloc, version, line.as_bytes());
         assert!(rt; read.ok().ok_or("memory")?.is_none(), "at {line}");
     }
     Ok(())
+}
+
+#[test]
+fn a_line_of_each_form_is_read_and_written_back(rt: HostRuntime) -> Result<(), Fail> {
+    are_written_back(&rt, rt.alloc(), (ScriptVersion::One, &SPELLED))?;
+    are_written_back(&rt, rt.alloc(), (ScriptVersion::Two, &SPELLED))?;
+    are_written_back(&rt, rt.alloc(), (ScriptVersion::Two, &SPELLED_IN_TWO))
+}
+
+#[test]
+fn other_lines_are_refused(rt: HostRuntime) -> Result<(), Fail> {
+    are_refused(&rt, rt.alloc(), (ScriptVersion::One, &REFUSED))?;
+    are_refused(&rt, rt.alloc(), (ScriptVersion::Two, &REFUSED_IN_TWO))
 }
 
 #[test]
