@@ -14,6 +14,10 @@ use std::marker::Model;
 /// moved only once that many bytes were read.
 pub(crate) const BUFFER_SIZE: usize = 131_072;
 
+/// The most bytes of one read: a quarter of the buffer, so that what the lines of one read are
+/// answered mostly leaves in one write.
+pub(crate) const PIECE_SIZE: usize = 32_768;
+
 #[derive(Debug, Drop)]
 pub(crate) struct Window {
     bytes: Vec<u8>,
@@ -91,6 +95,7 @@ impl Window {
         let len = self.end - self.start;
         self.start = with_room(&mut self.bytes, self.start, self.end);
         self.end = self.start + len;
+        let most = most.min(PIECE_SIZE);
         let n = read_at(source, self.bytes.as_mut_slice(), self.end, most)?;
         self.end += n;
         Ok(n)
