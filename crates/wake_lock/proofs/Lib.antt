@@ -1,3 +1,12 @@
 pub mod Truth
 pub mod Calls
 pub mod Lines
+pub mod Places
+pub mod Links
+pub mod Relinks
+pub mod Neighbours
+pub mod WaitLists
+pub mod Pushed
+pub mod Taken
+pub mod Grown
+pub mod Index

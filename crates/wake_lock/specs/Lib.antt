@@ -1,3 +1,8 @@
 pub mod Calls
+pub mod Links
 pub mod Lock
+pub mod LockCalls
 pub mod LockView
+pub mod Slots
+pub mod WaitList
+pub mod WaitListView

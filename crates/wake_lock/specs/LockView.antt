@@ -1,13 +1,24 @@
--- What contracts see of a lock.
-use Rattle.std.specs.Prelude.{◌-◌}
-use Rattle.std.specs.VecDeque.{deque_len, deque_capacity}
-use Rattle.wake_lock.specs.Lock.{Lock}
+-- What contracts see of a lock, and how it is kept.
+use Rattle.std.specs.Prelude.{◌≡◌, ◌≤◌}
+use Rattle.std.specs.HashMap.{get, spare}
+use Rattle.std.specs.Map.{lookup}
+use Rattle.wake_lock.specs.declared.CallId.{CallId}
+use Rattle.wake_lock.specs.Calls.{same_call}
+use Rattle.wake_lock.specs.Lock.{Lock, IsLock}
+use Rattle.wake_lock.specs.WaitList.{calls_of}
 use Rattle.wake_lock.specs.declared.lock.WaitLock.TheInside.{Inside}
 
 -- holder and waiters, and the room for more of them
 abbrev pub lock_view : Inside → Lock
 lock_view lock = record {
   holder = lock.holder;
-  waiters = lock.waiters.items;
-  spare = deque_capacity lock.waiters - deque_len lock.waiters;
+  waiters = calls_of lock.waiters.waiters;
+  spare = lock.room;
 }
+
+-- it is a lock; the index has the place of each waiter and of nobody else; and the room is there, in slots and in the index
+pub record IsWaitLock (lock : Inside) : Type 0 where
+  pub is_lock : IsLock (lock_view lock)
+  pub indexed : (call : CallId) → get same_call lock.index call ≡ lookup (same_call call) lock.waiters.waiters
+  pub slots : lock.room ≤ lock.waiters.vacant
+  pub entries : lock.room ≤ spare lock.index

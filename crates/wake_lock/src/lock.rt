@@ -3,16 +3,23 @@
 //! that comes later never overtakes one that waits. Nobody is woken here: a call that changes the
 //! holder names the new one, and its driver wakes it. Room is taken ahead, by `reserve` alone, so no
 //! wait fails later.
+//!
+//! The waiters stand in linked slots, and an index names the slot of each, so a call leaves from
+//! anywhere without a walk along the others. Each call also has a form that counts its steps: one
+//! for each read and each write of a slot. Finding a call in the index is not counted.
 ghost use Rattle.std.specs.Prelude.{◌≡◌, ◌+◌, ◌<◌, ◌≤◌, ◌++◌, ◌∷◌, [], None, Some, Option, true, false, not, filter, drop, is_some, IsSome, IsTrue, OnOk, OnErr, if◌then◌else◌};
-ghost use Rattle.std.specs.VecDeque.{deque_len, deque_capacity};
 ghost use Rattle.wake_lock.specs.Calls.{same_call, first_of, is_among};
 ghost use Rattle.wake_lock.specs.Lock.{line, is_held_by, is_in_line, IsLock};
+ghost use Rattle.wake_lock.specs.LockCalls.{Enters, Releases, Cancels};
 
-use crate::CallId;
+use crate::steps::Steps;
+use crate::wait_list::WaitList;
+use crate::{CallId, uncounted};
 use sign_base::NoMemory;
 use std::alloc::Global;
-use std::collections::VecDeque;
-use std::marker::Model;
+use std::collections::HashMap;
+use std::marker::{Brand, Model};
+use std::sync::ledger::{Blank, Ledger};
 
 /// What a call finds that comes to the lock.
 #[derive(Clone, Copy, Debug, PartialEq, Eq)]
@@ -38,7 +45,9 @@ pub enum Left {
 #[derive(Drop)]
 pub struct WaitLock {
     holder: Option<CallId>,
-    waiters: VecDeque<CallId>,
+    waiters: WaitList,
+    index: HashMap<CallId, u32>,
+    room: usize,
 }
 
 impl Model for WaitLock {
@@ -46,12 +55,11 @@ impl Model for WaitLock {
 
     ghost Value = { Lock };
 
-    ghost use Rattle.wake_lock.specs.LockView.{lock_view};
-    ghost use Rattle.wake_lock.specs.Lock.{IsLock};
+    ghost use Rattle.wake_lock.specs.LockView.{lock_view, IsWaitLock};
 
     ghost view = { lock_view };
 
-    ghost invariant = { λ lock. IsLock (lock_view lock) };
+    ghost invariant = { IsWaitLock };
 }
 
 impl WaitLock {
@@ -61,21 +69,32 @@ impl WaitLock {
     {
         WaitLock {
             holder: None,
-            waiters: VecDeque::from_vec(Vec::new(alloc)),
+            waiters: WaitList::new(alloc),
+            index: HashMap::new(alloc),
+            room: 0,
         }
     }
 
-    /// Makes room for this many calls to enter. Holder and waiters stay, also where memory is refused,
-    /// which happens only where there is not so much room yet. The room may have grown even then, and
-    /// it never shrinks here.
+    /// Makes room for this many calls to enter. Holder and waiters stay. Memory is refused only where
+    /// there is not so much room yet, and then nothing has changed, the room neither. It never shrinks here.
+    /// Room for more calls than slots can be numbered is refused too.
     pub fn reserve(&mut self, n: usize) -> Result<(), NoMemory<()>>
         ensures room { OnOk result (n ≤ self.new.spare) }
         ensures refused { OnErr result (self.old.spare < n) }
+        ensures unchanged { OnErr result (self.new ≡ self.old) }
         ensures spare { self.old.spare ≤ self.new.spare }
         ensures holder { self.new.holder ≡ self.old.holder }
         ensures waiters { self.new.waiters ≡ self.old.waiters }
     {
-        self.waiters.reserve(n)?;
+        if n <= self.room {
+            return Ok(());
+        }
+        if n > u32::MAX as usize {
+            return Err(NoMemory { back: () });
+        }
+        self.index.reserve(n)?;
+        uncounted::reserve::<Brand>(&mut self.waiters, n, Blank::new(1))?;
+        self.room = n;
         Ok(())
     }
 
@@ -89,13 +108,27 @@ impl WaitLock {
         ensures line { line self.new ≡ line self.old ++ id ∷ [] }
         ensures spare { self.old.spare ≤ self.new.spare + 1 }
     {
+        uncounted::enter::<Brand>(self, id, Blank::new(1))
+    }
+
+    /// Does what `enter` does, in at most eight counted steps.
+    pub fn enter_counted<L: Ledger>(&mut self, id: CallId, steps: &mut Steps<L>) -> Entered
+        requires room { 0 < self.old.spare }
+        requires outside { is_in_line id self.old ≡ false }
+        ensures does { Enters id self.old result self.new }
+        ensures steps { steps.new ≤ steps.old + 8 }
+    {
         match self.holder {
             None => {
                 self.holder = Some(id);
                 Entered::Granted
             }
             Some(_) => {
-                self.waiters.push_back_reserved(id);
+                let place = self.waiters.push(id, steps);
+                let Ok(_) = self.index.insert(id, place) else {
+                    unreachable!()
+                };
+                self.room -= 1;
                 Entered::Queued
             }
         }
@@ -110,8 +143,23 @@ impl WaitLock {
         ensures line { line self.new ≡ drop 1 (line self.old) }
         ensures spare { self.old.spare ≤ self.new.spare }
     {
-        self.holder = self.waiters.pop_front();
-        self.holder
+        uncounted::release::<Brand>(self, Blank::new(1))
+    }
+
+    /// Does what `release` does, in at most eight counted steps.
+    pub fn release_counted<L: Ledger>(&mut self, steps: &mut Steps<L>) -> Option<CallId>
+        requires { IsSome self.old.holder }
+        ensures does { Releases self.old result self.new }
+        ensures steps { steps.new ≤ steps.old + 8 }
+    {
+        let Some(place) = self.waiters.first() else {
+            self.holder = None;
+            return None;
+        };
+        let next = self.waiters.take(place, steps);
+        let _place = self.index.remove(&next);
+        self.holder = Some(next);
+        Some(next)
     }
 
     /// Takes the call out of the lock, whatever it is there. It takes no memory.
@@ -124,14 +172,24 @@ impl WaitLock {
         ensures lock { IsLock self.old }
         ensures spare { self.old.spare ≤ self.new.spare }
     {
+        uncounted::cancel::<Brand>(self, id, Blank::new(1))
+    }
+
+    /// Does what `cancel` does, in at most eight counted steps.
+    pub fn cancel_counted<L: Ledger>(&mut self, id: CallId, steps: &mut Steps<L>) -> Left
+        ensures does { Cancels id self.old result self.new }
+        ensures steps { steps.new ≤ steps.old + 8 }
+    {
         if self.is_held_by(id) {
-            return Left::Holder(self.release());
+            return Left::Holder(self.release_counted(steps));
         }
-        if !self.is_awaited_by(id) {
-            return Left::Absent;
+        match self.index.remove(&id) {
+            None => Left::Absent,
+            Some(place) => {
+                let _id = self.waiters.take(place, steps);
+                Left::Waiter
+            }
         }
-        leave(&mut self.waiters, id);
-        Left::Waiter
     }
 
     /// Whether the call holds the lock.
@@ -143,13 +201,6 @@ impl WaitLock {
             None => false,
             Some(holder) => holder == id,
         }
-    }
-
-    /// Whether the call waits.
-    fn is_awaited_by(&self, id: CallId) -> bool
-        ensures { result ≡ is_among id self.now.waiters }
-    {
-        self.waiters.iter().any(|other| id == *other)
     }
 
     /// The call that holds the lock. While nobody holds it nobody waits, and no call stands twice.
@@ -164,15 +215,6 @@ impl WaitLock {
     pub fn first(&self) -> Option<CallId>
         ensures { result ≡ first_of self.now.waiters }
     {
-        self.waiters.front().copied()
+        uncounted::first::<Brand>(&self.waiters, Blank::new(1))
     }
-}
-
-/// Takes the call out of the waiters.
-fn leave(waiters: &mut VecDeque<CallId>, id: CallId)
-    ensures items { waiters.new.items ≡ filter (λ other. not (same_call other id)) waiters.old.items }
-    ensures len { deque_len waiters.new ≤ deque_len waiters.old }
-    ensures capacity { deque_capacity waiters.new ≡ deque_capacity waiters.old }
-{
-    waiters.retain(|other| *other != id);
 }

@@ -1,8 +1,163 @@
+//! That each call succeeds with ample memory, that a slot is used again, and many waiters who leave in
+//! several orders, beside a plain list.
+ghost use Rattle.std.specs.Prelude.{◌≡◌, ◌<◌};
+
 use super::*;
+use crate::steps::Steps;
+use crate::wait_list::WaitList;
+use std::alloc::Global;
+use std::marker::Brand;
+use std::process::Abort;
+use std::sync::ledger::{Blank, Ledger};
+
+const WAITERS: u64 = 10_000;
+
+/// So many leave before they are served.
+const LEAVERS: u64 = 9_000;
+
+/// The order in which waiters leave.
+#[derive(Clone, Copy, Debug)]
+enum Order {
+    FromTheFront,
+    FromTheBack,
+    EverySecond,
+    Shuffled,
+}
+
+/// The number of the waiter who leaves at this turn.
+fn leaver(order: Order, turn: u16) -> u64 {
+    let turn = turn as u64;
+    match order {
+        Order::FromTheFront => turn,
+        Order::FromTheBack => (WAITERS - 1).saturating_sub(turn),
+        Order::EverySecond => {
+            if turn < WAITERS / 2 {
+                2 * turn + 1
+            } else {
+                (2 * turn).saturating_sub(WAITERS)
+            }
+        }
+        Order::Shuffled => turn * 7_919 % WAITERS,
+    }
+}
+
+fn call(number: u64) -> CallId {
+    CallId { handle: 7, number }
+}
+
+/// What a call finds that was not in line.
+fn come(lock: &mut WaitLock, id: CallId) -> Option<Entered> {
+    if lock.cancel(id) != Left::Absent {
+        return None;
+    }
+    lock.reserve(1).ok()?;
+    Some(lock.enter(id))
+}
+
+/// The call to which the holder, if there is one, leaves the lock.
+fn next(lock: &mut WaitLock) -> Option<CallId> {
+    lock.holder()?;
+    lock.release()
+}
 
 #[test]
 fn room_can_be_taken(rt: HostRuntime) {
-    let mut lock = WaitLock::new(rt.alloc());
-    assert!(rt; lock.reserve(2).is_ok());
-    assert!(rt; lock.reserve(1000).is_ok());
+    for (n, taken) in [
+        (2, true),
+        (1_000, true),
+        (4_294_967_296, false),
+        (usize::MAX, false),
+        (1_000, true),
+    ] {
+        let mut lock = WaitLock::new(rt.alloc());
+        assert_eq!(rt; lock.reserve(n).is_ok(), taken, "for {n}");
+        assert_eq!(rt; come(&mut lock, call(1)), Some(Entered::Granted), "for {n}");
+    }
+}
+
+/// The waiters, as a plain list of their numbers.
+fn listed(alloc: Global) -> Option<Vec<u64>> {
+    let mut list = Vec::new(alloc);
+    for number in 0..WAITERS {
+        list.push(number).ok()?;
+    }
+    Some(list)
+}
+
+/// Whether the holder was granted the lock, and every waiter queued.
+fn all_come(lock: &mut WaitLock) -> bool {
+    let mut as_they_should = come(lock, call(WAITERS)) == Some(Entered::Granted);
+    for number in 0..WAITERS {
+        as_they_should &= come(lock, call(number)) == Some(Entered::Queued);
+    }
+    as_they_should
+}
+
+/// Takes the number out of the plain list.
+fn take(list: &mut Vec<u64>, number: u64) {
+    if let Ok(at) = list.binary_search(&number) {
+        list.remove(at);
+    }
+}
+
+/// Whether one waiter left, once, and the first waiter is the plain list's.
+fn one_leaves(lock: &mut WaitLock, list: &mut Vec<u64>, number: u64) -> bool {
+    let left = lock.cancel(call(number)) == Left::Waiter;
+    let once = lock.cancel(call(number)) == Left::Absent;
+    take(list, number);
+    left && once && lock.first() == list.first().map(|first| call(*first))
+}
+
+/// Whether so many left in this order.
+fn leavers_leave(lock: &mut WaitLock, list: &mut Vec<u64>, order: Order) -> bool {
+    let mut as_they_should = true;
+    for turn in 0..LEAVERS as u16 {
+        as_they_should &= one_leaves(lock, list, leaver(order, turn));
+    }
+    as_they_should
+}
+
+/// Whether the others were served in the plain list's order, and nobody else.
+fn others_are_served(lock: &mut WaitLock, list: &Vec<u64>) -> bool {
+    let mut as_they_should = true;
+    for number in list {
+        as_they_should &= next(lock) == Some(call(*number));
+    }
+    as_they_should && next(lock).is_none() && lock.holder().is_none()
+}
+
+#[test]
+fn waiters_leave_in_any_order(rt: HostRuntime) {
+    for order in [
+        Order::FromTheFront,
+        Order::FromTheBack,
+        Order::EverySecond,
+        Order::Shuffled,
+    ] {
+        let mut lock = WaitLock::new(rt.alloc());
+        let mut list = listed(rt.alloc()).expect(&rt, "memory");
+        assert!(rt; lock.reserve(WAITERS as usize + 1).is_ok());
+        assert!(rt; all_come(&mut lock), "{order:?}");
+        assert!(rt; leavers_leave(&mut lock, &mut list, order), "{order:?}");
+        assert!(rt; others_are_served(&mut lock, &list), "{order:?}");
+    }
+}
+
+/// The places at which a call waits, leaves, and waits again where one slot was made.
+fn places<L: Ledger>(alloc: Global, blank: Blank) -> Option<(u32, u32)>
+    requires name { blank.name ≡ L.name }
+    requires parts { blank.parts ≡ L.parts }
+    requires share { 0 < blank.parts }
+{
+    let mut steps = Steps::<L>::new(blank);
+    let mut waiters = WaitList::new(alloc);
+    waiters.reserve(1, &mut steps).ok()?;
+    let first = waiters.push(call(1), &mut steps);
+    let _left = waiters.take(first, &mut steps);
+    Some((first, waiters.push(call(2), &mut steps)))
+}
+
+#[test]
+fn a_slot_is_used_again(rt: HostRuntime) {
+    assert_eq!(rt; places::<Brand>(rt.alloc(), Blank::new(1)), Some((0, 0)));
 }
