@@ -1,0 +1,4 @@
+pub mod ChainLemmas
+pub mod ChainLaws
+pub mod Variables
+pub mod Tildes

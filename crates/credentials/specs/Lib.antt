@@ -1,0 +1,10 @@
+pub mod Polled
+pub mod Operation
+pub mod Chain
+pub mod OptionValid
+pub mod Deadline
+pub mod Unsupported
+pub mod Env
+pub mod Home
+pub mod Context
+pub mod Law

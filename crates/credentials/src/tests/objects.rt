@@ -1,0 +1,111 @@
+//! Objects of the tests, each of which answers the one byte `a`.
+ghost use Rattle.std.specs.Prelude.{⊤};
+
+use crate::{CommandExecute, CommandOutput, Context, FileRead, HttpSend, NoopEnv, Polled};
+use bytes::Bytes;
+use http::{Request, Response};
+use sign_base::NoMemory;
+use std::alloc::{AllocError, Global};
+
+#[derive(Clone, Copy, Debug)]
+pub(crate) struct AlwaysA;
+
+/// A context of these objects.
+pub(crate) fn always_a() -> Context<AlwaysA, AlwaysA, NoopEnv, AlwaysA> {
+    Context::new()
+        .with_file_read(AlwaysA)
+        .with_http_send(AlwaysA)
+        .with_command_execute(AlwaysA)
+}
+
+/// Variables of these names and values.
+pub(crate) fn texts(
+    alloc: Global,
+    pairs: &[(&str, &str)],
+) -> Result<Vec<(String, String)>, AllocError> {
+    let mut texts = Vec::new(alloc);
+    for (name, value) in pairs {
+        texts.push((
+            String::from_str(alloc, name)?,
+            String::from_str(alloc, value)?,
+        ))?;
+    }
+    Ok(texts)
+}
+
+impl FileRead for AlwaysA {
+    type Read = ();
+
+    ghost started = { λ object path read. ⊤ };
+
+    ghost ready = { λ object read. ⊥ };
+
+    ghost gives = { λ object path answer. ⊤ };
+
+    fn file_read(&self, _alloc: Global, _path: &str) -> Result<(), NoMemory<()>> {
+        Ok(())
+    }
+
+    fn poll_read(&self, alloc: Global, _read: &mut ()) -> Polled<Vec<u8>> {
+        match Vec::from_slice(alloc, b"a") {
+            Ok(bytes) => Polled::Ready(bytes),
+            Err(_) => Polled::OutOfMemory,
+        }
+    }
+}
+
+impl HttpSend for AlwaysA {
+    type Send = ();
+
+    ghost started = { λ object req send. ⊤ };
+
+    ghost ready = { λ object send. ⊥ };
+
+    ghost gives = { λ object req answer. ⊤ };
+
+    fn http_send(
+        &self,
+        _alloc: Global,
+        req: Request<Bytes>,
+    ) -> Result<(), NoMemory<Request<Bytes>>> {
+        drop(req);
+        Ok(())
+    }
+
+    fn poll_send(&self, alloc: Global, _send: &mut ()) -> Polled<Response<Bytes>> {
+        match Bytes::copy_from_slice(alloc, b"a") {
+            Ok(body) => Polled::Ready(Response::new(alloc, body)),
+            Err(_) => Polled::OutOfMemory,
+        }
+    }
+}
+
+impl CommandExecute for AlwaysA {
+    type Run = ();
+
+    ghost started = { λ object program args run. ⊤ };
+
+    ghost ready = { λ object run. ⊥ };
+
+    ghost gives = { λ object program args answer. ⊤ };
+
+    fn command_execute(
+        &self,
+        _alloc: Global,
+        _program: &str,
+        _args: &[String],
+    ) -> Result<(), NoMemory<()>> {
+        Ok(())
+    }
+
+    fn poll_run(&self, alloc: Global, _run: &mut ()) -> Polled<CommandOutput> {
+        match Vec::from_slice(alloc, b"a") {
+            Ok(stdout) => Polled::Ready(CommandOutput {
+                status: 0,
+                stdout,
+                stderr: Vec::new(alloc),
+            }),
+            Err(_) => Polled::OutOfMemory,
+        }
+    }
+}
