@@ -5,3 +5,8 @@ mod LineGood
 mod NextLine
 mod Closing
 mod NothingRan
+mod LoadSteps
+mod LoadLengths
+mod LoadCounts
+mod Numbers
+mod LineWords

@@ -1,5 +1,5 @@
 -- The commands of the program: by their words, and what a run of each adds.
-use Rattle.std.specs.Prelude.{◌≡◌, ◌≤◌, ◌+◌, ℕ, List, [], ◌∷◌, Option, Some, None, if◌then◌else◌, length, codes}
+use Rattle.std.specs.Prelude.{◌≡◌, ◌≤◌, ◌+◌, ℕ, List, [], ◌∷◌, Option, Some, None, if◌then◌else◌, length, codes, Bool, true, false, option_map}
 use Rattle.std.specs.Str.{bytes_eq}
 use Rattle.std.specs.Io.KnownBytes.{Appends, Consumes}
 use Rattle.sign_base.specs.Lines.{input_limit}
@@ -7,9 +7,11 @@ use Rattle.signctl_driver.specs.Run.{RunAdds}
 use Rattle.signctl_driver.specs.declared.status.Status.{Status}
 use Rattle.signctl_lines.specs.HmacAnswers.{hmac_command}
 use Rattle.signctl_lines.specs.ViewAnswers.{view_command}
+use Rattle.signctl_format.specs.Words.{number_of}
 use Rattle.signctl_core.specs.ScriptOutput.{script_command}
+use Rattle.signctl_core.specs.Load.{most_calls, LoadAdds}
 use Rattle.signctl_core.specs.declared.commands.CommandName.{CommandName}
-use Rattle.signctl_core.specs.declared.commands.CommandName.TheVariants.{Script, Hmac, View}
+use Rattle.signctl_core.specs.declared.commands.CommandName.TheVariants.{Script, Hmac, View, Load}
 
 -- the command that this word names
 abbrev pub command_by_word : List ℕ → Option CommandName
@@ -19,9 +21,15 @@ command_by_word word =
     else (if bytes_eq word (codes "view") then Some View
     else None))
 
+-- the command that this word names with a number
+abbrev pub command_by_number : List ℕ → List ℕ → Option CommandName
+command_by_number word number =
+    if bytes_eq word (codes "load") then option_map (λ n. Load n) (number_of most_calls number) else None
+
 -- the command that the words name
 abbrev pub command_named : List (List ℕ) → Option CommandName
 command_named (word ∷ []) = command_by_word word
+command_named (word ∷ (number ∷ [])) = command_by_number word number
 command_named _ = None
 
 -- what a run of a command adds for the bytes that it took, by how it ended; this is left in the source
@@ -29,6 +37,12 @@ abbrev pub CommandAdds : CommandName → Option (List ℕ) → Status → List �
 CommandAdds Script left status taken added = RunAdds script_command left status taken added
 CommandAdds Hmac left status taken added = RunAdds hmac_command left status taken added
 CommandAdds View left status taken added = RunAdds view_command left status taken added
+CommandAdds (Load n) left status taken added = (taken ≡ []) × LoadAdds n status added
+
+-- whether a command reads its source
+abbrev pub reads_source : CommandName → Bool
+reads_source (Load n) = false
+reads_source _ = true
 
 -- a source or a sink, before and after a run: what it still holds, or all that it holds
 pub record Bytes : Type 0 where

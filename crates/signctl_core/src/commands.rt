@@ -1,10 +1,13 @@
 //! The top call: a command by its words, over a source and a sink.
-ghost use Rattle.std.specs.Prelude.{◌≡◌, ◌≢◌, ◌↔◌, None, IfSome, map, string_bytes, is_some, IsTrue};
+ghost use Rattle.std.specs.Prelude.{◌≡◌, ◌≢◌, ◌↔◌, None, IfSome, map, string_bytes, is_some, IsTrue, false};
 ghost use Rattle.sign_base.specs.Faults.{CountsFault};
 ghost use Rattle.signctl_driver.specs.Status.{is_read_fault, is_write_fault};
-ghost use Rattle.signctl_core.specs.Commands.{command_by_word, command_named, Runs};
+ghost use Rattle.signctl_core.specs.Commands.{command_by_word, command_by_number, command_named, reads_source, Runs};
+ghost use Rattle.signctl_format.specs.Words.{number_of};
 
+use crate::load::{MOST_CALLS, run_load};
 use crate::session::Session;
+use itoa::Buffer;
 use sign_base::{Sink, Source};
 use signctl_driver::{Status, drive};
 use signctl_lines::{HmacCommand, ViewCommand};
@@ -16,10 +19,12 @@ pub enum CommandName {
     Script,
     Hmac,
     View,
+    /// `load` with so many calls.
+    Load(u64),
 }
 
-/// Runs the command that the words name: it reads lines from the source, and writes what they are
-/// answered to the sink.
+/// Runs the command that the words name: `load` writes the counts of its replies to the sink, and every
+/// other one reads lines from the source, and writes what they are answered.
 pub fn run<S: Source, D: Sink>(
     alloc: Global,
     words: &[String],
@@ -35,6 +40,10 @@ pub fn run<S: Source, D: Sink>(
         (record { before = S.left source.old; after = S.left source.new })
         (record { before = D.holds sink.old; after = D.holds sink.new })) }
 
+    // A command that does not read leaves the source.
+    ensures unread { IfSome (command_named (map string_bytes words.now)) (λ name.
+        reads_source name ≡ false → source.new ≡ source.old) }
+
     // A count of faults rises by one exactly where the status says so, and else stays.
     ensures reads { CountsFault (is_read_fault result) (S.faults source.old) (S.faults source.new) }
     ensures writes { CountsFault (is_write_fault result) (D.faults sink.old) (D.faults sink.new) }
@@ -44,6 +53,7 @@ pub fn run<S: Source, D: Sink>(
         Some(CommandName::Script) => run_script(alloc, source, sink),
         Some(CommandName::Hmac) => drive(alloc, HmacCommand, source, sink),
         Some(CommandName::View) => drive(alloc, ViewCommand, source, sink),
+        Some(CommandName::Load(calls)) => run_load(alloc, calls, sink),
     }
 }
 
@@ -53,6 +63,7 @@ fn command_of(words: &[String]) -> Option<CommandName>
 {
     match words {
         [word] => command_by_word(word.as_str()),
+        [word, number] => command_by_number(word.as_str(), number.as_str()),
         _ => None,
     }
 }
@@ -64,6 +75,25 @@ fn command_by_word(word: &str) -> Option<CommandName>
         "script" => Some(CommandName::Script),
         "hmac" => Some(CommandName::Hmac),
         "view" => Some(CommandName::View),
+        _ => None,
+    }
+}
+
+fn command_by_number(word: &str, text: &str) -> Option<CommandName>
+    ensures { result ≡ command_by_number word.now text.now }
+{
+    if word != "load" {
+        return None;
+    }
+    Some(CommandName::Load(number(MOST_CALLS, text)?))
+}
+
+/// The number up to a limit that a text spells.
+fn number(limit: u64, text: &str) -> Option<u64>
+    ensures { result ≡ number_of limit text.now }
+{
+    match text.parse::<u64>() {
+        Ok(n) if n <= limit && Buffer::new().format(n) == text => Some(n),
         _ => None,
     }
 }

@@ -2,6 +2,7 @@
 #![tactic(auto)]
 
 pub mod commands;
+mod load;
 mod script_line;
 mod session;
 #[cfg(test)]

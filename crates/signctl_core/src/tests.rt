@@ -3,6 +3,7 @@
 ghost use Rattle.std.specs.Prelude.{◌<◌};
 
 mod hostile;
+mod load;
 mod more_rows;
 mod row;
 mod rows;
@@ -28,9 +29,20 @@ fn run_word<S: Source, D: Sink>(
     source: &mut S,
     sink: &mut D,
 ) -> Result<Status, AllocError> {
-    let mut words = Vec::new(alloc);
-    words.push(String::from_str(alloc, word)?)?;
-    Ok(run(alloc, words.as_slice(), source, sink))
+    run_words(alloc, &[word], source, sink)
+}
+
+fn run_words<S: Source, D: Sink>(
+    alloc: Global,
+    words: &[&str],
+    source: &mut S,
+    sink: &mut D,
+) -> Result<Status, AllocError> {
+    let mut list = Vec::new(alloc);
+    for word in words {
+        list.push(String::from_str(alloc, word)?)?;
+    }
+    Ok(run(alloc, list.as_slice(), source, sink))
 }
 
 /// What a script in memory is answered, and how it ends.

@@ -1,0 +1,235 @@
+//! `load`: its counts, words that are none of its, a fault at each byte of its line, and its events on a
+//! desk of the test's own.
+ghost use Rattle.std.specs.Prelude.{◌≤◌, ◌<◌, ◌+◌, ◌*◌};
+
+use super::{ROOM, run_words};
+use crate::Status;
+use sequential_signer::{Loader, Reply};
+use sign_base::{FaultySink, FaultySource, MemorySink, MemorySource};
+use sign_desk::Desk;
+use signctl_format::{Item, ScriptCredential, ScriptRule, ScriptVersion, read_line};
+use std::alloc::{AllocError, Global};
+use std::test::Fail;
+
+const NO_CALLS: &str = "begun 0 pending 0 ask 0 sign 0 done 0 refused 0 cancelled 0 not-now 0\n";
+
+const ONE_ROUND: &str = "begun 8 pending 7 ask 1 sign 8 done 8 refused 0 cancelled 0 not-now 0\n";
+
+const FOUR_ROUNDS: &str =
+    "begun 32 pending 14 ask 3 sign 31 done 31 refused 0 cancelled 1 not-now 0\n";
+
+const MOST_CALLS: &str = "begun 100000 pending 43750 ask 9375 sign 96875 done 96875 refused 0 \
+    cancelled 3125 not-now 0\n";
+
+#[test]
+fn replies_are_counted(rt: HostRuntime) -> Result<(), Fail> {
+    for (calls, line) in [
+        ("0", NO_CALLS),
+        ("8", ONE_ROUND),
+        ("32", FOUR_ROUNDS),
+        ("100000", MOST_CALLS),
+    ] {
+        let mut source = MemorySource::new(Vec::new(rt.alloc()));
+        let mut sink = MemorySink::new(rt.alloc(), ROOM).map_err(|_| AllocError)?;
+        let status = run_words(rt.alloc(), &["load", calls], &mut source, &mut sink)?;
+        assert_eq!(rt; sink.written(), line.as_bytes(), "{calls}");
+        assert_eq!(rt; status, Status::Done, "{calls}");
+    }
+    Ok(())
+}
+
+/// Numbers have one spelling, and there is exactly one.
+#[test]
+fn other_numbers_are_no_load(rt: HostRuntime) -> Result<(), Fail> {
+    for number in [
+        "01",
+        "100001",
+        "+1",
+        "-1",
+        "",
+        " 1",
+        "1 ",
+        "x",
+        "18446744073709551616",
+    ] {
+        let mut source = MemorySource::new(Vec::new(rt.alloc()));
+        let mut sink = MemorySink::new(rt.alloc(), ROOM).map_err(|_| AllocError)?;
+        let status = run_words(rt.alloc(), &["load", number], &mut source, &mut sink)?;
+        assert_eq!(rt; status, Status::Usage, "{number}");
+        assert_eq!(rt; sink.written(), b"".as_slice(), "{number}");
+    }
+    Ok(())
+}
+
+#[test]
+fn other_words_are_no_load(rt: HostRuntime) -> Result<(), Fail> {
+    let mut source = MemorySource::new(Vec::new(rt.alloc()));
+    let mut sink = MemorySink::new(rt.alloc(), ROOM).map_err(|_| AllocError)?;
+    let too_few = run_words(rt.alloc(), &["load"], &mut source, &mut sink)?;
+    assert_eq!(rt; too_few, Status::Usage);
+    let too_many = run_words(rt.alloc(), &["load", "1", "2"], &mut source, &mut sink)?;
+    assert_eq!(rt; too_many, Status::Usage);
+    let another = run_words(rt.alloc(), &["loads", "1"], &mut source, &mut sink)?;
+    assert_eq!(rt; another, Status::Usage);
+    assert_eq!(rt; sink.written(), b"".as_slice());
+    Ok(())
+}
+
+/// A source whose first read fails is not asked, and a sink that takes one byte at a time holds all bytes
+/// before the write that failed.
+#[test]
+fn each_byte_of_the_counts_fails_in_turn(rt: HostRuntime) -> Result<(), Fail> {
+    for at in 0..ONE_ROUND.len() {
+        let mut source = FaultySource::new(Vec::new(rt.alloc()), 1, vec![in rt.alloc(); 0u64]?);
+        let mut sink = FaultySink::new(
+            rt.alloc(),
+            ROOM,
+            1,
+            vec![in rt.alloc(); at as u64]?,
+        ).map_err(|_| AllocError)?;
+        let status = run_words(rt.alloc(), &["load", "8"], &mut source, &mut sink)?;
+        assert_eq!(rt; sink.written(), &ONE_ROUND.as_bytes()[..at], "write {at}");
+        assert_eq!(rt; status, Status::WriteFault, "write {at}");
+    }
+    Ok(())
+}
+
+/// A desk with one handle, how often it gave each kind of reply, and the calls of a round that are signed.
+#[derive(Drop)]
+struct Tally {
+    alloc: Global,
+    desk: Desk<ScriptCredential, ScriptRule>,
+    counts: [u64; 9],
+    signed: Vec<u64>,
+}
+
+/// The place of a kind of reply among the counts.
+fn kind(reply: &Reply<ScriptCredential>) -> usize
+    ensures { result < 9 }
+{
+    match reply {
+        Reply::Begun => 0,
+        Reply::Pending => 1,
+        Reply::Ask { .. } => 2,
+        Reply::Sign { .. } => 3,
+        Reply::Done { .. } => 4,
+        Reply::Refused { .. } => 5,
+        Reply::Cancelled { .. } => 6,
+        Reply::NotNow => 7,
+        Reply::OutOfMemory => 8,
+    }
+}
+
+impl Tally {
+    /// Steps the desk with the event of a line about this call.
+    fn step(&mut self, call: u64, line: &str) -> Result<(), AllocError> {
+        let item = read_line(self.alloc, ScriptVersion::One, line.as_bytes()).map_err(
+            |_| AllocError,
+        )?;
+        let Some(Item::Event(event)) = item else {
+            return Err(AllocError);
+        };
+        let reply = self.desk.step(event.as_event());
+        let kind = kind(&reply);
+        self.counts[kind] = self.counts[kind].saturating_add(1);
+        if matches!(reply, Reply::Sign { .. }) {
+            self.signed.push(call)?;
+        }
+        Ok(())
+    }
+
+    fn begin(&mut self, call: u64) -> Result<(), AllocError> {
+        let line = format!(in self.alloc; "begin 0 {call} - GET https://e.x/c 1.1")?;
+        self.step(call, line.as_str())
+    }
+
+    fn poll(&mut self, call: u64, moment: u64) -> Result<(), AllocError> {
+        let line = format!(in self.alloc; "poll 0 {call} {moment}")?;
+        self.step(call, line.as_str())
+    }
+
+    /// The credential is found for a call, and those behind it are polled again.
+    fn find(&mut self, round: u64, call: u64, end: u64) -> Result<(), AllocError>
+        requires early { round ≤ 20000 }
+        requires before_end { call < end }
+    {
+        let begins = 100 * round;
+        let found = begins + 1;
+        let fresh = begins + 150;
+        let expires = begins + 1000;
+        let line = format!(in self.alloc; "found 0 {call} {found} {round} {fresh} {expires} 0")?;
+        self.step(call, line.as_str())?;
+        for other in call + 1..end {
+            self.poll(other, begins + 2)?;
+        }
+        Ok(())
+    }
+
+    /// The first call is cancelled, and the next finds the credential.
+    fn cancel(&mut self, round: u64, call: u64, end: u64) -> Result<(), AllocError>
+        requires early { round ≤ 20000 }
+        requires before_end { call < end }
+    {
+        let line = format!(in self.alloc; "cancel 0 {call}")?;
+        self.step(call, line.as_str())?;
+        let next = call + 1;
+        if next < end {
+            self.poll(next, 100 * round + 1)?;
+            self.find(round, next, end)?;
+        }
+        Ok(())
+    }
+
+    fn accept(&mut self) -> Result<(), AllocError> {
+        let signed = std::mem::replace(&mut self.signed, Vec::new(self.alloc));
+        for call in &signed {
+            let line = format!(in self.alloc; "accept 0 {call} GET https://e.x/c 1.1 a:b")?;
+            self.step(*call, line.as_str())?;
+        }
+        Ok(())
+    }
+
+    fn round(&mut self, round: u64, end: u64) -> Result<(), AllocError>
+        requires early { round ≤ 20000 }
+        requires before_end { 8 * round + 1 < end }
+    {
+        let first = 8 * round + 1;
+        let end = (first + 8).min(end);
+        for call in first..end {
+            self.begin(call)?;
+        }
+        for call in first..end {
+            self.poll(call, 100 * round)?;
+        }
+        match round % 4 {
+            0 => self.find(round, first, end)?,
+            2 => self.cancel(round, first, end)?,
+            _ => {}
+        }
+        self.accept()
+    }
+}
+
+/// The events of the greatest load, read from lines of a script, on a desk.
+#[test]
+fn a_desk_gives_the_counted_replies(rt: HostRuntime) -> Result<(), Fail> {
+    let mut desk = Desk::new(rt.alloc());
+    assert!(rt; desk.add_cache(Loader::Single).is_ok());
+    assert!(rt; desk.add_rule(ScriptRule::Now).is_ok());
+    assert!(rt; desk.add_handle(0, 0).is_ok());
+    let mut tally = Tally {
+        alloc: rt.alloc(),
+        desk,
+        counts: [0; 9],
+        signed: Vec::new(rt.alloc()),
+    };
+    for round in 0..12_500 {
+        tally.round(round, 100_001)?;
+    }
+    assert_eq!(rt;
+        tally.counts,
+        [100_000, 43_750, 9_375, 96_875, 96_875, 0, 3_125, 0, 0]
+    );
+    assert_eq!(rt; tally.desk.live(), 0);
+    Ok(())
+}
