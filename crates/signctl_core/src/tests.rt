@@ -72,7 +72,22 @@ fn answers_rows(rt: &impl Abort, alloc: Global, rows: &[Row]) -> Result<(), Fail
     Ok(())
 }
 
-/// The same where the source gives, and the sink takes, at most this many bytes at a time.
+/// What a script is answered, and how it ends, where the source gives, and the sink takes, at most this
+/// many bytes at a time.
+fn answer_in_pieces(
+    alloc: Global,
+    bytes: Vec<u8>,
+    piece: usize,
+) -> Result<(Status, FaultySink), AllocError>
+    requires { 0 < piece }
+{
+    let mut source = FaultySource::new(bytes, piece, Vec::new(alloc));
+    let mut sink = FaultySink::new(alloc, ROOM, piece, Vec::new(alloc)).map_err(|_| AllocError)?;
+    let status = run_word(alloc, "script", &mut source, &mut sink)?;
+    Ok((status, sink))
+}
+
+/// The same in pieces.
 fn answers_rows_in_pieces(
     rt: &impl Abort,
     alloc: Global,
@@ -83,11 +98,7 @@ fn answers_rows_in_pieces(
 {
     for row in rows {
         let bytes = joined(alloc, row.after.input, row.input)?;
-        let mut source = FaultySource::new(bytes, piece, Vec::new(alloc));
-        let mut sink = FaultySink::new(alloc, ROOM, piece, Vec::new(alloc)).map_err(
-            |_| AllocError,
-        )?;
-        let status = run_word(alloc, "script", &mut source, &mut sink)?;
+        let (status, sink) = answer_in_pieces(alloc, bytes, piece)?;
         let output = joined(alloc, row.after.output, row.output)?;
         assert_eq!(rt; sink.written(), output.as_slice(), "{}", row.shows);
         assert_eq!(rt; status, row.status, "{}", row.shows);
@@ -129,18 +140,40 @@ fn pieces_of_a_page_make_no_difference_to_more(rt: HostRuntime) -> Result<(), Fa
 #[test]
 fn long_lines_are_refused(rt: HostRuntime) -> Result<(), Fail> {
     let alloc = rt.alloc();
-    let cases = [
-        (b'#', 65_536, "", Status::Done),
-        (b'#', 65_537, "line 1: too long\n", Status::Refused),
-        (b'x', 65_537, "line 1: too long\n", Status::Refused),
-        (b'#', INPUT_LIMIT + 1, "line 1: too long\n", Status::Refused),
-    ];
-    for (byte, count, output, ends) in cases {
-        let (status, sink) = answer(alloc, vec![in alloc; byte; count]?)?;
-        assert_eq!(rt; sink.written(), output.as_bytes(), "{count} of {byte}");
-        assert_eq!(rt; status, ends, "{count} of {byte}");
+    for piece in [1, 4_096, INPUT_LIMIT] {
+        for (byte, count, output, ends) in [
+            (b'#', 65_536, "", Status::Done),
+            (b'#', 65_537, "line 1: too long\n", Status::Refused),
+            (b'x', 65_537, "line 1: too long\n", Status::Refused),
+            (b'#', INPUT_LIMIT + 1, "line 1: too long\n", Status::Refused),
+        ] {
+            let (status, sink) = answer_in_pieces(alloc, vec![in alloc; byte; count]?, piece)?;
+            assert_eq!(rt; sink.written(), output.as_bytes(), "{count} of {byte}");
+            assert_eq!(rt; status, ends, "{count} of {byte}");
+        }
     }
     Ok(())
+}
+
+/// A newline more than an input may have bytes, which are read and written so many at a time.
+fn newlines_are_too_many(rt: &impl Abort, alloc: Global, piece: usize) -> Result<(), Fail>
+    requires { 0 < piece }
+{
+    let newlines = vec![in alloc; b'\n'; INPUT_LIMIT + 1]?;
+    let (status, sink) = answer_in_pieces(alloc, newlines, piece)?;
+    assert_eq!(rt; sink.written(), b"input too long\n".as_slice());
+    assert_eq!(rt; status, Status::Refused);
+    Ok(())
+}
+
+#[test]
+fn newlines_are_too_many_in_pieces_of_a_page(rt: HostRuntime) -> Result<(), Fail> {
+    newlines_are_too_many(&rt, rt.alloc(), 4_096)
+}
+
+#[test]
+fn newlines_are_too_many_in_pieces_of_one_byte(rt: HostRuntime) -> Result<(), Fail> {
+    newlines_are_too_many(&rt, rt.alloc(), 1)
 }
 
 /// Inputs of exactly the limit, in remarks of 64 bytes, and of one byte more.
@@ -169,15 +202,19 @@ fn long_inputs_are_refused(rt: HostRuntime) -> Result<(), Fail> {
     Ok(())
 }
 
-/// Other words touch neither the source nor the sink.
+/// Other words write nothing.
 #[test]
 fn other_words_are_no_command(rt: HostRuntime) -> Result<(), Fail> {
+    let mut source = MemorySource::new(Vec::from_slice(rt.alloc(), b"cache single\n")?);
+    let mut sink = MemorySink::new(rt.alloc(), ROOM).map_err(|_| AllocError)?;
     for word in ["scripts", "load", "load 01", "--help", ""] {
-        let mut source = MemorySource::new(Vec::from_slice(rt.alloc(), b"cache single\n")?);
-        let mut sink = MemorySink::new(rt.alloc(), ROOM).map_err(|_| AllocError)?;
         let status = run_word(rt.alloc(), word, &mut source, &mut sink)?;
-        assert_eq!(rt; status, Status::Usage);
-        assert_eq!(rt; sink.written(), b"".as_slice());
+        assert_eq!(rt; status, Status::Usage, "{word}");
     }
+    let leading_zero = run_words(rt.alloc(), &["load", "01"], &mut source, &mut sink)?;
+    assert_eq!(rt; leading_zero, Status::Usage);
+    let no_word = run_words(rt.alloc(), &[], &mut source, &mut sink)?;
+    assert_eq!(rt; no_word, Status::Usage);
+    assert_eq!(rt; sink.written(), b"".as_slice());
     Ok(())
 }

@@ -1,9 +1,9 @@
 //! Lines of both commands with their answers, through the driver: whole inputs, and inputs that
 //! end at a bad line.
-ghost use Rattle.std.specs.Prelude.{[]};
+ghost use Rattle.std.specs.Prelude.{[], ◌<◌};
 
 use super::*;
-use sign_base::{MemorySink, MemorySource};
+use sign_base::{FaultySink, FaultySource};
 use signctl_driver::{LineCommand, Status, drive};
 use std::alloc::{AllocError, Global};
 use std::test::Fail;
@@ -14,7 +14,7 @@ const ROOM: usize = 4096;
 /// A line, and what it is answered, without the newlines at their ends.
 type Row = (&'static str, &'static str);
 
-const HMAC: [Row; 22] = [
+const HMAC: [Row; 23] = [
     ("", ""),
     ("# hex_sha1 -", ""),
     ("base64_encode 4869205468657265", "SGkgVGhlcmU=\n"),
@@ -43,6 +43,10 @@ const HMAC: [Row; 22] = [
     ),
     (
         "hmac_sha256 0b0b0b0b0b0b0b0b0b0b0b0b0b0b0b0b0b0b0b0b0000000000000000000000000000000000000000000000000000000000000000000000000000000000000000 4869205468657265",
+        "b0344c61d8db38535ca8afceaf0bf12b881dc200c9833da726e9376c2e32cff7\n",
+    ),
+    (
+        "hex_hmac_sha256 0b0b0b0b0b0b0b0b0b0b0b0b0b0b0b0b0b0b0b0b0000000000000000000000000000000000000000000000000000000000000000000000000000000000000000 4869205468657265",
         "b0344c61d8db38535ca8afceaf0bf12b881dc200c9833da726e9376c2e32cff7\n",
     ),
     (
@@ -122,16 +126,20 @@ const NO_VIEW: [&str; 6] = [
     "GET https://e.x/ 1.1 x:%2f",
 ];
 
-/// What a command answers to some bytes, and how it ends.
+/// What a command answers to some bytes, and how it ends, where the source gives, and the sink takes, at
+/// most this many bytes at a time.
 fn driven<C: LineCommand>(
     alloc: Global,
     command: C,
     input: &str,
-) -> Result<(MemorySink, Status), Fail>
-    requires { C.represents command [] }
+    piece: usize,
+) -> Result<(FaultySink, Status), Fail>
+    requires new { C.represents command [] }
+    requires piece { 0 < piece }
 {
-    let mut source = MemorySource::new(Vec::from_slice(alloc, input.as_bytes())?);
-    let mut sink = MemorySink::new(alloc, ROOM).map_err(|_| AllocError)?;
+    let bytes = Vec::from_slice(alloc, input.as_bytes())?;
+    let mut source = FaultySource::new(bytes, piece, Vec::new(alloc));
+    let mut sink = FaultySink::new(alloc, ROOM, piece, Vec::new(alloc)).map_err(|_| AllocError)?;
     let status = drive(alloc, command, &mut source, &mut sink);
     Ok((sink, status))
 }
@@ -139,10 +147,12 @@ fn driven<C: LineCommand>(
 #[test]
 fn lines_of_hmac_are_answered(rt: HostRuntime) -> Result<(), Fail> {
     let alloc = rt.alloc();
-    for (line, answer) in &HMAC {
-        let (sink, status) = driven(alloc, HmacCommand, line)?;
-        assert_eq!(rt; sink.written(), answer.as_bytes(), "{line}");
-        assert_eq!(rt; status, Status::Done, "{line}");
+    for piece in [1, 4_096] {
+        for (line, answer) in &HMAC {
+            let (sink, status) = driven(alloc, HmacCommand, line, piece)?;
+            assert_eq!(rt; sink.written(), answer.as_bytes(), "{line}");
+            assert_eq!(rt; status, Status::Done, "{line}");
+        }
     }
     Ok(())
 }
@@ -152,7 +162,7 @@ fn other_lines_of_hmac_are_bad(rt: HostRuntime) -> Result<(), Fail> {
     let alloc = rt.alloc();
     for line in &NO_HMAC {
         let input = format!(in alloc; "#\nhex_sha1 -\n{line}\nhex_sha1 -\n")?;
-        let (sink, status) = driven(alloc, HmacCommand, input.as_str())?;
+        let (sink, status) = driven(alloc, HmacCommand, input.as_str(), 4_096)?;
         let wanted =
             b"da39a3ee5e6b4b0d3255bfef95601890afd80709\nline 3: not understood\n".as_slice();
         assert_eq!(rt; sink.written(), wanted, "{line}");
@@ -164,10 +174,12 @@ fn other_lines_of_hmac_are_bad(rt: HostRuntime) -> Result<(), Fail> {
 #[test]
 fn lines_of_view_are_answered(rt: HostRuntime) -> Result<(), Fail> {
     let alloc = rt.alloc();
-    for (line, answer) in &VIEW {
-        let (sink, status) = driven(alloc, ViewCommand, line)?;
-        assert_eq!(rt; sink.written(), answer.as_bytes(), "{line}");
-        assert_eq!(rt; status, Status::Done, "{line}");
+    for piece in [1, 4_096] {
+        for (line, answer) in &VIEW {
+            let (sink, status) = driven(alloc, ViewCommand, line, piece)?;
+            assert_eq!(rt; sink.written(), answer.as_bytes(), "{line}");
+            assert_eq!(rt; status, Status::Done, "{line}");
+        }
     }
     Ok(())
 }
@@ -177,7 +189,7 @@ fn other_lines_of_view_are_bad(rt: HostRuntime) -> Result<(), Fail> {
     let alloc = rt.alloc();
     for line in &NO_VIEW {
         let input = format!(in alloc; "GET / 1.1\n{line}\nGET / 1.1\n")?;
-        let (sink, status) = driven(alloc, ViewCommand, input.as_str())?;
+        let (sink, status) = driven(alloc, ViewCommand, input.as_str(), 4_096)?;
         let wanted = b"refused authority\nline 2: not understood\n".as_slice();
         assert_eq!(rt; sink.written(), wanted, "{line}");
         assert_eq!(rt; status, Status::Refused, "{line}");

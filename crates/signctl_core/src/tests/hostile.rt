@@ -1,8 +1,9 @@
 //! One script with three waiting calls, cut at each byte, and with a fault at each read and at each
 //! write in turn; and a head with every byte.
-use super::{ROOM, answer, run_word};
+use super::row::SIGNING;
+use super::{ROOM, answer, joined, run_word};
 use crate::Status;
-use sign_base::{FaultySink, FaultySource, MemorySource};
+use sign_base::{FaultySink, FaultySource, MemorySink, MemorySource};
 use std::alloc::{AllocError, Global};
 use std::test::Fail;
 
@@ -132,6 +133,44 @@ fn each_write_fails_in_turn(rt: HostRuntime) -> Result<(), Fail> {
         assert_eq!(rt; sink.written(), &output.as_slice()[..at], "write {at}");
         assert_eq!(rt; status, Status::WriteFault, "write {at}");
     }
+    Ok(())
+}
+
+/// A line that a fault cuts is not answered, whatever its bytes. A line that stands whole before a fault
+/// is bad before the read fails.
+#[test]
+fn a_read_fails_in_a_bad_line_or_behind_it(rt: HostRuntime) -> Result<(), Fail> {
+    let good = "cache single\nhandle 0 now\nbegin 0 1 - GET https://e.x/ 1.1\n";
+    let bad = "poll 0 01 5\n";
+    for at in 0..=bad.len() {
+        let bytes = joined(rt.alloc(), good, bad)?;
+        let read = good.len().saturating_add(at) as u64;
+        let mut source = FaultySource::new(bytes, 1, vec![in rt.alloc(); read]?);
+        let mut sink = MemorySink::new(rt.alloc(), ROOM).map_err(|_| AllocError)?;
+        let status = run_word(rt.alloc(), "script", &mut source, &mut sink)?;
+        let (report, ends) = if at < bad.len() {
+            ("", Status::ReadFault)
+        } else {
+            ("line 4: not understood\n", Status::Refused)
+        };
+        let output = joined(rt.alloc(), "cache 0\nhandle 0\nbegun\n", report)?;
+        assert_eq!(rt; sink.written(), output.as_slice(), "byte {at}");
+        assert_eq!(rt; status, ends, "byte {at}");
+    }
+    Ok(())
+}
+
+/// Of a whole call, whose answers are written a byte at a time, the second write fails.
+#[test]
+fn a_write_fails_behind_the_first_byte(rt: HostRuntime) -> Result<(), Fail> {
+    let accept = "accept 0 1 POST https://e.x/a?auth=1 2 authorization:signed\n";
+    let mut source = MemorySource::new(joined(rt.alloc(), SIGNING.input, accept)?);
+    let mut sink = FaultySink::new(rt.alloc(), ROOM, 1, vec![in rt.alloc(); 1u64]?).map_err(
+        |_| AllocError,
+    )?;
+    let status = run_word(rt.alloc(), "script", &mut source, &mut sink)?;
+    assert_eq!(rt; sink.written(), b"c".as_slice());
+    assert_eq!(rt; status, Status::WriteFault);
     Ok(())
 }
 

@@ -104,7 +104,7 @@ pub const MANY_CACHES: [Row; 25] = [
     Row {
         shows: "its fractions count",
         after: SECOND_VERSION,
-        input: "begin 0 1 0.5 GET https://e.x/ 1.1\npoll 0 1 5\nfound 0 1 6.5 1 900 7 0\n",
+        input: "begin 0 1 0.5 GET https://e.x/ 1.1\npoll 0 1 5\nfound 0 1 5.25 1 900 5.75 0\n",
         output: "begun\nask 0\nrefused short\nfinal 0 empty\n",
         status: Status::Done,
     },
@@ -112,8 +112,8 @@ pub const MANY_CACHES: [Row; 25] = [
         shows: "a credential that lasts a nanosecond longer is handed out",
         after: SECOND_VERSION,
         input: "begin 0 1 0.5 GET https://e.x/ 1.1\npoll 0 1 5\n\
-            found 0 1 6.5 1 900 7.000000001 0\n",
-        output: "begun\nask 0\nsign 1\nfinal 0 1 900 7.000000001 0\n",
+            found 0 1 5.25 1 900 5.750000001 0\n",
+        output: "begun\nask 0\nsign 1\nfinal 0 1 900 5.750000001 0\n",
         status: Status::Done,
     },
     Row {
@@ -149,15 +149,15 @@ pub const MANY_CACHES: [Row; 25] = [
     Row {
         shows: "version 1 has no fractions",
         after: SET_UP,
-        input: "poll 0 1 5.5\n",
+        input: "begin 0 1 0.5 GET https://e.x/ 1.1\npoll 0 1 5\nfound 0 1 5.25 1 900 5.75 0\n",
         output: "line 3: not understood\n",
         status: Status::Refused,
     },
     Row {
         shows: "a fraction does not end in zero",
-        after: NOTHING,
-        input: "signctl 2\npoll 0 1 5.50\n",
-        output: "line 2: not understood\n",
+        after: SECOND_VERSION,
+        input: "begin 0 1 0.5 GET https://e.x/ 1.1\npoll 0 1 5.50\nfound 0 1 5.25 1 900 5.75 0\n",
+        output: "begun\nline 5: not understood\n",
         status: Status::Refused,
     },
     Row {
