@@ -1,6 +1,6 @@
-//! Three calls on a cold cache, run as one list of events.
+//! Three calls on a cold cache, run as one list of events, and each refusal of an adding call.
 use sign_base::NoMemory;
-use sign_desk::{Desk, Event, Loader};
+use sign_desk::{AddError, Desk, Event, Loader};
 use signctl_format::{Item, ScriptCredential, ScriptRule, ScriptVersion, push_reply, read_line};
 use std::alloc::{AllocError, Global};
 use std::test::Fail;
@@ -55,5 +55,22 @@ fn a_run_replies_to_each_event(rt: HostRuntime) -> Result<(), Fail> {
         push_reply(&mut text, reply).map_err(|_| AllocError)?;
         assert_eq!(rt; text.as_slice(), want.as_bytes());
     }
+    Ok(())
+}
+
+#[test]
+fn adding_is_refused_with_its_cause(rt: HostRuntime) -> Result<(), Fail> {
+    let mut desk: Desk<ScriptCredential, ScriptRule> = Desk::new(rt.alloc());
+    assert_eq!(rt; desk.add_handle(0, 0), Err(AddError::NoCache(0)));
+    assert_eq!(rt; desk.add_cache(Loader::Single), Ok(0));
+    assert_eq!(rt; desk.add_handle(0, 0), Err(AddError::NoRule(0)));
+    assert!(rt; desk.add_rule(ScriptRule::Now).is_ok());
+    assert_eq!(rt; desk.add_handle(0, 0), Ok(0));
+    let events = events(rt.alloc()).map_err(|_| AllocError)?;
+    let Some(begin) = events.as_slice().first() else {
+        return Err(Fail::from("there is a begin"));
+    };
+    let _begun = desk.step(begin);
+    assert_eq!(rt; desk.add_cache(Loader::Single), Err(AddError::Late));
     Ok(())
 }
