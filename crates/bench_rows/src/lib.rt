@@ -7,3 +7,5 @@ mod desk_run;
 mod one_signer;
 #[cfg(test)]
 mod waiting;
+#[cfg(test)]
+mod worked_service;

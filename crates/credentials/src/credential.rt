@@ -1,5 +1,5 @@
 //! What a credential says of itself: whether it can be used, now and at a later moment.
-ghost use Rattle.std.specs.Prelude.{◌≡◌, ℤ, Bool, IfOk};
+ghost use Rattle.std.specs.Prelude.{◌≡◌, ℤ, Bool, IfOk, IsOk};
 
 use sign_base::{NoMemory, Timestamp};
 use std::alloc::Global;
@@ -16,6 +16,9 @@ pub trait SigningCredential: Drop {
     /// Whether it can be used at a later moment: the credential, that moment, now.
     ghost valid_at: { Self → ℤ → ℤ → Bool };
 
+    /// A clone of the credential takes no memory. Where a type says nothing, it may take some.
+    ghost clones_freely: { Self → Type 0 } = { λ _. ⊥ };
+
     /// Whether the credential can be used now. A function of the credential and the moment.
     fn is_valid(&self, now: Timestamp) -> bool
         ensures { result ≡ valid self.now now };
@@ -27,5 +30,6 @@ pub trait SigningCredential: Drop {
 
     /// An equal credential.
     fn try_clone(&self, alloc: Global) -> Result<Self, NoMemory<()>>
-        ensures { IfOk result (λ c. c ≡ self.now) };
+        ensures equal { IfOk result (λ c. c ≡ self.now) }
+        ensures free { clones_freely self.now → IsOk result };
 }

@@ -1,5 +1,5 @@
 //! A credential that may be absent.
-ghost use Rattle.std.specs.Prelude.{◌≡◌, IfOk};
+ghost use Rattle.std.specs.Prelude.{◌≡◌, IfOk, IfSome};
 ghost use Rattle.credentials.specs.OptionValid.{option_valid, option_valid_at};
 
 use crate::SigningCredential;
@@ -13,6 +13,8 @@ impl<T: SigningCredential> SigningCredential for Option<T> {
     ghost valid = { λ credential now. option_valid T.valid credential now };
 
     ghost valid_at = { λ credential moment now. option_valid_at T.valid_at credential moment now };
+
+    ghost clones_freely = { λ credential. IfSome credential T.clones_freely };
 
     fn is_valid(&self, now: Timestamp) -> bool {
         match self {

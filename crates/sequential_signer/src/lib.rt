@@ -5,3 +5,6 @@
 pub mod event;
 
 pub use event::{Answer, Entry, Event, Loader, Reply, Verdict, Why};
+
+#[cfg(test)]
+mod tests;

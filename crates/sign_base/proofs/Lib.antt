@@ -1,4 +1,5 @@
 pub mod FaultCount
+pub mod Styled
 pub mod LineLemmas
 pub mod TakingLemmas
 pub mod WindowLemmas

@@ -1,11 +1,11 @@
 //! Where moments come from. A clock may go back, and nothing is claimed of it but what its type
 //! tells; code that reads one is proved for every moment.
 ghost use Rattle.std.specs.Prelude.{◌≡◌, ℤ, pos, ◌<◌, length, ⊤};
-ghost use Rattle.sign_base.specs.Clock.{ReadsFirst};
+ghost use Rattle.sign_base.specs.Clock.{ReadsFirst, reading_after};
 
 use crate::Timestamp;
 use std::marker::Model;
-use std::time;
+use std::time::{self, Duration};
 
 /// A clock of the world.
 pub trait Clock {
@@ -88,11 +88,19 @@ impl<R: time::Clock> Clock for SystemClock<R> {
     ghost gives = { λ _ last now. now ≡ last };
 
     fn now(&mut self) -> Timestamp {
-        if let Ok(since_1970) = self.system.since_1970() {
-            if let Some(now) = Timestamp::start_of_1970().checked_add(since_1970) {
-                self.last = now;
-            }
-        }
+        self.last = reading(self.last, self.system.since_1970().ok());
         self.last
+    }
+}
+
+/// The reading so long after the start of 1970; the last one where that is not known or out of range.
+fn reading(last: Timestamp, since_1970: Option<Duration>) -> Timestamp
+    ensures { result ≡ reading_after last since_1970 }
+{
+    match since_1970 {
+        Some(since_1970) => Timestamp::start_of_1970()
+            .checked_add(since_1970)
+            .unwrap_or(last),
+        None => last,
     }
 }

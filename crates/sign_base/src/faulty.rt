@@ -73,8 +73,8 @@ impl Model for FaultySource {
 }
 
 impl FaultySource {
-    /// A source of these bytes that gives at most `piece` of them to a read, and fails exactly at the
-    /// reads whose numbers, from 0, stand in `fails`.
+    /// A source of these bytes that gives `piece` of them to a read, or as many as are left and fit,
+    /// and fails exactly at the reads whose numbers, from 0, stand in `fails`.
     pub fn new(bytes: Vec<u8>, piece: usize, fails: Vec<u64>) -> FaultySource
         requires { 0 < piece }
         ensures { result ≡ record { left = bytes.items; piece = piece; plan = record { fails = fails.items; calls = 0; faults = 0 } } }
@@ -95,7 +95,7 @@ impl Source for FaultySource {
     fn read(&mut self, buf: &mut [u8]) -> Result<usize, Failed>
         requires { 0 < length buf.old }
         ensures fails { is_err result ≡ fails_next self.old.plan }
-        ensures piece { IfOk result (λ n. n ≤ self.old.piece) }
+        ensures piece { IfOk result (λ n. n ≡ min self.old.piece (min (length self.old.left) (length buf.old))) }
         ensures plan { self.new.plan ≡ one_call (is_err result) self.old.plan }
         ensures same { self.new.piece ≡ self.old.piece }
         ensures bound { ReadsAtMost result buf.new }

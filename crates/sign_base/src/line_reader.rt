@@ -12,10 +12,11 @@ use crate::line_buffer::LineBuffer;
 pub use crate::line_buffer::{INPUT_LIMIT, LINE_LIMIT};
 use crate::{Close, NoMemory, Source};
 use std::alloc::Global;
+use std::fmt;
 use std::marker::Model;
 
-/// What is next of an input.
-#[derive(Debug, Drop)]
+/// What is next of an input. `Debug` shows how many bytes a line has.
+#[derive(Drop)]
 pub enum Next<'a> {
     /// A line, without its newline. The last line may have had none.
     Line(&'a [u8]),
@@ -27,6 +28,18 @@ pub enum Next<'a> {
     End,
     /// A read failed, and no further line was whole.
     Fault,
+}
+
+impl fmt::Debug for Next<'_> {
+    fn fmt<W: fmt::Write>(&self, f: &mut fmt::Formatter<W>) -> fmt::Result {
+        match self {
+            Next::Line(line) => write!(f, "Line({} bytes)", line.len()),
+            Next::TooLong => f.write_str("TooLong"),
+            Next::TooMuch => f.write_str("TooMuch"),
+            Next::End => f.write_str("End"),
+            Next::Fault => f.write_str("Fault"),
+        }
+    }
 }
 
 /// A reader of lines. It takes a buffer once, and no memory for a line.

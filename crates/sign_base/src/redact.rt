@@ -1,68 +1,108 @@
-//! Secrets in debug texts: the first and the last three bytes of one of at least twelve, and no more.
-ghost use Rattle.std.specs.Prelude.{◌≡◌, Some, option_map};
+//! Secrets in debug texts. What is not to be shown is left out when a `Redact` is made, so nothing that
+//! prints it can print more, whatever the formatter.
+ghost use Rattle.std.specs.Prelude.{◌≡◌, ◌++◌, Some, codes, option_map};
+ghost use Rattle.std.specs.Fmt.{DisplaysOnOk, WritesStyledOnOk};
 ghost use Rattle.std.specs.String.{string_bytes};
+ghost use Rattle.std.specs.Str.{IsUtf8};
 ghost use Rattle.sign_base.specs.Error.{text_or_empty};
 ghost use Rattle.sign_base.specs.Redact.{redacted_text, shown_ends};
 
-use std::fmt;
 use std::marker::Model;
+use std::{fmt, str};
 
-/// A secret whose debug text is `EMPTY` where it is empty, the first and the last three bytes round
-/// `***` where it has at least twelve bytes and these cuts fall between characters, and `***` alone
-/// otherwise.
+/// What is shown of a secret: `EMPTY` where it is empty, its first and last three bytes round `***` where
+/// it has at least twelve bytes and these cuts fall between characters, and `***` alone otherwise. Of
+/// a secret of twelve bytes that is half: use it where that much may be known.
+///
+/// It holds what it shows and no more of the secret. A width is ignored.
 #[derive(Drop)]
-pub struct Redact<'a>(&'a str);
+pub struct Redact<'a> {
+    front: &'a str,
+    middle: &'a str,
+    back: &'a str,
+}
 
 impl<'a> Model for Redact<'a> {
-    ghost use Rattle.std.specs.Prelude.{ℕ, List};
+    ghost use Rattle.std.specs.Prelude.{ℕ, List, ◌++◌};
 
     ghost Value = { List ℕ };
 
-    ghost view = { λ r. r.0.now };
+    ghost view = { λ r. r.front.now ++ (r.middle.now ++ r.back.now) };
+}
+
+impl<'a> Redact<'a> {
+    /// What is shown of a text of these bytes, `***` where they are not UTF-8.
+    pub(crate) fn of_bytes(bytes: &'a [u8]) -> Redact<'a>
+        ensures text { IsUtf8 bytes.now → result ≡ redacted_text bytes.now }
+        ensures other { (IsUtf8 bytes.now → ⊥) → result ≡ codes "***" }
+    {
+        match str::from_utf8(bytes) {
+            Ok(text) => redacted(text),
+            Err(_) => shown("", "***", ""),
+        }
+    }
 }
 
 impl<'a> From<&'a str> for Redact<'a> {
-    ghost from_gives = { λ text r. r ≡ text.now };
+    ghost from_gives = { λ text r. r ≡ redacted_text text.now };
 
     fn from(value: &'a str) -> Redact<'a> {
-        Redact(value)
+        redacted(value)
     }
 }
 
 impl<'a> From<&'a String> for Redact<'a> {
-    ghost from_gives = { λ text r. r ≡ string_bytes text.now };
+    ghost from_gives = { λ text r. r ≡ redacted_text (string_bytes text.now) };
 
     fn from(value: &'a String) -> Redact<'a> {
-        Redact(value.as_str())
+        redacted(value.as_str())
     }
 }
 
 impl<'a> From<&'a Option<String>> for Redact<'a> {
-    ghost from_gives = { λ text r. r ≡ text_or_empty text.now };
+    ghost from_gives = { λ text r. r ≡ redacted_text (text_or_empty text.now) };
 
     fn from(value: &'a Option<String>) -> Redact<'a> {
         match value {
-            Some(text) => Redact(text.as_str()),
-            None => Redact(""),
+            Some(text) => redacted(text.as_str()),
+            None => redacted(""),
         }
     }
 }
 
 impl fmt::Debug for Redact<'_> {
-    ghost debug_output = { λ r. Some (redacted_text r) };
+    ghost debug_output = { λ r. Some r };
 
-    fn fmt<W: fmt::Write>(&self, f: &mut fmt::Formatter<W>) -> fmt::Result {
-        if self.0.is_empty() {
-            return f.write_str("EMPTY");
-        }
-        match shown_ends(self.0) {
-            Some((front, back)) => {
-                f.write_str(front)?;
-                f.write_str("***")?;
-                f.write_str(back)
-            }
-            None => f.write_str("***"),
-        }
+    fn fmt<W: fmt::Write>(&self, f: &mut fmt::Formatter<W>) -> fmt::Result
+        ensures writes { DisplaysOnOk W.write_str_gives f.old result (Some self.now) f.new }
+        ensures styled { WritesStyledOnOk W.write_str_gives f.old result self.now f.new }
+    {
+        f.write_str(self.front)?;
+        f.write_str(self.middle)?;
+        f.write_str(self.back)
+    }
+}
+
+/// What is shown of a secret.
+fn redacted(text: &str) -> Redact<'_>
+    ensures { result ≡ redacted_text text.now }
+{
+    if text.is_empty() {
+        return shown("", "EMPTY", "");
+    }
+    match shown_ends(text) {
+        Some((front, back)) => shown(front, "***", back),
+        None => shown("", "***", ""),
+    }
+}
+
+fn shown<'a>(front: &'a str, middle: &'a str, back: &'a str) -> Redact<'a>
+    ensures { result ≡ front.now ++ (middle.now ++ back.now) }
+{
+    Redact {
+        front,
+        middle,
+        back,
     }
 }
 

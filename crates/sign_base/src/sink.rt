@@ -7,6 +7,7 @@ ghost use Rattle.sign_base.specs.Faults.{CountsFault, one_more};
 use crate::NoMemory;
 use crate::source::Failed;
 use std::alloc::Global;
+use std::fmt;
 use std::io::Write;
 use std::marker::Model;
 
@@ -29,8 +30,8 @@ pub trait Sink {
 }
 
 /// Bytes in memory, with room for so many and no more. A write takes what fits, and fails where
-/// there is no room.
-#[derive(Debug, Drop)]
+/// there is no room. `Debug` shows how many bytes it holds.
+#[derive(Drop)]
 pub struct MemorySink {
     bytes: Vec<u8>,
     room: usize,
@@ -75,6 +76,16 @@ impl MemorySink {
     }
 }
 
+impl fmt::Debug for MemorySink {
+    fn fmt<W: fmt::Write>(&self, f: &mut fmt::Formatter<W>) -> fmt::Result {
+        f.debug_struct("MemorySink")
+            .field("len", &self.bytes.len())
+            .field("room", &self.room)
+            .field("faults", &self.faults)
+            .finish()
+    }
+}
+
 impl Sink for MemorySink {
     ghost holds = { λ s. Some s.holds };
 
@@ -107,8 +118,9 @@ impl Sink for MemorySink {
 
 /// A writer of the standard library. Contracts observe what its writer lets them, which is nothing for a file, a
 /// pipe or a terminal, and counts its faults up to the last number of a `u64`. Nothing is tried
-/// again, also where the writer was interrupted, and a writer that takes nothing has failed.
-#[derive(Debug, Drop)]
+/// again, also where the writer was interrupted, and a writer that takes nothing has failed. `Debug`
+/// does not show the writer, which may hold bytes.
+#[derive(Drop)]
 pub struct StdSink<W> {
     writer: W,
     faults: u64,
@@ -127,6 +139,14 @@ impl<W: Write> StdSink<W> {
         ensures { result ≡ record { stream = writer; faults = 0 } }
     {
         StdSink { writer, faults: 0 }
+    }
+}
+
+impl<S> fmt::Debug for StdSink<S> {
+    fn fmt<W: fmt::Write>(&self, f: &mut fmt::Formatter<W>) -> fmt::Result {
+        f.debug_struct("StdSink")
+            .field("faults", &self.faults)
+            .finish_non_exhaustive()
     }
 }
 

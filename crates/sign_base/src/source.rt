@@ -1,6 +1,6 @@
 //! Where bytes come from. A source gives them in pieces of any size, may let contracts observe what is
 //! still to come, and counts its faults, so that a failed read has a cause that a caller can see.
-ghost use Rattle.std.specs.Prelude.{◌≡◌, ℕ, Option, Some, None, List, length, take, drop, ◌++◌, min, ◌<◌, is_ok, is_err, codes, if◌then◌else◌};
+ghost use Rattle.std.specs.Prelude.{◌≡◌, ℕ, Option, Some, None, Ok, List, length, take, drop, ◌++◌, min, ◌<◌, is_ok, is_err, codes, if◌then◌else◌};
 ghost use Rattle.std.specs.Io.KnownBytes.{ReadConsumes};
 ghost use Rattle.std.specs.Io.{ReadsAtMost};
 ghost use Rattle.sign_base.specs.Faults.{CountsFault, one_more};
@@ -41,8 +41,8 @@ pub trait Source {
         ensures faults { CountsFault (is_err result) (faults self.old) (faults self.new) };
 }
 
-/// Bytes in memory. It never fails.
-#[derive(Debug, Drop)]
+/// Bytes in memory. It never fails. `Debug` shows how many are left.
+#[derive(Drop)]
 pub struct MemorySource {
     bytes: Vec<u8>,
     at: usize,
@@ -66,12 +66,24 @@ impl MemorySource {
     }
 }
 
+impl fmt::Debug for MemorySource {
+    fn fmt<W: fmt::Write>(&self, f: &mut fmt::Formatter<W>) -> fmt::Result {
+        write!(f, "MemorySource({} bytes)", self.bytes.len() - self.at)
+    }
+}
+
 impl Source for MemorySource {
     ghost left = { λ s. Some s };
 
     ghost faults = { λ _. 0 };
 
-    fn read(&mut self, buf: &mut [u8]) -> Result<usize, Failed> {
+    fn read(&mut self, buf: &mut [u8]) -> Result<usize, Failed>
+        requires { 0 < length buf.old }
+        ensures count { result ≡ Ok (min (length self.old) (length buf.old)) }
+        ensures bound { ReadsAtMost result buf.new }
+        ensures bytes { ReadConsumes (Some self.old) (Some self.new) result buf.new }
+        ensures faults { CountsFault (is_err result) 0 0 }
+    {
         let n = copy_front(&self.bytes[self.at..], buf);
         self.at += n;
         Ok(n)
@@ -80,8 +92,8 @@ impl Source for MemorySource {
 
 /// A reader of the standard library. Contracts observe what its reader lets them, which is nothing for a file, a
 /// pipe or a terminal, and counts its faults up to the last number of a `u64`. Nothing is tried
-/// again, also where the reader was interrupted.
-#[derive(Debug, Drop)]
+/// again, also where the reader was interrupted. `Debug` does not show the reader, which may hold bytes.
+#[derive(Drop)]
 pub struct StdSource<R> {
     reader: R,
     faults: u64,
@@ -100,6 +112,14 @@ impl<R: Read> StdSource<R> {
         ensures { result ≡ record { stream = reader; faults = 0 } }
     {
         StdSource { reader, faults: 0 }
+    }
+}
+
+impl<R> fmt::Debug for StdSource<R> {
+    fn fmt<W: fmt::Write>(&self, f: &mut fmt::Formatter<W>) -> fmt::Result {
+        f.debug_struct("StdSource")
+            .field("faults", &self.faults)
+            .finish_non_exhaustive()
     }
 }
 

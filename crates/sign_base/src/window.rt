@@ -8,6 +8,7 @@ ghost use Rattle.sign_base.specs.Window.{buffer_size, ReadsPiece};
 
 use crate::{Failed, NoMemory, Source};
 use std::alloc::Global;
+use std::fmt;
 use std::marker::Model;
 
 /// The bytes of a buffer: two times those of the longest line, so that what is held of a line is
@@ -18,7 +19,7 @@ pub(crate) const BUFFER_SIZE: usize = 131_072;
 /// answered mostly leaves in one write.
 pub(crate) const PIECE_SIZE: usize = 32_768;
 
-#[derive(Debug, Drop)]
+#[derive(Drop)]
 pub(crate) struct Window {
     bytes: Vec<u8>,
     line: usize,
@@ -99,6 +100,14 @@ impl Window {
         let n = read_at(source, self.bytes.as_mut_slice(), self.end, most)?;
         self.end += n;
         Ok(n)
+    }
+}
+
+impl fmt::Debug for Window {
+    fn fmt<W: fmt::Write>(&self, f: &mut fmt::Formatter<W>) -> fmt::Result {
+        let line = self.line_end - self.line;
+        let held = self.end - self.start;
+        write!(f, "Window({line} bytes of a line, {held} behind it)")
     }
 }
 

@@ -8,17 +8,19 @@ use Rattle.sign_desk.specs.IsDesk.{IsSetUp}
 more_few : {X : Type 0} (xs : List X) (x : X) → length xs < 4294967295 → length (xs ++ x ∷ []) < 2 ^ 32
 more_few xs x h = omega (arith, length-append xs (x ∷ []))
 
-longer : {X : Type 0} (n : ℕ) (xs : List X) (x : X) → n < length xs → n < length (xs ++ x ∷ [])
+-- a number below a length is below that of a longer list
+pub longer : {X : Type 0} (n : ℕ) (xs : List X) (x : X) → n < length xs → n < length (xs ++ x ∷ [])
 longer n xs x h = omega (arith, length-append xs (x ∷ []))
 
 -- what holds of each item, and of the new one
-each-more : {X : Type 0} (P : X → Type 0) (xs : List X) (x : X) → ((i : ℕ) → IfSome (slice_get xs i) P) → P x → (i : ℕ) → IfSome (slice_get (xs ++ x ∷ []) i) P
+pub each-more : {X : Type 0} (P : X → Type 0) (xs : List X) (x : X) → ((i : ℕ) → IfSome (slice_get xs i) P) → P x → (i : ℕ) → IfSome (slice_get (xs ++ x ∷ []) i) P
 each-more P [] x h p zero = p
 each-more P [] x h p (suc i) = tt
 each-more P (y ∷ ys) x h p zero = h zero
 each-more P (y ∷ ys) x h p (suc i) = each-more P ys x (λ k. h (suc k)) p i
 
-each-by : {X : Type 0} (P Q : X → Type 0) → ((x : X) → P x → Q x) → (o : Option X) → IfSome o P → IfSome o Q
+-- what follows for one that is there
+pub each-by : {X : Type 0} (P Q : X → Type 0) → ((x : X) → P x → Q x) → (o : Option X) → IfSome o P → IfSome o Q
 each-by P Q f None h = tt
 each-by P Q f (Some x) h = f x h
 

@@ -10,11 +10,11 @@
 //!
 //! Contracts see a desk as the record `DeskState`, and compare it with the transcript of all events and
 //! replies by `Represents`: the desk replies what a signer would that serves one call at a time.
-ghost use Rattle.std.specs.Prelude.{◌≡◌, ◌<◌, ◌++◌, ◌∷◌, [], List, true, not, OnOk, OnErr, IfOk, IfErr, length, option_map, option_and_then, option_copied, slice_get};
+ghost use Rattle.std.specs.Prelude.{◌≡◌, ◌<◌, ◌++◌, ◌∷◌, [], ℕ, List, IsOk, IsSome, true, not, OnOk, OnErr, IfOk, IfErr, length, option_map, option_and_then, option_copied, slice_get};
 
 use crate::adding::{AddError, AddRefused};
 use crate::run_error::RunError;
-use crate::state::State;
+use crate::state::{HandleRecord, State};
 use credentials::{DeadlineRule, SigningCredential};
 use sequential_signer::{Event, Loader, Reply};
 use std::alloc::Global;
@@ -45,8 +45,12 @@ impl<K: SigningCredential, D: DeadlineRule<Credential = K>> Desk<K, D> {
     ghost use Rattle.sign_desk.specs.Change.{UnchangedBy};
     ghost use Rattle.sign_desk.specs.Cause.{cause_of, IsCaused};
     ghost use Rattle.sign_desk.specs.CachesAfter.{CachesAfter};
-    ghost use Rattle.sign_desk.specs.Steps.{AreSteps};
+    ghost use Rattle.sign_desk.specs.Memory.{ClonesAreFree, RunsOutAtHeads};
+    ghost use Rattle.sign_desk.specs.Steps.{IsStep, AreSteps};
+    ghost use Rattle.sign_desk.specs.StepPrecondition.{StepPrecondition};
+    ghost use Rattle.sign_desk.specs.Transition.{Transition};
     ghost use Rattle.sign_desk.specs.PairedEntries.{paired_entries};
+    ghost use Rattle.sign_desk.specs.StateView.{handle_view};
     ghost use Rattle.sequential_signer.specs.declared.event.Entry.{Entry};
     ghost use Rattle.sequential_signer.specs.Policy.{policy_of};
     ghost use Rattle.sequential_signer.specs.Transcript.{committed_entries};
@@ -132,6 +136,66 @@ impl<K: SigningCredential, D: DeadlineRule<Credential = K>> Desk<K, D> {
         Ok(number)
     }
 
+    /// Adds a rule, and a handle on this cache with it, and returns the handle's number.
+    ///
+    /// Errors: `Late`, `OutOfMemory`. An error changes nothing, and hands the rule back.
+    pub(crate) fn add_handle_with_rule(&mut self, cache: u32, rule: D) -> Result<u32, AddRefused<D>>
+        requires cache { cache < length self.old.loaders }
+        requires rules { length self.old.rules < 4294967295 }
+        requires handles { length self.old.handles < 4294967295 }
+        ensures answer { AddAnswerBack (late_refusal self.old) (length self.old.handles) result }
+        ensures added { OnOk result (self.new ≡ with_handle cache (length self.old.rules) (with_rule rule self.old)) }
+        ensures fresh { OnOk result (Represents (policy_of K.valid K.valid_at D.deadline) self.new []) }
+        ensures unchanged { IfErr result (λ refused. (refused.back ≡ rule) × (self.new ≡ self.old)) }
+    {
+        if self.state.started {
+            return Err(AddRefused {
+                why: AddError::Late,
+                back: rule,
+            });
+        }
+        let number = self.handles();
+        if let Err(back) = self.state.add_handle_with_rule(cache, rule) {
+            return Err(AddRefused {
+                why: AddError::OutOfMemory,
+                back,
+            });
+        }
+        Ok(number)
+    }
+
+    /// Adds an empty cache with this loader, and a handle on it with this rule, and returns the handle's
+    /// number.
+    ///
+    /// Errors: `Late`, `OutOfMemory`. An error changes nothing.
+    pub(crate) fn add_handle_with_cache(
+        &mut self,
+        loader: Loader,
+        rule: u32,
+    ) -> Result<u32, AddError>
+        requires rule { rule < length self.old.rules }
+        requires caches { length self.old.loaders < 4294967295 }
+        requires handles { length self.old.handles < 4294967295 }
+        ensures answer { AddAnswer (late_refusal self.old) (length self.old.handles) result }
+        ensures added { OnOk result (self.new ≡ with_handle (length self.old.loaders) rule (with_cache loader self.old)) }
+        ensures fresh { OnOk result (Represents (policy_of K.valid K.valid_at D.deadline) self.new []) }
+        ensures unchanged { OnErr result (self.new ≡ self.old) }
+    {
+        if self.state.started {
+            return Err(AddError::Late);
+        }
+        let number = self.handles();
+        self.state.add_handle_with_cache(loader, rule)?;
+        Ok(number)
+    }
+
+    /// The handle of this number, if there is one.
+    pub(crate) fn handle_at(&self, handle: u32) -> Option<HandleRecord>
+        ensures { option_map handle_view result ≡ slice_get self.now.handles handle }
+    {
+        self.state.handle_at(handle)
+    }
+
     /// The credential that the cache holds, if there is such a cache and it holds one.
     pub fn cached(&self, cache: u32) -> Option<&K>
         ensures { option_copied result ≡ option_and_then (λ held. held) (slice_get self.now.caches cache) }
@@ -198,8 +262,8 @@ impl<K: SigningCredential, D: DeadlineRule<Credential = K>> Desk<K, D> {
     /// with this entry. The setup stays.
     ///
     /// An event that does not fit how far its call is, is answered `NotNow`. `OutOfMemory` is answered
-    /// only where memory is taken: at a begin, where a credential is handed out, and at an accepted
-    /// head. Both change nothing.
+    /// only where memory is taken: at a begin, where a credential is handed out unless its clones take
+    /// none, and at an accepted head. Both change nothing.
     pub fn step(&mut self, event: &Event<K>) -> Reply<K>
         ensures represents { (entries : List (Entry K)) → Represents (policy_of K.valid K.valid_at D.deadline) self.old entries
             → Represents (policy_of K.valid K.valid_at D.deadline) self.new (entries ++ record { event = event.now; reply = result } ∷ []) }
@@ -210,13 +274,26 @@ impl<K: SigningCredential, D: DeadlineRule<Credential = K>> Desk<K, D> {
         ensures caches { CachesAfter event.now result self.old self.new }
         ensures setup { setup_of self.new ≡ setup_of self.old }
         ensures unchanged { UnchangedBy result self.old self.new }
+        ensures memory { ClonesAreFree K.clones_freely → RunsOutAtHeads event.now result }
+    {
+        self.advance(event)
+    }
+
+    /// The same step, with exactly what it does to what the desk keeps.
+    pub(crate) fn advance(&mut self, event: &Event<K>) -> Reply<K>
+        ensures step { IsStep (policy_of K.valid K.valid_at D.deadline) event.now self.old result self.new }
+        ensures transition { Transition (policy_of K.valid K.valid_at D.deadline) event.now self.old result self.new }
+        ensures memory { ClonesAreFree K.clones_freely → RunsOutAtHeads event.now result }
+        ensures sound { StepPrecondition self.old }
+        ensures numbered { (handle : ℕ) → IsSome (slice_get self.old.handles handle) → IsSome (slice_get self.old.greatest handle) }
     {
         self.state.step(event)
     }
 
     /// Takes the events one after another, each by a `step`, and returns their replies.
     ///
-    /// The replies' room is allocated before the first event: an error changes nothing.
+    /// The replies' room is allocated before the first event: an error changes nothing. Of no events it is
+    /// always Ok.
     pub fn run(&mut self, events: &[Event<K>]) -> Result<Vec<Reply<K>>, RunError>
         ensures replies { IfOk result (λ replies. length replies.items ≡ length events.now) }
         ensures steps { IfOk result (λ replies.
@@ -226,7 +303,11 @@ impl<K: SigningCredential, D: DeadlineRule<Credential = K>> Desk<K, D> {
             → Represents (policy_of K.valid K.valid_at D.deadline) self.new (entries ++ paired_entries events.now replies.items)) }
         ensures setup { setup_of self.new ≡ setup_of self.old }
         ensures unchanged { OnErr result (self.new ≡ self.old) }
+        ensures none { events.now ≡ [] → IsOk result }
     {
+        if events.is_empty() {
+            return Ok(Vec::new(self.state.alloc));
+        }
         let mut replies = Vec::with_capacity(self.state.alloc, events.len())?;
         for event in events {
             let reply = self.step(event);

@@ -2,23 +2,39 @@
 #![tactic(auto)]
 
 mod adding;
+mod call_objects;
 mod calls;
 mod changes;
 mod desk;
+mod drive;
+mod drive_call;
+mod handle_room;
 pub mod laws;
 mod load;
 mod lookup;
+mod object_answer;
 mod poll;
 mod queue;
+mod refusal;
+mod refusal_error;
 mod replies;
 mod run_error;
+mod sign;
+mod sign_poll;
+mod signer;
+mod signer_objects;
 mod state;
 mod step;
+mod step_call;
+mod step_reply;
+mod target;
+mod went;
 
 pub use adding::{AddError, AddRefused};
 pub use desk::Desk;
+pub use refusal::Refusal;
 pub use run_error::RunError;
 pub use sequential_signer::{Answer, Entry, Event, Loader, Reply, Verdict, Why};
-
-#[cfg(test)]
-mod tests;
+pub use sign::Sign;
+pub use sign_poll::{SignAnswer, SignPoll};
+pub use signer::Signer;

@@ -1,5 +1,5 @@
 //! The load of a call: what each answer of a provider does.
-ghost use Rattle.std.specs.Prelude.{◌≡◌, ◌<◌, IfSome, IsSome, length, slice_get};
+ghost use Rattle.std.specs.Prelude.{◌≡◌, ◌≢◌, ◌<◌, IfSome, IsSome, length, slice_get};
 
 use crate::calls::Stage;
 use crate::state::{LiveCallView, State};
@@ -16,6 +16,8 @@ impl<K: SigningCredential, D: DeadlineRule<Credential = K>> State<K, D> {
     ghost use Rattle.sign_desk.specs.StepPrecondition.{StepPrecondition, IsPlaced, HasPlaces, provider_count};
     ghost use Rattle.sign_desk.specs.declared.calls.Stage.TheVariants.{Loading};
     ghost use Rattle.sign_desk.specs.Action.{Performs};
+    ghost use Rattle.sign_desk.specs.Memory.{ClonesAreFree};
+    ghost use Rattle.sequential_signer.specs.declared.event.Reply.TheVariants.{OutOfMemory};
     ghost use Rattle.sign_desk.specs.HoldProgress.{desk_check, desk_load, next_load};
     ghost use Rattle.sign_desk.specs.HoldAction.{hold_action, loading_hold};
     ghost use Rattle.sign_desk.specs.Transition.{load_action, with_answer, Transition};
@@ -24,8 +26,9 @@ impl<K: SigningCredential, D: DeadlineRule<Credential = K>> State<K, D> {
     /// A provider's answer.
     pub fn provided(&mut self, call: CallId, now: Timestamp, answer: &Answer<K>) -> Reply<K>
         requires { StepPrecondition self.old }
-        ensures { Transition (policy_of K.valid K.valid_at D.deadline) (Provided call now answer.now)
+        ensures done { Transition (policy_of K.valid K.valid_at D.deadline) (Provided call now answer.now)
             self.old result self.new }
+        ensures memory { ClonesAreFree K.clones_freely → result ≢ OutOfMemory }
     {
         let Some(view) = self.find(call) else {
             return Reply::NotNow;
@@ -40,8 +43,9 @@ impl<K: SigningCredential, D: DeadlineRule<Credential = K>> State<K, D> {
     fn load(&mut self, view: LiveCallView, now: Timestamp, answer: &Answer<K>) -> Reply<K>
         requires placed { IsPlaced self.old view }
         requires loading { view.stage ≡ Loading }
-        ensures { Performs (load_action (policy_of K.valid K.valid_at D.deadline) self.old now answer.now view)
+        ensures done { Performs (load_action (policy_of K.valid K.valid_at D.deadline) self.old now answer.now view)
             view.call self.old result self.new }
+        ensures memory { ClonesAreFree K.clones_freely → result ≢ OutOfMemory }
     {
         let view = self.with_answer(view);
         match answer {
@@ -96,8 +100,9 @@ impl<K: SigningCredential, D: DeadlineRule<Credential = K>> State<K, D> {
     fn found(&mut self, view: LiveCallView, now: Timestamp, found: &K) -> Reply<K>
         requires live { IsSome (find_call view.call self.old.calls) }
         requires places { HasPlaces self.old view.cache view.rule }
-        ensures { Performs (hold_action (loading_hold self.old view) view
+        ensures done { Performs (hold_action (loading_hold self.old view) view
             (desk_load (policy_of K.valid K.valid_at D.deadline) self.old now view (Found found.now))) view.call self.old result self.new }
+        ensures memory { ClonesAreFree K.clones_freely → result ≢ OutOfMemory }
     {
         if let Err(why) = self.check(view, now, found) {
             return self.refuse_and_leave(view, why);
@@ -116,8 +121,9 @@ impl<K: SigningCredential, D: DeadlineRule<Credential = K>> State<K, D> {
     fn load_on(&mut self, view: LiveCallView, single: Why) -> Reply<K>
         requires live { IsSome (find_call view.call self.old.calls) }
         requires places { HasPlaces self.old view.cache view.rule }
-        ensures { Performs (hold_action (loading_hold self.old view) view
+        ensures done { Performs (hold_action (loading_hold self.old view) view
             (next_load (slice_get self.old.loaders view.cache) view.answers single)) view.call self.old result self.new }
+        ensures memory { ClonesAreFree K.clones_freely → result ≢ OutOfMemory }
     {
         match self.loaders[view.cache as usize] {
             Loader::Single => self.refuse_and_leave(view, single),

@@ -1,5 +1,5 @@
 //! The look of a call at its cache, when its turn has come.
-ghost use Rattle.std.specs.Prelude.{◌<◌, length};
+ghost use Rattle.std.specs.Prelude.{◌≢◌, ◌<◌, length};
 
 use crate::state::{LiveCallView, State};
 use credentials::{DeadlineRule, SigningCredential};
@@ -23,13 +23,16 @@ impl<K: SigningCredential, D: DeadlineRule<Credential = K>> State<K, D> {
     ghost use Rattle.sequential_signer.specs.Policy.{policy_of};
     ghost use Rattle.sign_desk.specs.HoldProgress.{desk_lookup};
     ghost use Rattle.sign_desk.specs.IsLookup.{IsLookup};
+    ghost use Rattle.sign_desk.specs.Memory.{ClonesAreFree};
+    ghost use Rattle.sign_desk.specs.declared.lookup.Lookup.TheVariants.{OutOfMemory};
 
     /// What its cache holds for the call now.
     pub fn look(&self, view: LiveCallView, now: Timestamp) -> Lookup<K>
         requires loader { view.cache < length self.now.loaders }
         requires cache { view.cache < length self.now.caches }
         requires rule { view.rule < length self.now.rules }
-        ensures { IsLookup (desk_lookup (policy_of K.valid K.valid_at D.deadline) self.now now view) result }
+        ensures lookup { IsLookup (desk_lookup (policy_of K.valid K.valid_at D.deadline) self.now now view) result }
+        ensures memory { ClonesAreFree K.clones_freely → result ≢ OutOfMemory }
     {
         let rule = &self.rules[view.rule as usize];
         if let Some(credential) = &self.caches[view.cache as usize]

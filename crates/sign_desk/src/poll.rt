@@ -1,5 +1,5 @@
 //! The polls of a call: it takes its place at the first, and looks at its cache once it holds.
-ghost use Rattle.std.specs.Prelude.{◌≡◌};
+ghost use Rattle.std.specs.Prelude.{◌≡◌, ◌≢◌};
 
 use crate::calls::Stage;
 use crate::lookup::Lookup;
@@ -17,13 +17,16 @@ impl<K: SigningCredential, D: DeadlineRule<Credential = K>> State<K, D> {
     ghost use Rattle.sign_desk.specs.StepPrecondition.{StepPrecondition, IsPlaced};
     ghost use Rattle.sign_desk.specs.declared.calls.Stage.TheVariants.{Unpolled};
     ghost use Rattle.sign_desk.specs.Action.{Performs};
+    ghost use Rattle.sign_desk.specs.Memory.{ClonesAreFree};
+    ghost use Rattle.sequential_signer.specs.declared.event.Reply.TheVariants.{OutOfMemory};
     ghost use Rattle.sign_desk.specs.HoldProgress.{desk_lookup};
     ghost use Rattle.sign_desk.specs.Transition.{first_poll_action, later_poll_action, Transition};
 
     /// A poll.
     pub fn poll(&mut self, call: CallId, now: Timestamp) -> Reply<K>
         requires { StepPrecondition self.old }
-        ensures { Transition (policy_of K.valid K.valid_at D.deadline) (Poll call now) self.old result self.new }
+        ensures done { Transition (policy_of K.valid K.valid_at D.deadline) (Poll call now) self.old result self.new }
+        ensures memory { ClonesAreFree K.clones_freely → result ≢ OutOfMemory }
     {
         let Some(view) = self.find(call) else {
             return Reply::NotNow;
@@ -39,8 +42,9 @@ impl<K: SigningCredential, D: DeadlineRule<Credential = K>> State<K, D> {
     fn first_poll(&mut self, view: LiveCallView, now: Timestamp) -> Reply<K>
         requires placed { IsPlaced self.old view }
         requires unpolled { view.stage ≡ Unpolled }
-        ensures { Performs (first_poll_action self.old view (is_held_line (line_at view.cache self.old.queues))
+        ensures done { Performs (first_poll_action self.old view (is_held_line (line_at view.cache self.old.queues))
             (desk_lookup (policy_of K.valid K.valid_at D.deadline) self.old now view)) view.call self.old result self.new }
+        ensures memory { ClonesAreFree K.clones_freely → result ≢ OutOfMemory }
     {
         if self.is_held(view.cache) {
             self.enter(view.cache, view.call);
@@ -66,8 +70,9 @@ impl<K: SigningCredential, D: DeadlineRule<Credential = K>> State<K, D> {
     /// A later poll of a call that waited: it looks where it holds by now.
     fn later_poll(&mut self, view: LiveCallView, now: Timestamp) -> Reply<K>
         requires { IsPlaced self.old view }
-        ensures { Performs (later_poll_action self.old view (is_first view.call (line_at view.cache self.old.queues))
+        ensures done { Performs (later_poll_action self.old view (is_first view.call (line_at view.cache self.old.queues))
             (desk_lookup (policy_of K.valid K.valid_at D.deadline) self.old now view)) view.call self.old result self.new }
+        ensures memory { ClonesAreFree K.clones_freely → result ≢ OutOfMemory }
     {
         if !self.is_held_by(view.cache, view.call) {
             return Reply::Pending;

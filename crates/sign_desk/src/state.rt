@@ -1,6 +1,6 @@
 //! What a desk keeps: a table for each kind of place, and the live calls by their names. A cache has its
 //! row in `loaders`, `caches` and `queues`, a handle in `handles` and `greatest`.
-ghost use Rattle.std.specs.Prelude.{◌≡◌, [], false, option_map, option_copied, OnOk, OnErr, IfErr, IfSome, slice_get};
+ghost use Rattle.std.specs.Prelude.{◌≡◌, ◌<◌, [], false, length, option_map, option_copied, OnOk, OnErr, IfErr, IfSome, slice_get};
 
 use crate::calls::{CallRecord, Stage};
 use crate::queue::CallQueue;
@@ -122,6 +122,55 @@ impl<K: SigningCredential, D: DeadlineRule<Credential = K>> State<K, D> {
         self.handles.reserve(1)?;
         self.greatest.reserve(1)?;
         self.handles.push_reserved(HandleRecord { cache, rule });
+        self.greatest.push_reserved(None);
+        Ok(())
+    }
+
+    /// Adds a rule and a handle with it, or hands the rule back.
+    pub fn add_handle_with_rule(&mut self, cache: u32, rule: D) -> Result<(), D>
+        requires { length self.old.rules < 4294967296 }
+        ensures added { OnOk result (self.new ≡ with_handle cache (length self.old.rules) (with_rule rule self.old)) }
+        ensures unchanged { OnErr result (self.new ≡ self.old) }
+        ensures back { IfErr result (λ back. back ≡ rule) }
+    {
+        let number = self.rules.len() as u32;
+        if self.rules.reserve(1).is_err() {
+            return Err(rule);
+        }
+        if self.handles.reserve(1).is_err() {
+            return Err(rule);
+        }
+        if self.greatest.reserve(1).is_err() {
+            return Err(rule);
+        }
+        self.rules.push_reserved(rule);
+        self.handles.push_reserved(HandleRecord {
+            cache,
+            rule: number,
+        });
+        self.greatest.push_reserved(None);
+        Ok(())
+    }
+
+    /// Adds an empty cache and a handle on it, or changes nothing.
+    pub fn add_handle_with_cache(&mut self, loader: Loader, rule: u32) -> Result<(), AllocError>
+        requires { length self.old.loaders < 4294967296 }
+        ensures added { OnOk result (self.new ≡ with_handle (length self.old.loaders) rule (with_cache loader self.old)) }
+        ensures unchanged { OnErr result (self.new ≡ self.old) }
+    {
+        let number = self.loaders.len() as u32;
+        self.loaders.reserve(1)?;
+        self.caches.reserve(1)?;
+        self.queues.reserve(1)?;
+        self.handles.reserve(1)?;
+        self.greatest.reserve(1)?;
+        self.loaders.push_reserved(loader);
+        self.caches.push_reserved(None);
+        self.queues.push_reserved(CallQueue::new(self.alloc));
+        self.handles.push_reserved(HandleRecord {
+            cache: number,
+            rule,
+        });
         self.greatest.push_reserved(None);
         Ok(())
     }

@@ -1,6 +1,6 @@
 //! One event: it finds its call, and does what the call's stage lets it do. What can run out of
 //! memory is taken before anything changes.
-ghost use Rattle.std.specs.Prelude.{◌≡◌, IsSome, IfOk};
+ghost use Rattle.std.specs.Prelude.{◌≡◌, ◌≢◌, IsSome, IfOk};
 
 use crate::calls::{CallRecord, Stage};
 use crate::state::State;
@@ -17,12 +17,15 @@ impl<K: SigningCredential, D: DeadlineRule<Credential = K>> State<K, D> {
     ghost use Rattle.sign_desk.specs.DeskState.{find_call};
     ghost use Rattle.sign_desk.specs.StepPrecondition.{StepPrecondition};
     ghost use Rattle.sign_desk.specs.Action.{Performs};
+    ghost use Rattle.sign_desk.specs.Memory.{ClonesAreFree, RunsOutAtHeads};
+    ghost use Rattle.sequential_signer.specs.declared.event.Reply.TheVariants.{OutOfMemory};
     ghost use Rattle.sign_desk.specs.Transition.{accept_action, Transition};
 
     /// One event.
     pub fn step(&mut self, event: &Event<K>) -> Reply<K>
         requires { StepPrecondition self.old }
-        ensures { Transition (policy_of K.valid K.valid_at D.deadline) event.now self.old result self.new }
+        ensures done { Transition (policy_of K.valid K.valid_at D.deadline) event.now self.old result self.new }
+        ensures memory { ClonesAreFree K.clones_freely → RunsOutAtHeads event.now result }
     {
         match event {
             Event::Begin {
@@ -64,8 +67,9 @@ impl<K: SigningCredential, D: DeadlineRule<Credential = K>> State<K, D> {
     /// A service's answer.
     fn signed(&mut self, call: CallId, answer: &Verdict) -> Reply<K>
         requires { StepPrecondition self.old }
-        ensures { Transition (policy_of K.valid K.valid_at D.deadline) (Signed call answer.now)
+        ensures done { Transition (policy_of K.valid K.valid_at D.deadline) (Signed call answer.now)
             self.old result self.new }
+        ensures memory { RunsOutAtHeads (Signed call answer.now) result }
     {
         let Some(view) = self.find(call) else {
             return Reply::NotNow;
@@ -95,7 +99,8 @@ impl<K: SigningCredential, D: DeadlineRule<Credential = K>> State<K, D> {
     /// A cancel.
     fn cancel(&mut self, call: CallId) -> Reply<K>
         requires { StepPrecondition self.old }
-        ensures { Transition (policy_of K.valid K.valid_at D.deadline) (Cancel call) self.old result self.new }
+        ensures done { Transition (policy_of K.valid K.valid_at D.deadline) (Cancel call) self.old result self.new }
+        ensures memory { result ≢ OutOfMemory }
     {
         let Some(view) = self.find(call) else {
             return Reply::NotNow;

@@ -16,3 +16,4 @@ pub mod AcceptedHeads
 pub mod PlainViews
 pub mod QueryBound
 pub mod RoundTripLemmas
+pub mod Unescaped

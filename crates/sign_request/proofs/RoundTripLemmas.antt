@@ -1,6 +1,9 @@
 -- The headers of a map, appended one after another, make the map again.
-use Rattle.std.proofs.Common.{◌≡◌, ◌≢◌, ℕ, zero, suc, ◌<◌, false, List, [], ◌∷◌, ◌++◌, length, map, refl, sym, ◌∙◌, ap, subst, arith, append_assoc, append-nil, length-append}
+use Rattle.std.proofs.Common.{◌≡◌, ◌≢◌, ℕ, zero, suc, ◌<◌, Bool, true, false, ◌&&◌, nat_eq, Option, List, [], ◌∷◌, ◌++◌, length, map, refl, sym, ◌∙◌, ap, subst, arith, append_assoc, append-nil, length-append}
 use Rattle.std.specs.Prelude.{All, bytes_eq}
+use Rattle.std.specs.Cmp.Lexicographic.{pointwise}
+use Rattle.std.specs.Option.{option_eq}
+use Rattle.std.specs.Ordering.{on}
 use Rattle.std.proofs.lemmas.List.{map-append, length-map}
 use Rattle.std.proofs.lemmas.List.Elements.{All-cons}
 use Rattle.std.proofs.lemmas.List.Sums.{fold-append}
@@ -10,7 +13,9 @@ use Rattle.http_header.specs.FieldName.{IsHeaderName}
 use Rattle.http_header.specs.FieldValue.{FieldValue, plain_value}
 use Rattle.http_header.specs.HeaderMap.{Entries, Entry, entry_at, entry_pairs, pairs, update, append, append_all, IsUnique, IsHeaderMap}
 use Rattle.http_header.specs.Token.{lowercase}
-use Rattle.http_uri.specs.Uri.{Spells}
+use Rattle.http_uri.specs.ByteClasses.{lowercase as uri_lowercase}
+use Rattle.http_uri.specs.Uri.{Spells, uri_scheme, uri_authority, uri_path, uri_query, uri_eq, uri_eq_equiv}
+use Rattle.http_uri.specs.declared.uri.Uri.{Uri}
 use Rattle.http_uri.proofs.Theorems.{uri_text_round_trip}
 use Rattle.sign_base.specs.declared.head.Field.{Field}
 use Rattle.sign_base.specs.declared.head.Head.{Head}
@@ -126,6 +131,23 @@ header_map_back m fields valid names same =
     ap (append_all []) (lifted-fields fields ∙ (ap (map lifted) same ∙ lifted-pairs m names))
     ∙ append_all-pairs [] (map plain_entry m) (unique_plain m valid.unique) (filled_plain m valid.filled)
 
+-- whether a URI has these four parts, as `==` compares them
+has_parts : Option (List ℕ) → Option (List ℕ) → List ℕ → Option (List ℕ) → Uri → Bool
+has_parts scheme authority path query v =
+    option_eq (on uri_lowercase (pointwise nat_eq)) scheme (uri_scheme v)
+    && (option_eq (on uri_lowercase (pointwise nat_eq)) authority (uri_authority v)
+    && (pointwise nat_eq path (uri_path v) && option_eq (pointwise nat_eq) query (uri_query v)))
+
+-- URIs with the same four parts are equal
+same_uri : (u v : Uri) → uri_scheme u ≡ uri_scheme v → uri_authority u ≡ uri_authority v → uri_path u ≡ uri_path v → uri_query u ≡ uri_query v → uri_eq u v ≡ true
+unfolding has_parts
+same_uri u v scheme authority path query =
+    ap (λ (s : Option (List ℕ)). has_parts s (uri_authority u) (uri_path u) (uri_query u) v) scheme
+    ∙ (ap (λ (a : Option (List ℕ)). has_parts (uri_scheme v) a (uri_path u) (uri_query u) v) authority
+    ∙ (ap (λ (p : List ℕ). has_parts (uri_scheme v) (uri_authority v) p (uri_query u) v) path
+    ∙ (ap (λ (q : Option (List ℕ)). has_parts (uri_scheme v) (uri_authority v) (uri_path v) q v) query
+    ∙ uri_eq_equiv.refl v)))
+
 -- a parsed head comes back
 pub comes_back : (parts again : Parts) (head : Head) → IsParsed parts → IsHeadOf parts head → ArePartsOf head again → ComesBack parts again
 comes_back parts again head parsed plain are =
@@ -133,6 +155,7 @@ comes_back parts again head parsed plain are =
     record {
       method = are.method ∙ plain.method;
       version = are.version ∙ plain.version;
+      uri = same_uri again.uri parts.uri target.0 target.1 target.2 target.3;
       scheme = target.0;
       authority = target.1;
       path = target.2;

@@ -7,6 +7,7 @@ pub mod Request
 pub mod Headers
 pub mod PlainHead
 pub mod Refusal
+pub mod Crossing
 pub mod TargetTests
 pub mod PlainTarget
 pub mod AcceptedHead

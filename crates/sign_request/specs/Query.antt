@@ -1,9 +1,9 @@
 -- Reading a query: its pairs of a key and a value, each decoded once.
-use Rattle.std.specs.Prelude.{ℕ, ◌+◌, Bool, List, map, filter, length, not, sum_by, string_bytes, ◌==◌}
+use Rattle.std.specs.Prelude.{◌≢◌, ℕ, ◌+◌, Bool, List, All, map, filter, length, not, sum_by, string_bytes, ◌==◌}
 use Rattle.std.specs.List.{slice_split, before_first, after_first}
 use Rattle.std.specs.Str.Lossy.{utf8_lossy}
 use Rattle.std.specs.declared.string.String.{String}
-use Rattle.percent_encoding.specs.Percent.{percent_decode}
+use Rattle.percent_encoding.specs.Percent.{percent_decode, percent_sign}
 use Rattle.sign_base.specs.Bytes.{ampersand, equals_sign}
 
 -- a key and its value
@@ -21,6 +21,10 @@ text_pairs pairs = map text_pair pairs
 -- the text with each percent escape replaced by its byte, once, and then U+FFFD for each sequence that is not UTF-8
 unfoldable pub decoded_text : List ℕ → List ℕ
 decoded_text text = utf8_lossy (percent_decode text)
+
+-- no byte of the text is `%`, so nothing in it is escaped
+abbrev pub HasNoEscape : List ℕ → Type 0
+HasNoEscape text = All (λ b. b ≢ percent_sign) text
 
 -- the byte is `&`
 abbrev pub is_ampersand : ℕ → Bool

@@ -1,5 +1,5 @@
 //! Header maps, and lists of plain fields.
-ghost use Rattle.std.specs.Prelude.{◌≡◌, ◌⊎◌, IfOk, IfErr, OnOk, OnErr, map};
+ghost use Rattle.std.specs.Prelude.{◌≡◌, ◌⊎◌, [], IfOk, IfErr, OnOk, map};
 ghost use Rattle.http_header.specs.FieldName.{IsFieldName};
 ghost use Rattle.http_header.specs.FieldValue.{IsFieldValue, plain_value};
 ghost use Rattle.http_header.specs.HeaderMap.{append, pairs, RefusesAppend};
@@ -8,10 +8,9 @@ ghost use Rattle.sign_request.specs.Headers.{header_pair};
 ghost use Rattle.sign_request.specs.PlainHead.{field_pair, header_map, RefusesField, RefusesFields};
 ghost use Rattle.sign_request.specs.Refusal.{IsOutOfMemory, RefusedAs};
 
+use crate::HeaderKeys;
 use crate::refusal::or_out_of_memory;
-use http::header::{
-    HeaderMap, HeaderMapError, HeaderName, HeaderNameError, HeaderValue, HeaderValueError,
-};
+use http::header::{HeaderMap, HeaderMapError, HeaderName, HeaderValue, MAX_KEYS};
 use sign_base::{Error, Field, Fields, NoMemory, Octets};
 use std::alloc::Global;
 
@@ -19,28 +18,43 @@ use std::alloc::Global;
 pub(crate) fn fields_of(alloc: Global, headers: &HeaderMap) -> Result<Fields, NoMemory<()>>
     ensures { IfOk result (λ fields. map field_pair fields ≡ map header_pair (pairs headers.now)) }
 {
-    let mut fields = Fields::new(alloc);
+    let mut fields = Vec::with_capacity(alloc, headers.len())?;
     for (name, value) in headers.iter() {
-        let field = Field {
+        fields.push(Field {
             name: Octets::from_slice(alloc, name.as_bytes())?,
             value: Octets::from_slice(alloc, value.as_bytes())?,
-        };
-        fields.push(field).map_err(|_| NoMemory { back: () })?;
+        })?;
     }
-    Ok(fields)
+    Ok(Fields::from_vec(fields))
 }
 
-/// The header map of plain fields, each appended after those before it.
-pub(crate) fn headers_of(alloc: Global, fields: &Fields) -> Result<HeaderMap, Error>
+/// The header map of plain fields, each appended after those before it, with these keys.
+pub(crate) fn headers_of(
+    alloc: Global,
+    fields: &Fields,
+    keys: HeaderKeys,
+) -> Result<HeaderMap, Error>
     ensures ok { IfOk result (λ headers. headers ≡ header_map fields.now) }
     ensures accepted { OnOk result (¬ (RefusesFields fields.now)) }
     ensures err { IfErr result (λ e. IsOutOfMemory e ⊎ RefusedAs (RefusesFields fields.now) e) }
 {
-    let mut headers = HeaderMap::new(alloc);
+    let mut headers = map_for(alloc, fields.as_slice().len(), keys)?;
     for field in fields.as_slice() {
         append_field(alloc, &mut headers, field)?;
     }
     Ok(headers)
+}
+
+// An empty map with room for so many names, or for as many as a map can have.
+fn map_for(alloc: Global, names: usize, keys: HeaderKeys) -> Result<HeaderMap, Error>
+    ensures ok { IfOk result (λ headers. headers ≡ []) }
+    ensures err { IfErr result IsOutOfMemory }
+{
+    let mut headers = keys.empty_map(alloc);
+    match headers.reserve(names.min(MAX_KEYS)) {
+        Ok(()) => Ok(headers),
+        Err(_) => Err(Error::out_of_memory()),
+    }
 }
 
 fn append_field(alloc: Global, headers: &mut HeaderMap, field: &Field) -> Result<(), Error>

@@ -3,8 +3,8 @@ ghost use Rattle.std.specs.Prelude.{◌≡◌, ◌≢◌, ◌⊎◌, Ok, Err, If
 ghost use Rattle.sign_base.specs.declared.error_kind.ErrorKind.TheVariants.{OutOfMemory};
 ghost use Rattle.sign_request.specs.Query.{text_pairs, query_length};
 
-use crate::SigningRequest;
-use crate::plain_head::parts_of;
+use crate::plain_head::parts_of_keyed;
+use crate::{HeaderKeys, SigningRequest};
 use sign_base::{Error, ErrorKind, Head, NoMemory};
 use std::alloc::Global;
 use std::marker::Model;
@@ -48,7 +48,21 @@ impl HeadView {
         ensures err { IfErr result (λ why. (why ≡ ViewRefusal.OutOfMemory)
             ⊎ (view_of head.now ≡ Err why)) }
     {
-        let parts = match parts_of(alloc, head) {
+        HeadView::build_keyed(alloc, head, HeaderKeys::default())
+    }
+
+    /// Answers what `build` does, whatever the keys. It is the call for a head whose names of
+    /// headers come from outside.
+    pub fn build_keyed(
+        alloc: Global,
+        head: &Head,
+        keys: HeaderKeys,
+    ) -> Result<HeadView, ViewRefusal>
+        ensures ok { IfOk result (λ view. view_of head.now ≡ Ok view) }
+        ensures err { IfErr result (λ why. (why ≡ ViewRefusal.OutOfMemory)
+            ⊎ (view_of head.now ≡ Err why)) }
+    {
+        let parts = match parts_of_keyed(alloc, head, keys) {
             Ok(parts) => parts,
             Err(e) => return Err(refused_as(ViewRefusal::Head, &e)),
         };

@@ -4,7 +4,10 @@
 
 mod decode;
 mod fields;
+#[cfg(test)]
+mod flood_tests;
 mod head_view;
+mod header_keys;
 mod headers;
 pub mod laws;
 mod pair;
@@ -20,5 +23,6 @@ mod tests;
 mod text;
 
 pub use head_view::{HeadView, ViewRefusal};
-pub use plain_head::{commit, head_of, parts_of};
+pub use header_keys::HeaderKeys;
+pub use plain_head::{commit, commit_keyed, head_of, parts_of, parts_of_keyed};
 pub use request::{SigningMethod, SigningRequest};

@@ -2,9 +2,11 @@
 ghost use Rattle.std.specs.Prelude.{◌≡◌, ◌⊎◌, IfOk, IfErr, OnOk, OnErr, MatchOption};
 ghost use Rattle.http_header.specs.Token.{IsToken};
 ghost use Rattle.http_uri.specs.Uri.{Spells, SpellsNone, uri_text};
+ghost use Rattle.sign_request.specs.Crossing.{AnswersParts, AnswersCommit};
 ghost use Rattle.sign_request.specs.PlainHead.{http_version, IsUnknownVersion, IsHeadOf, ArePartsOf, Commits, RefusesHead, RefusesTarget};
 ghost use Rattle.sign_request.specs.Refusal.{IsOutOfMemory, RefusedFor, RefusedAs, unknown_version};
 
+use crate::HeaderKeys;
 use crate::fields::{fields_of, headers_of};
 use crate::refusal::{or_out_of_memory, refusal};
 use http::Method;
@@ -47,10 +49,11 @@ fn uri_octets(alloc: Global, uri: &Uri) -> Result<Octets, NoMemory<()>>
     ensures { IfOk result (λ text. text ≡ uri_text uri.now) }
 {
     let text = uri.to_string(alloc)?;
-    Octets::from_slice(alloc, text.as_bytes())
+    Ok(Octets::from_vec(text.into_bytes()))
 }
 
 /// The head of `http` with the four values of a plain one. Names of headers come in lower case.
+/// Where the names come from outside, `parts_of_keyed` is the call to use.
 ///
 /// `RequestInvalid` where `http` does not accept the method, the URI or a header, or where the
 /// header map is full.
@@ -59,9 +62,17 @@ pub fn parts_of(alloc: Global, head: &Head) -> Result<Parts, Error>
     ensures accepted { OnOk result (¬ (RefusesHead head.now)) }
     ensures err { IfErr result (λ e. IsOutOfMemory e ⊎ RefusedAs (RefusesHead head.now) e) }
 {
+    parts_of_keyed(alloc, head, HeaderKeys::default())
+}
+
+/// Answers what `parts_of` does, whatever the keys. The header map has these keys, and so has each
+/// clone of it.
+pub fn parts_of_keyed(alloc: Global, head: &Head, keys: HeaderKeys) -> Result<Parts, Error>
+    ensures { AnswersParts head.now result }
+{
     let method = method_of(alloc, head.method.as_slice())?;
     let uri = uri_of(alloc, head.uri.as_slice())?;
-    let headers = headers_of(alloc, &head.headers)?;
+    let headers = headers_of(alloc, &head.headers, keys)?;
     Ok(Parts {
         method,
         uri,
@@ -71,7 +82,7 @@ pub fn parts_of(alloc: Global, head: &Head) -> Result<Parts, Error>
 }
 
 /// Puts URI and headers of a plain head into a head of `http`, both or none. Method and version
-/// stay.
+/// stay. Where the names of the headers come from outside, `commit_keyed` is the call to use.
 ///
 /// `RequestInvalid` where `http` does not accept the URI or a header, or where the header map is
 /// full. A refusal leaves the head as it was.
@@ -81,8 +92,21 @@ pub fn commit(alloc: Global, parts: &mut Parts, head: &Head) -> Result<(), Error
     ensures unchanged { OnErr result (parts.new ≡ parts.old) }
     ensures err { IfErr result (λ e. IsOutOfMemory e ⊎ RefusedAs (RefusesTarget head.now) e) }
 {
+    commit_keyed(alloc, parts, head, HeaderKeys::default())
+}
+
+/// Does what `commit` does, whatever the keys. The new header map has these keys; those of the old
+/// one go with it.
+pub fn commit_keyed(
+    alloc: Global,
+    parts: &mut Parts,
+    head: &Head,
+    keys: HeaderKeys,
+) -> Result<(), Error>
+    ensures { AnswersCommit head.now parts.old result parts.new }
+{
     let uri = uri_of(alloc, head.uri.as_slice())?;
-    let headers = headers_of(alloc, &head.headers)?;
+    let headers = headers_of(alloc, &head.headers, keys)?;
     parts.uri = uri;
     parts.headers = headers;
     Ok(())

@@ -1,10 +1,11 @@
 //! The working copy of a query. It is no part of the head: `apply` refuses a view whose query was
 //! changed.
-ghost use Rattle.std.specs.Prelude.{◌≡◌, ◌++◌, ◌∷◌, [], ◌<◌, Bool, List, IfOk, OnOk, OnErr, MatchOption, string_bytes};
+ghost use Rattle.std.specs.Prelude.{◌≡◌, ◌++◌, ◌∷◌, [], ◌<◌, Bool, List, IfOk, IsOkAnd, OnOk, OnErr, MatchOption, string_bytes};
 ghost use Rattle.std.specs.Cow.{cow_str_bytes};
+ghost use Rattle.percent_encoding.specs.Cow.{IsBorrowedStr};
 ghost use Rattle.std.specs.Fn.{FnReturnsAt};
 ghost use Rattle.std.specs.List.{AllZip, items_where_true};
-ghost use Rattle.sign_request.specs.Query.{decoded_text, text_pairs, query_length};
+ghost use Rattle.sign_request.specs.Query.{decoded_text, text_pairs, query_length, HasNoEscape};
 
 use crate::SigningRequest;
 use crate::decode::decode;
@@ -69,8 +70,11 @@ impl SigningRequest {
 
     /// The whole path decoded once, with U+FFFD for each sequence that is not UTF-8. An escaped
     /// slash becomes a slash, so where slashes are data a service decodes each segment on its own.
+    /// A path without `%` is lent, and takes no memory.
     pub fn path_percent_decoded(&self) -> Result<CowStr<'_, Global>, NoMemory<()>>
-        ensures { IfOk result (λ path. cow_str_bytes path ≡ decoded_text (string_bytes self.now.path)) }
+        ensures value { IfOk result (λ path. cow_str_bytes path
+            ≡ decoded_text (string_bytes self.now.path)) }
+        ensures lends { HasNoEscape (string_bytes self.now.path) → IsOkAnd result IsBorrowedStr }
     {
         Ok(decode(*self.path.allocator(), self.path.as_str())?)
     }

@@ -5,7 +5,9 @@ use http::request::Parts;
 use http::uri::{Authority, Scheme};
 use sign_base::{Error, Field, Fields, Head, Octets, Version};
 use std::alloc::Global;
+use std::cell::Cell;
 use std::test::Fail;
+use std::time::Duration;
 
 type Headers<'a> = &'a [(&'a str, &'a [u8])];
 
@@ -89,7 +91,6 @@ fn a_view_shows_its_head(rt: HostRuntime) -> Result<(), Fail> {
     assert_eq!(rt; printed.as_str(), VIEW);
     assert_eq!(rt; query_text(alloc, TARGET)?.as_str(), QUERY);
     assert_eq!(rt; query_size(alloc, TARGET)?, Some(102));
-    assert_eq!(rt; decoded_path(alloc, TARGET)?.as_str(), "/object/name");
     Ok(())
 }
 
@@ -234,27 +235,75 @@ fn texts_are_sorted_and_joined(rt: HostRuntime) -> Result<(), Fail> {
     Ok(())
 }
 
-// One text appended to an empty query, what passes the filter of it, and the size.
-fn appended(alloc: Global, text: &str) -> Result<String, Fail> {
-    let mut view = view(alloc, "https://e.x/a%2Fb", &[])?;
+// What passes a filter of the query, and the digits that the filter was asked for as keys, in one
+// number.
+fn filtered(alloc: Global, view: &SigningRequest) -> Result<String, Fail> {
+    let asked = Cell::new(0u32);
+    let kept = view.query_to_vec_with_filter(|key| {
+        let digit = key.as_bytes().first().copied().unwrap_or(b'0') & 15;
+        asked.set(asked.get().wrapping_mul(10).wrapping_add(u32::from(digit)));
+        digit == 2
+    })?;
+    let asked = asked.get();
+    Ok(format!(in alloc; "{kept:?} {asked}")?)
+}
+
+// A query with one text appended, its size, and what `filtered` shows of it.
+fn appended(alloc: Global, uri: &str, text: &str) -> Result<String, Fail> {
+    let mut view = view(alloc, uri, &[])?;
     view.query_append(text)?;
-    let kept = view.query_to_vec_with_filter(|key| key == "x")?;
+    let filtered = filtered(alloc, &view)?;
     let size = view.query_size();
     let query = &view.query;
-    Ok(format!(in alloc; "{query:?} {kept:?} {size:?}")?)
+    Ok(format!(in alloc; "{query:?} {size:?} {filtered}")?)
 }
 
 #[test]
 fn a_query_is_appended_to_and_filtered(rt: HostRuntime) -> Result<(), Fail> {
-    let text = appended(rt.alloc(), "x")?;
-    assert_eq!(rt; text.as_str(), r#"[("x", "")] [("x", "")] Some(1)"#);
-    let text = appended(rt.alloc(), "y")?;
-    assert_eq!(rt; text.as_str(), r#"[("y", "")] [] Some(1)"#);
-    assert_eq!(rt;
-        decoded_path(rt.alloc(), "https://e.x/a%2Fb")?.as_str(),
-        "/a/b"
-    );
+    // The filter is asked once for each key, in order.
+    let cases = [
+        ("https://e.x/", "2", r#"[("2", "")] Some(1) [("2", "")] 2"#),
+        ("https://e.x/", "1", r#"[("1", "")] Some(1) [] 1"#),
+        (
+            "https://e.x/?2=a&1=b&2=c",
+            "3",
+            r#"[("2", "a"), ("1", "b"), ("2", "c"), ("3", "")] Some(7) [("2", "a"), ("2", "c")] 2123"#,
+        ),
+    ];
+    for (uri, text, wanted) in cases {
+        let shown = appended(rt.alloc(), uri, text)?;
+        assert_eq!(rt; shown.as_str(), wanted);
+    }
     Ok(())
+}
+
+#[test]
+fn paths_are_decoded_once(rt: HostRuntime) -> Result<(), Fail> {
+    for (uri, path) in [
+        ("https://e.x/object%2Fname", "/object/name"),
+        ("https://e.x/a%2Fb", "/a/b"),
+        ("https://e.x/a%252Fb", "/a%2Fb"),
+    ] {
+        let text = decoded_path(rt.alloc(), uri)?;
+        assert_eq!(rt; text.as_str(), path);
+    }
+    Ok(())
+}
+
+#[test]
+fn places_are_compared_and_copied(rt: HostRuntime) {
+    let place = SigningMethod::Query(Duration::from_secs(60));
+    let copy = place;
+    let cases = [
+        (SigningMethod::Header, true, false),
+        (SigningMethod::Query(Duration::from_secs(60)), false, true),
+        (SigningMethod::Query(Duration::from_secs(61)), false, false),
+    ];
+    for (other, is_header, is_place) in cases {
+        assert_eq!(rt; other == SigningMethod::Header, is_header);
+        assert_eq!(rt; other == place, is_place);
+        assert_eq!(rt; copy == other, is_place);
+    }
 }
 
 #[test]
@@ -295,26 +344,45 @@ fn with_prefix(alloc: Global, headers: Headers<'_>, prefix: &str) -> Result<Stri
     }
 }
 
+const INVALID: &str = "invalid request: invalid header value";
+
+#[test]
+fn headers_are_read_by_name(rt: HostRuntime) -> Result<(), Fail> {
+    let cases: [(Headers<'_>, &'static [u8], &str); 3] = [
+        (NAMES, b"host", "h"),
+        (NAMES, b"x-c", ""),
+        (ODD, b"x-b", INVALID),
+    ];
+    for (headers, name, wanted) in cases {
+        let text = value_of(rt.alloc(), headers, name)?;
+        assert_eq!(rt; text.as_str(), wanted);
+    }
+    Ok(())
+}
+
 #[test]
 fn headers_are_listed(rt: HostRuntime) -> Result<(), Fail> {
-    let alloc = rt.alloc();
-    let invalid = "invalid request: invalid header value";
-    assert_eq!(rt;
-        sorted_names(alloc, NAMES)?.as_str(),
-        r#"["host", "x-a", "x-b"]"#
-    );
-    assert_eq!(rt; value_of(alloc, NAMES, b"host")?.as_str(), "h");
-    assert_eq!(rt; value_of(alloc, NAMES, b"x-c")?.as_str(), "");
-    assert_eq!(rt; value_of(alloc, ODD, b"x-b")?.as_str(), invalid);
-    let found = with_prefix(alloc, NAMES, "x-")?;
-    assert_eq!(rt; found.as_str(), r#"[("x-a", "1"), ("x-b", "2")]"#);
-    assert_eq!(rt; with_prefix(alloc, NAMES, "X-")?.as_str(), "[]");
-    assert_eq!(rt; with_prefix(alloc, ODD, "x-")?.as_str(), invalid);
-    assert_eq!(rt;
-        with_prefix(alloc, ODD, "x-a")?.as_str(),
-        r#"[("x-a", "1")]"#
-    );
+    let names = sorted_names(rt.alloc(), NAMES)?;
+    assert_eq!(rt; names.as_str(), r#"["host", "x-a", "x-b"]"#);
+    let cases = [
+        (NAMES, "x-", r#"[("x-a", "1"), ("x-b", "2")]"#),
+        (NAMES, "X-", "[]"),
+        (ODD, "x-", INVALID),
+        (ODD, "x-a", r#"[("x-a", "1")]"#),
+    ];
+    for (headers, prefix, wanted) in cases {
+        let text = with_prefix(rt.alloc(), headers, prefix)?;
+        assert_eq!(rt; text.as_str(), wanted);
+    }
     Ok(())
+}
+
+// Whether two heads have the same method, URI and version, and as many headers.
+fn is_same_head(plain: &Head, head: &Head) -> bool {
+    plain.method.as_slice() == head.method.as_slice()
+        && plain.uri.as_slice() == head.uri.as_slice()
+        && plain.version == head.version
+        && plain.headers.as_slice().len() == head.headers.as_slice().len()
 }
 
 // The plain head of a head, and the head of that.
@@ -322,12 +390,8 @@ fn crossed(alloc: Global, version: Version) -> Result<String, Fail> {
     let mut head = plain_head(alloc, "PUT", "https://e.x/a", &[("x", b"v")])?;
     head.version = version;
     let parts = parts_of(alloc, &head)?;
-    let plain = head_of(alloc, &parts)?;
-    let same = plain.method.as_slice() == head.method.as_slice()
-        && plain.uri.as_slice() == head.uri.as_slice()
-        && plain.version == head.version;
-    let fields = plain.headers.as_slice().len();
-    Ok(format!(in alloc; "{parts:?} {same} {fields}")?)
+    let same = is_same_head(&head_of(alloc, &parts)?, &head);
+    Ok(format!(in alloc; "{parts:?} {same}")?)
 }
 
 #[test]
@@ -342,7 +406,7 @@ fn heads_cross_the_bridge(rt: HostRuntime) -> Result<(), Fail> {
     for (version, name) in cases {
         let text = crossed(rt.alloc(), version)?;
         let wanted = format!(in rt.alloc();
-            r#"Parts {{ method: PUT, uri: https://e.x/a, version: {name}, headers: {{"x": "v"}} }} true 1"#
+            r#"Parts {{ method: PUT, uri: https://e.x/a, version: {name}, headers: {{"x": "v"}} }} true"#
         )?;
         assert_eq!(rt; text.as_str(), wanted.as_str());
     }
@@ -389,20 +453,48 @@ fn a_commit_is_whole_or_nothing(rt: HostRuntime) -> Result<(), Fail> {
     Ok(())
 }
 
-fn is_taken(alloc: Global, method: &str, uri: &str, value: &[u8]) -> Result<bool, Fail> {
+// What `parts_of` answers to a head with one header.
+fn parts_answer(alloc: Global, method: &str, uri: &str, value: &[u8]) -> Result<String, Fail> {
     let head = plain_head(alloc, method, uri, &[("x", value)])?;
-    Ok(parts_of(alloc, &head).is_ok())
+    match parts_of(alloc, &head) {
+        Ok(_) => Ok(String::from_str(alloc, "done")?),
+        Err(e) => error_text(alloc, &e),
+    }
+}
+
+const REFUSED_METHOD: &str = "invalid request: invalid HTTP method";
+
+const REFUSED_VALUE: &str = "invalid request: failed to parse header value";
+
+const REFUSED_URI: &str = "invalid request: uri too long";
+
+#[test]
+fn a_refusal_has_its_message(rt: HostRuntime) -> Result<(), Fail> {
+    let cases: [(&str, &str, &[u8], &str); 5] = [
+        ("GET", "/", b"v", "done"),
+        ("no token", "/", b"v", REFUSED_METHOD),
+        ("", "/", b"v", REFUSED_METHOD),
+        ("GET", "e.x/a", b"v", "invalid request: invalid format"),
+        ("GET", "/", b"\n", REFUSED_VALUE),
+    ];
+    for (method, uri, value, wanted) in cases {
+        let text = parts_answer(rt.alloc(), method, uri, value)?;
+        assert_eq!(rt; text.as_str(), wanted);
+    }
+    Ok(())
 }
 
 #[test]
-fn parts_are_taken_by_their_bytes(rt: HostRuntime) -> Result<(), Fail> {
-    let alloc = rt.alloc();
-    assert!(rt; !is_taken(alloc, "no token", "/", b"")?);
-    assert!(rt; !is_taken(alloc, "GET", "e.x/a", b"")?);
+fn values_are_taken_by_their_bytes(rt: HostRuntime) -> Result<(), Fail> {
     // A value may hold the tab, and all bytes from the space on but DEL.
     for byte in 0..=0xFFu8 {
-        let wanted = byte == b'\t' || (byte >= b' ' && byte != 0x7F);
-        assert_eq!(rt; is_taken(alloc, "GET", "/", &[byte])?, wanted, "{byte}");
+        let is_taken = byte == b'\t' || (byte >= b' ' && byte != 0x7F);
+        let text = parts_answer(rt.alloc(), "GET", "/", &[byte])?;
+        assert_eq!(rt;
+            text.as_str(),
+            if is_taken { "done" } else { REFUSED_VALUE },
+            "{byte}"
+        );
     }
     Ok(())
 }
@@ -441,14 +533,18 @@ fn crowd_answer(alloc: Global, count: u32) -> Result<String, Fail> {
 
 #[test]
 fn limits_are_kept(rt: HostRuntime) -> Result<(), Fail> {
-    let alloc = rt.alloc();
-    assert!(rt; is_taken(alloc, "GET", long_path(alloc, 65534)?.as_str(), b"")?);
-    assert!(rt; !is_taken(alloc, "GET", long_path(alloc, 65535)?.as_str(), b"")?);
-    assert_eq!(rt; crowd_answer(alloc, 24576)?.as_str(), "24576");
-    assert_eq!(rt;
-        crowd_answer(alloc, 24577)?.as_str(),
-        "invalid request: max size reached"
-    );
+    for (length, wanted) in [(65534, "done"), (65535, REFUSED_URI)] {
+        let path = long_path(rt.alloc(), length)?;
+        let text = parts_answer(rt.alloc(), "GET", path.as_str(), b"")?;
+        assert_eq!(rt; text.as_str(), wanted);
+    }
+    for (count, wanted) in [
+        (24576, "24576"),
+        (24577, "invalid request: max size reached"),
+    ] {
+        let text = crowd_answer(rt.alloc(), count)?;
+        assert_eq!(rt; text.as_str(), wanted);
+    }
     Ok(())
 }
 
@@ -509,21 +605,17 @@ fn a_plain_head_is_viewed(rt: HostRuntime) -> Result<(), Fail> {
 
 #[test]
 fn a_plain_head_is_refused_by_its_headers(rt: HostRuntime) -> Result<(), Fail> {
-    let alloc = rt.alloc();
-    let cases: [(&str, &[u8], &str); 4] = [
-        ("X-A", b"\xff", r#"GET http e.x / 0 [] ["x-a"] "#),
-        ("x a", b"v", "Head"),
-        ("", b"v", "Head"),
-        ("x", b"\n", "Head"),
+    // The last is refused before its target, which has no authority.
+    let cases: [(&str, &str, &[u8], &str); 5] = [
+        ("e.x", "X-A", b"\xff", r#"GET http e.x / 0 [] ["x-a"] "#),
+        ("e.x", "x a", b"v", "Head"),
+        ("e.x", "", b"v", "Head"),
+        ("e.x", "x", b"\n", "Head"),
+        ("/", "x a", b"v", "Head"),
     ];
-    for (name, value, wanted) in cases {
-        assert_eq!(rt;
-            viewed(alloc, "e.x", &[(name, value)])?.as_str(),
-            wanted,
-            "{name}"
-        );
+    for (uri, name, value, wanted) in cases {
+        let text = viewed(rt.alloc(), uri, &[(name, value)])?;
+        assert_eq!(rt; text.as_str(), wanted);
     }
-    // A header is refused before the target that has no authority.
-    assert_eq!(rt; viewed(alloc, "/", &[("x a", b"v")])?.as_str(), "Head");
     Ok(())
 }

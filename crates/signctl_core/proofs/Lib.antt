@@ -8,5 +8,4 @@ mod NothingRan
 mod LoadSteps
 mod LoadLengths
 mod LoadCounts
-mod Numbers
 mod LineWords

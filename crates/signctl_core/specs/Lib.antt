@@ -6,3 +6,4 @@ pub mod LoadRound
 pub mod Load
 pub mod LoadState
 pub mod Commands
+pub mod Program

@@ -3,13 +3,13 @@ ghost use Rattle.std.specs.Prelude.{◌≡◌, ◌≢◌, ◌↔◌, None, IfSom
 ghost use Rattle.sign_base.specs.Faults.{CountsFault};
 ghost use Rattle.signctl_driver.specs.Status.{is_read_fault, is_write_fault};
 ghost use Rattle.signctl_core.specs.Commands.{command_by_word, command_by_number, command_named, reads_source, Runs};
-ghost use Rattle.signctl_format.specs.Words.{number_of};
 
 use crate::load::{MOST_CALLS, run_load};
 use crate::session::Session;
-use itoa::Buffer;
 use sign_base::{Sink, Source};
+use sign_request::HeaderKeys;
 use signctl_driver::{Status, drive};
+use signctl_format::word::number;
 use signctl_lines::{HmacCommand, ViewCommand};
 use std::alloc::Global;
 
@@ -48,11 +48,39 @@ pub fn run<S: Source, D: Sink>(
     ensures reads { CountsFault (is_read_fault result) (S.faults source.old) (S.faults source.new) }
     ensures writes { CountsFault (is_write_fault result) (D.faults sink.old) (D.faults sink.new) }
 {
+    run_keyed(alloc, words, source, sink, HeaderKeys::default())
+}
+
+/// Does what `run` does, whatever the keys. The header maps that are made of lines have them.
+pub(crate) fn run_keyed<S: Source, D: Sink>(
+    alloc: Global,
+    words: &[String],
+    source: &mut S,
+    sink: &mut D,
+    keys: HeaderKeys,
+) -> Status
+    // Usage comes exactly where the words name no command, and touches nothing.
+    ensures usage { (result ≡ Status.Usage) ↔ (command_named (map string_bytes words.now) ≡ None) }
+    ensures untouched { result ≡ Status.Usage → (source.new ≡ source.old) × (sink.new ≡ sink.old) }
+
+    // What was taken and added.
+    ensures bytes { IfSome (command_named (map string_bytes words.now)) (λ name. Runs name result
+        (record { before = S.left source.old; after = S.left source.new })
+        (record { before = D.holds sink.old; after = D.holds sink.new })) }
+
+    // A command that does not read leaves the source.
+    ensures unread { IfSome (command_named (map string_bytes words.now)) (λ name.
+        reads_source name ≡ false → source.new ≡ source.old) }
+
+    // A count of faults rises by one exactly where the status says so, and else stays.
+    ensures reads { CountsFault (is_read_fault result) (S.faults source.old) (S.faults source.new) }
+    ensures writes { CountsFault (is_write_fault result) (D.faults sink.old) (D.faults sink.new) }
+{
     match command_of(words) {
         None => Status::Usage,
         Some(CommandName::Script) => run_script(alloc, source, sink),
         Some(CommandName::Hmac) => drive(alloc, HmacCommand, source, sink),
-        Some(CommandName::View) => drive(alloc, ViewCommand, source, sink),
+        Some(CommandName::View) => drive(alloc, ViewCommand { keys }, source, sink),
         Some(CommandName::Load(calls)) => run_load(alloc, calls, sink),
     }
 }
@@ -85,17 +113,8 @@ fn command_by_number(word: &str, text: &str) -> Option<CommandName>
     if word != "load" {
         return None;
     }
-    Some(CommandName::Load(number(MOST_CALLS, text)?))
-}
-
-/// The number up to a limit that a text spells.
-fn number(limit: u64, text: &str) -> Option<u64>
-    ensures { result ≡ number_of limit text.now }
-{
-    match text.parse::<u64>() {
-        Ok(n) if n <= limit && Buffer::new().format(n) == text => Some(n),
-        _ => None,
-    }
+    let calls = number(MOST_CALLS, text.as_bytes()).ok()?;
+    Some(CommandName::Load(calls))
 }
 
 fn run_script<S: Source, D: Sink>(alloc: Global, source: &mut S, sink: &mut D) -> Status

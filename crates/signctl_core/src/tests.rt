@@ -8,7 +8,7 @@ mod more_rows;
 mod row;
 mod rows;
 
-use crate::{Status, run};
+use crate::{HeaderKeys, Status, run, run_program};
 use more_rows::MANY_CACHES;
 use row::Row;
 use rows::ONE_CACHE;
@@ -60,18 +60,6 @@ fn joined(alloc: Global, first: &str, then: &str) -> Result<Vec<u8>, AllocError>
     Ok(bytes)
 }
 
-/// Each row's script is answered as the row says. The rows are handed in, so that no proof carries
-/// their texts.
-fn answers_rows(rt: &impl Abort, alloc: Global, rows: &[Row]) -> Result<(), Fail> {
-    for row in rows {
-        let (status, sink) = answer(alloc, joined(alloc, row.after.input, row.input)?)?;
-        let output = joined(alloc, row.after.output, row.output)?;
-        assert_eq!(rt; sink.written(), output.as_slice(), "{}", row.shows);
-        assert_eq!(rt; status, row.status, "{}", row.shows);
-    }
-    Ok(())
-}
-
 /// What a script is answered, and how it ends, where the source gives, and the sink takes, at most this
 /// many bytes at a time.
 fn answer_in_pieces(
@@ -87,21 +75,17 @@ fn answer_in_pieces(
     Ok((status, sink))
 }
 
-/// The same in pieces.
-fn answers_rows_in_pieces(
-    rt: &impl Abort,
-    alloc: Global,
-    piece: usize,
-    rows: &[Row],
-) -> Result<(), Fail>
-    requires { 0 < piece }
-{
-    for row in rows {
-        let bytes = joined(alloc, row.after.input, row.input)?;
-        let (status, sink) = answer_in_pieces(alloc, bytes, piece)?;
-        let output = joined(alloc, row.after.output, row.output)?;
-        assert_eq!(rt; sink.written(), output.as_slice(), "{}", row.shows);
-        assert_eq!(rt; status, row.status, "{}", row.shows);
+/// Each row's script is answered as the row says, read and written a byte at a time, a page at a time
+/// and at once. The rows are handed in, so that no proof carries their texts but that of the test.
+fn answers_rows(rt: &impl Abort, alloc: Global, rows: &[Row]) -> Result<(), Fail> {
+    for piece in [1, 4_096, INPUT_LIMIT] {
+        for row in rows {
+            let bytes = joined(alloc, row.after.input, row.input)?;
+            let (status, sink) = answer_in_pieces(alloc, bytes, piece)?;
+            let output = joined(alloc, row.after.output, row.output)?;
+            assert_eq!(rt; sink.written(), output.as_slice(), "{}", row.shows);
+            assert_eq!(rt; status, row.status, "{}", row.shows);
+        }
     }
     Ok(())
 }
@@ -114,26 +98,6 @@ fn scripts_are_answered(rt: HostRuntime) -> Result<(), Fail> {
 #[test]
 fn more_scripts_are_answered(rt: HostRuntime) -> Result<(), Fail> {
     answers_rows(&rt, rt.alloc(), &MANY_CACHES)
-}
-
-#[test]
-fn pieces_of_one_byte_make_no_difference(rt: HostRuntime) -> Result<(), Fail> {
-    answers_rows_in_pieces(&rt, rt.alloc(), 1, &ONE_CACHE)
-}
-
-#[test]
-fn pieces_of_one_byte_make_no_difference_to_more(rt: HostRuntime) -> Result<(), Fail> {
-    answers_rows_in_pieces(&rt, rt.alloc(), 1, &MANY_CACHES)
-}
-
-#[test]
-fn pieces_of_a_page_make_no_difference(rt: HostRuntime) -> Result<(), Fail> {
-    answers_rows_in_pieces(&rt, rt.alloc(), 4096, &ONE_CACHE)
-}
-
-#[test]
-fn pieces_of_a_page_make_no_difference_to_more(rt: HostRuntime) -> Result<(), Fail> {
-    answers_rows_in_pieces(&rt, rt.alloc(), 4096, &MANY_CACHES)
 }
 
 /// Lines of exactly the limit, and of one byte more.
@@ -167,13 +131,9 @@ fn newlines_are_too_many(rt: &impl Abort, alloc: Global, piece: usize) -> Result
 }
 
 #[test]
-fn newlines_are_too_many_in_pieces_of_a_page(rt: HostRuntime) -> Result<(), Fail> {
+fn newlines_are_too_many_in_pieces(rt: HostRuntime) -> Result<(), Fail> {
+    newlines_are_too_many(&rt, rt.alloc(), 1)?;
     newlines_are_too_many(&rt, rt.alloc(), 4_096)
-}
-
-#[test]
-fn newlines_are_too_many_in_pieces_of_one_byte(rt: HostRuntime) -> Result<(), Fail> {
-    newlines_are_too_many(&rt, rt.alloc(), 1)
 }
 
 /// Inputs of exactly the limit, in remarks of 64 bytes, and of one byte more.
@@ -202,19 +162,66 @@ fn long_inputs_are_refused(rt: HostRuntime) -> Result<(), Fail> {
     Ok(())
 }
 
-/// Other words write nothing.
+/// The words behind the program's name are answered, on both streams and by the exit status.
+#[test]
+fn a_command_line_is_answered(rt: HostRuntime) -> Result<(), Fail> {
+    let usage = "usage: signctl script|view|hmac|grant|load N|pool W J\n";
+    for (line, output, errors, exit) in [
+        ("signctl", "", usage, 2),
+        ("signctl scripts", "", usage, 2),
+        ("signctl --version", "signctl 0.2.0\n", "", 0),
+        ("signctl script", "cache 0\nline 2: not understood\n", "", 3),
+        ("signctl --version script", "", usage, 2),
+    ] {
+        let mut words = Vec::new(rt.alloc());
+        for word in line.split(' ') {
+            words.push(String::from_str(rt.alloc(), word)?)?;
+        }
+        let mut source = MemorySource::new(Vec::from_slice(rt.alloc(), b"cache single\nscript\n")?);
+        let mut out = MemorySink::new(rt.alloc(), ROOM).map_err(|_| AllocError)?;
+        let mut err = MemorySink::new(rt.alloc(), ROOM).map_err(|_| AllocError)?;
+        let status = run_program(
+            rt.alloc(),
+            Some(words),
+            &mut source,
+            &mut out,
+            &mut err,
+            HeaderKeys::default(),
+        );
+        assert_eq!(rt; out.written(), output.as_bytes(), "{line}");
+        assert_eq!(rt; err.written(), errors.as_bytes(), "{line}");
+        assert_eq!(rt; status, exit, "{line}");
+    }
+    Ok(())
+}
+
+/// Words that name no command, parted by `|`. Numbers have one spelling, and there is exactly one.
 #[test]
 fn other_words_are_no_command(rt: HostRuntime) -> Result<(), Fail> {
     let mut source = MemorySource::new(Vec::from_slice(rt.alloc(), b"cache single\n")?);
     let mut sink = MemorySink::new(rt.alloc(), ROOM).map_err(|_| AllocError)?;
-    for word in ["scripts", "load", "load 01", "--help", ""] {
-        let status = run_word(rt.alloc(), word, &mut source, &mut sink)?;
-        assert_eq!(rt; status, Status::Usage, "{word}");
+    for line in [
+        "",
+        "scripts",
+        "--help",
+        "load",
+        "load 01",
+        "load|01",
+        "load|100001",
+        "load|+1",
+        "load|-1",
+        "load|",
+        "load| 1",
+        "load|1 ",
+        "load|x",
+        "load|18446744073709551616",
+        "load|1|2",
+        "loads|1",
+    ] {
+        let words: Vec<&str> = line.split('|').collect(rt.alloc())?;
+        let status = run_words(rt.alloc(), words.as_slice(), &mut source, &mut sink)?;
+        assert_eq!(rt; status, Status::Usage, "{line}");
     }
-    let leading_zero = run_words(rt.alloc(), &["load", "01"], &mut source, &mut sink)?;
-    assert_eq!(rt; leading_zero, Status::Usage);
-    let no_word = run_words(rt.alloc(), &[], &mut source, &mut sink)?;
-    assert_eq!(rt; no_word, Status::Usage);
     assert_eq!(rt; sink.written(), b"".as_slice());
     Ok(())
 }

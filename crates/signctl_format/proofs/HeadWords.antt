@@ -2,7 +2,7 @@
 use Rattle.std.proofs.Common.{◌≡◌, ℕ, ◌+◌, ◌<◌, Bool, true, List, [], ◌∷◌, ◌++◌, Option, Some, None, refl, sym, ap, ◌∙◌, append_assoc, append-nil, length, take, drop}
 use Rattle.std.specs.Prelude.{option_map}
 use Rattle.std.specs.List.{list_all, position}
-use Rattle.std.proofs.lemmas.Bool.{lt-ltb}
+use Rattle.std.proofs.lemmas.Bool.{lt-ltb, and_parts}
 use Rattle.signctl_format.specs.Bytes.{is_visible}
 use Rattle.signctl_format.specs.Words.{is_target}
 use Rattle.signctl_format.specs.Steps.{◌>>=◌}
@@ -32,6 +32,13 @@ pub value_of-plain : (b : ℕ) (after : List ℕ) → is_plain b ≡ true → va
 value_of-plain b [] plain = rw plain refl
 value_of-plain b (c ∷ []) plain = rw plain refl
 value_of-plain b (c ∷ d ∷ after) plain = rw plain refl
+
+-- plain bytes spell themselves
+pub value_of_plain_word : (word : List ℕ) → list_all is_plain word ≡ true → value_of word ≡ Some word
+value_of_plain_word [] all = refl
+value_of_plain_word (b ∷ after) all =
+    let parts = and_parts (is_plain b) (list_all is_plain after) all in
+    value_of-plain b after parts.0 ∙ ap (with_first_byte b) (value_of_plain_word after parts.1)
 
 -- one more header was read
 pub fields_more : (front : List Field) (word : List ℕ) (field : Field) (rest ws : List (List ℕ)) (total : Option (List Field)) → ws ≡ word ∷ rest → field_of word ≡ Some field → with_front front (fields_in ws) ≡ total → with_front (front ++ field ∷ []) (fields_in rest) ≡ total

@@ -1,6 +1,7 @@
 pub mod WordList
 pub mod ReadingSteps
 pub mod NumberWords
+pub mod Digits
 pub mod VisibleWords
 pub mod Marks
 pub mod Fractions
@@ -13,3 +14,5 @@ pub mod Forms
 pub mod Grammars
 pub mod Spellings
 pub mod Texts
+pub mod ShortTexts
+pub mod Escaped

@@ -10,3 +10,4 @@ pub mod Lines
 pub mod Grammar
 pub mod Reading
 pub mod Readers
+pub mod Carrying

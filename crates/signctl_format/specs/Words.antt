@@ -1,10 +1,10 @@
 -- A line says nothing, or is parted into words by single spaces. Numbers and names are words.
-use Rattle.std.specs.Prelude.{ℕ, Bool, true, ◌&&◌, ◌==◌, nat_le, nat_lt, length, List, [], ◌∷◌, ◌++◌, Option, Some, None, if◌then◌else◌, flat_map}
+use Rattle.std.specs.Prelude.{ℕ, Bool, true, false, not, ◌&&◌, ◌==◌, nat_le, nat_lt, length, List, [], ◌∷◌, ◌++◌, Option, Some, None, if◌then◌else◌, flat_map}
 use Rattle.std.specs.List.{slice_split, list_all}
 use Rattle.std.specs.Str.{bytes_eq}
 use Rattle.std.specs.Str.Parse.{digits_value}
 use Rattle.std.specs.Fmt.{decimal}
-use Rattle.signctl_format.specs.Bytes.{space, hash_sign, is_visible}
+use Rattle.signctl_format.specs.Bytes.{space, hash_sign, zero_digit, is_visible}
 
 -- an empty line, or one that begins with `#`
 abbrev pub is_silent : List ℕ → Bool
@@ -41,6 +41,12 @@ abbrev pub number_of : ℕ → List ℕ → Option ℕ
 number_of limit word =
     let n = digits_value 10 word in
     if bytes_eq word (decimal n) && nat_le n limit then Some n else None
+
+-- whether a word has a byte, and no zero before another one
+abbrev pub begins_a_number : List ℕ → Bool
+begins_a_number [] = false
+begins_a_number (b ∷ []) = true
+begins_a_number (b ∷ c ∷ rest) = not (b == zero_digit)
 
 -- a method or a URI: one or more visible bytes, taken as they are
 abbrev pub is_target : List ℕ → Bool

@@ -1,5 +1,5 @@
 //! The credential and the deadline rules of scripts.
-ghost use Rattle.std.specs.Prelude.{◌≡◌, IfOk, option_map};
+ghost use Rattle.std.specs.Prelude.{◌≡◌, IfOk, option_map, ⊤};
 ghost use Rattle.std.specs.Duration.{as_nanos};
 
 use credentials::{DeadlineRule, SigningCredential};
@@ -27,6 +27,8 @@ impl SigningCredential for ScriptCredential {
     ghost valid = { script_valid };
 
     ghost valid_at = { script_valid_at };
+
+    ghost clones_freely = { λ _. ⊤ };
 
     fn is_valid(&self, now: Timestamp) -> bool {
         now < self.fresh

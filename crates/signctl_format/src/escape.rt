@@ -1,7 +1,8 @@
 //! Bytes that can't stand for themselves, added to a text as `%` and two digits.
-#![tactic(auto, using(crate::proofs::Texts::grows_then, crate::proofs::Texts::grows_by, crate::proofs::Texts::grows_not))]
+#![tactic(auto, using(crate::proofs::Texts::grows_then, crate::proofs::Texts::grows_by, crate::proofs::Texts::grows_not, crate::proofs::Escaped::escapes_nothing))]
 
 ghost use Rattle.std.specs.Prelude.{◌≡◌, ◌++◌, OnOk};
+ghost use Rattle.std.specs.List.{list_all};
 ghost use Rattle.signctl_format.specs.Escapes.{stands, byte_or_escape, with_escapes};
 ghost use Rattle.signctl_format.specs.Lines.{Grows};
 
@@ -18,12 +19,23 @@ pub enum Escaping {
     Pair,
 }
 
-/// Adds bytes, escaped where they have to be.
+/// Adds bytes, escaped where they have to be. Where none has to be they are copied at once.
 pub fn push_escaped(
     text: &mut Vec<u8>,
     escaping: Escaping,
     bytes: &[u8],
 ) -> Result<(), NoMemory<()>>
+    ensures ok { OnOk result (text.new.items ≡ text.old.items ++ with_escapes (stands escaping) bytes.now) }
+    ensures grows { Grows text.old.items text.new.items }
+{
+    if all_stand(escaping, bytes) {
+        push(text, bytes)
+    } else {
+        push_each(text, escaping, bytes)
+    }
+}
+
+fn push_each(text: &mut Vec<u8>, escaping: Escaping, bytes: &[u8]) -> Result<(), NoMemory<()>>
     ensures ok { OnOk result (text.new.items ≡ text.old.items ++ with_escapes (stands escaping) bytes.now) }
     ensures grows { Grows text.old.items text.new.items }
 {
@@ -42,6 +54,12 @@ fn push_byte(text: &mut Vec<u8>, escaping: Escaping, b: u8) -> Result<(), NoMemo
     } else {
         push(text, &[b'%', upper_hex(b / 16), upper_hex(b % 16)])
     }
+}
+
+fn all_stand(escaping: Escaping, bytes: &[u8]) -> bool
+    ensures { result ≡ list_all (stands escaping) bytes.now }
+{
+    bytes.iter().all(|b| stands(escaping, *b))
 }
 
 /// Whether a byte stands for itself.

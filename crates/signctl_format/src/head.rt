@@ -3,14 +3,14 @@ ghost use Rattle.std.specs.Prelude.{◌≡◌, ◌<◌, ◌∷◌, [], Some, Non
 ghost use Rattle.std.specs.List.{list_all, position};
 ghost use Rattle.signctl_format.specs.Bytes.{is_visible};
 ghost use Rattle.signctl_format.specs.Words.{words, is_target};
-ghost use Rattle.signctl_format.specs.Escapes.{value_of, with_first_byte, escaped_byte};
+ghost use Rattle.signctl_format.specs.Escapes.{is_plain, value_of, with_first_byte, escaped_byte};
 ghost use Rattle.signctl_format.specs.Heads.{version_of, field_named, field_of, is_colon};
 ghost use Rattle.signctl_format.specs.Steps.{first_word};
 ghost use Rattle.signctl_format.specs.Reading.{visible_target, fields_in, head_in};
-ghost use Rattle.signctl_format.specs.Readers.{words_after, Fails, Gives};
+ghost use Rattle.signctl_format.specs.Readers.{words_after, Reads, Gives};
 
 use crate::byte::{hex_digit, is_plain, is_visible};
-use crate::read_error::ReadError;
+use crate::read_error::{NotUnderstood, ReadError};
 use crate::word::{next_word, split_word, word_at};
 use sign_base::{Field, Fields, Head, Octets, Version};
 use std::alloc::Global;
@@ -74,8 +74,8 @@ fn all_visible(word: &[u8]) -> bool
     word.iter().all(|b| is_visible(*b))
 }
 
-fn version(word: &[u8]) -> Result<Version, ReadError>
-    ensures { Gives (λ v. v) result (version_of word.now) }
+fn version(word: &[u8]) -> Result<Version, NotUnderstood>
+    ensures { Reads (λ v. v) result (version_of word.now) }
 {
     if word == b"0.9".as_slice() {
         Ok(Version::V09)
@@ -88,7 +88,7 @@ fn version(word: &[u8]) -> Result<Version, ReadError>
     } else if word == b"3".as_slice() {
         Ok(Version::V3)
     } else {
-        Err(ReadError::NotUnderstood)
+        Err(NotUnderstood)
     }
 }
 
@@ -116,18 +116,18 @@ fn field(alloc: Global, word: &[u8]) -> Result<Field, ReadError>
 
 /// The name of a header, and the word of its value.
 #[tactic(auto, using(crate::proofs::HeadWords::field_found))]
-fn name_and_value(word: &[u8]) -> Result<(&[u8], &[u8]), ReadError>
+fn name_and_value(word: &[u8]) -> Result<(&[u8], &[u8]), NotUnderstood>
     ensures { MatchResult result
         (λ x. field_of word.now ≡ field_named x.0.now (value_of x.1.now))
-        (λ e. Fails e (field_of word.now)) }
+        (λ e. field_of word.now ≡ None) }
 {
     let Some(colon) = first_colon(word) else {
-        return Err(ReadError::NotUnderstood);
+        return Err(NotUnderstood);
     };
     let (name, _) = word.split_at(colon);
     let (_, value) = word.split_at(colon + 1);
     if !is_target(name) {
-        return Err(ReadError::NotUnderstood);
+        return Err(NotUnderstood);
     }
     Ok((name, value))
 }
@@ -139,7 +139,24 @@ fn first_colon(word: &[u8]) -> Option<usize>
     word.iter().position(|b| *b == b':')
 }
 
+/// The value that a word spells. A word with no escape is copied at once.
+#[tactic(auto, using(crate::proofs::HeadWords::value_of_plain_word))]
 fn value(alloc: Global, word: &[u8]) -> Result<Octets, ReadError>
+    ensures { Gives (λ v. v) result (value_of word.now) }
+{
+    if all_plain(word) {
+        return Ok(Octets::from_slice(alloc, word)?);
+    }
+    unescaped(alloc, word)
+}
+
+fn all_plain(word: &[u8]) -> bool
+    ensures { result ≡ list_all is_plain word.now }
+{
+    word.iter().all(|b| is_plain(*b))
+}
+
+fn unescaped(alloc: Global, word: &[u8]) -> Result<Octets, ReadError>
     ensures { Gives (λ v. v) result (value_of word.now) }
 {
     let mut value = Vec::new(alloc);
@@ -152,20 +169,20 @@ fn value(alloc: Global, word: &[u8]) -> Result<Octets, ReadError>
 }
 
 /// The next byte of a value, and what stands behind it.
-fn next_byte(rest: &[u8]) -> Result<Option<(u8, &[u8])>, ReadError>
+fn next_byte(rest: &[u8]) -> Result<Option<(u8, &[u8])>, NotUnderstood>
     ensures { MatchResult result
         (λ o. MatchOption o (value_of rest.now ≡ Some [])
         (λ x. (value_of rest.now ≡ with_first_byte x.0 (value_of x.1.now)) × (length x.1.now < length rest.now)))
-        (λ e. Fails e (value_of rest.now)) }
+        (λ e. value_of rest.now ≡ None) }
 {
     match rest {
         [] => Ok(None),
         [b'%', high, low, after @ ..] => match escaped_byte(*high, *low) {
             Some(b) => Ok(Some((b, after))),
-            None => Err(ReadError::NotUnderstood),
+            None => Err(NotUnderstood),
         },
         [b, after @ ..] if is_plain(*b) => Ok(Some((*b, after))),
-        _ => Err(ReadError::NotUnderstood),
+        _ => Err(NotUnderstood),
     }
 }
 

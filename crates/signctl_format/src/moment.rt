@@ -4,11 +4,11 @@ ghost use Rattle.std.specs.List.{position};
 ghost use Rattle.std.specs.Duration.{as_nanos};
 ghost use Rattle.signctl_format.specs.Bytes.{zero_digit, is_digit};
 ghost use Rattle.signctl_format.specs.Moments.{moment_of, duration_of, time_of, point_in, is_point, fraction_of, plain_duration, last_second, nanos_of_second};
-ghost use Rattle.signctl_format.specs.Readers.{Gives};
+ghost use Rattle.signctl_format.specs.Readers.{Reads};
 
 use crate::ScriptVersion;
 use crate::byte::is_digit;
-use crate::read_error::ReadError;
+use crate::read_error::NotUnderstood;
 use crate::word::number;
 use sign_base::Timestamp;
 use std::time::Duration;
@@ -19,8 +19,8 @@ const LAST_SECOND: u64 = 253_402_207_200;
 const PLACES: u32 = 9;
 
 /// The moment that a word spells in a script of this version.
-pub fn moment(version: ScriptVersion, word: &[u8]) -> Result<Timestamp, ReadError>
-    ensures { Gives (λ t. t) result (moment_of version word.now) }
+pub fn moment(version: ScriptVersion, word: &[u8]) -> Result<Timestamp, NotUnderstood>
+    ensures { Reads (λ t. t) result (moment_of version word.now) }
 {
     let since_1970 = time(version, LAST_SECOND, word)?;
     Ok(moment_after(since_1970))
@@ -37,8 +37,8 @@ fn moment_after(since_1970: Duration) -> Timestamp
 }
 
 /// The duration that a word spells, which may be none.
-pub fn duration(version: ScriptVersion, word: &[u8]) -> Result<Option<Duration>, ReadError>
-    ensures { Gives (option_map plain_duration) result (duration_of version word.now) }
+pub fn duration(version: ScriptVersion, word: &[u8]) -> Result<Option<Duration>, NotUnderstood>
+    ensures { Reads (option_map plain_duration) result (duration_of version word.now) }
 {
     if word == b"-".as_slice() {
         return Ok(None);
@@ -48,8 +48,8 @@ pub fn duration(version: ScriptVersion, word: &[u8]) -> Result<Option<Duration>,
 }
 
 /// The seconds that a word spells, up to a limit on whole ones.
-fn time(version: ScriptVersion, limit: u64, word: &[u8]) -> Result<Duration, ReadError>
-    ensures value { Gives plain_duration result (time_of version limit word.now) }
+fn time(version: ScriptVersion, limit: u64, word: &[u8]) -> Result<Duration, NotUnderstood>
+    ensures value { Reads plain_duration result (time_of version limit word.now) }
     ensures fits { IfOk result (λ time. as_nanos time < (limit + 1) * nanos_of_second) }
 {
     let Some(place) = point_in(version, word) else {
@@ -81,16 +81,16 @@ fn first_point(word: &[u8]) -> Option<usize>
 
 /// The fraction that digits spell, with so many places left.
 #[tactic(auto, unfolding(crate::specs::Moments::fraction_of))]
-fn fraction(places: u32, digits: &[u8]) -> Result<u32, ReadError>
+fn fraction(places: u32, digits: &[u8]) -> Result<u32, NotUnderstood>
     requires { places ≤ 9 }
-    ensures value { Gives (λ n. n) result (fraction_of places digits.now) }
+    ensures value { Reads (λ n. n) result (fraction_of places digits.now) }
     ensures below { IfOk result (λ n. n < 10 ^ places) }
 {
     let [digit, rest @ ..] = digits else {
-        return Err(ReadError::NotUnderstood);
+        return Err(NotUnderstood);
     };
     if places == 0 || !is_digit(*digit) {
-        return Err(ReadError::NotUnderstood);
+        return Err(NotUnderstood);
     }
     let here = count(*digit, places - 1);
     if rest.len() > 0 {
@@ -98,7 +98,7 @@ fn fraction(places: u32, digits: &[u8]) -> Result<u32, ReadError>
     } else if here > 0 {
         Ok(here)
     } else {
-        Err(ReadError::NotUnderstood)
+        Err(NotUnderstood)
     }
 }
 

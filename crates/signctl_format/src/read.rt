@@ -1,13 +1,14 @@
 //! Reading a line: one function for each form, by the name that begins it.
-ghost use Rattle.std.specs.Prelude.{◌≡◌, IfOk, Some};
+ghost use Rattle.std.specs.Prelude.{◌≡◌, IfOk, OnErr, IsTrue, false, Some};
 ghost use Rattle.signctl_format.specs.Steps.{first_word};
 ghost use Rattle.signctl_format.specs.ScriptEvents.{plain_event};
 ghost use Rattle.signctl_format.specs.Reading.{rule_in, call_at, credential_in, chain_form, cache_form, handle_form, begin_form, poll_form, found_form, missing_form, failed_form, accept_form, reject_form, cancel_form, item_form, item_of};
-ghost use Rattle.signctl_format.specs.Readers.{words_after, Gives};
+ghost use Rattle.signctl_format.specs.Readers.{words_after, Reads, Gives, NeedsMemory};
+ghost use Rattle.signctl_format.specs.Carrying.{names_head, CarriesHead};
 
 use crate::head::head;
 use crate::moment::{duration, moment};
-use crate::read_error::ReadError;
+use crate::read_error::{NotUnderstood, ReadError};
 use crate::word::{at_end_of_line, is_silent, number_at, split_word, u32_at, word_at};
 use crate::{Item, ScriptCredential, ScriptEvent, ScriptRule, ScriptVersion};
 use sequential_signer::{Answer, Event, Loader, Verdict};
@@ -18,13 +19,15 @@ use wake_lock::CallId;
 /// The item that a line without its newline spells in a script of this version, None where it
 /// spells none.
 ///
-/// Nothing of the line is copied but what the item keeps.
+/// Nothing of the line is copied but what the item keeps, so only a line that carries a head, as those
+/// of `begin` and `accept` do, can run out of memory.
 pub fn read_line(
     alloc: Global,
     version: ScriptVersion,
     line: &[u8],
 ) -> Result<Option<Item>, NoMemory<()>>
-    ensures { IfOk result (λ r. r ≡ item_of version line.now) }
+    ensures item { IfOk result (λ r. r ≡ item_of version line.now) }
+    ensures memory { OnErr result (CarriesHead line.now) }
 {
     match item(alloc, version, line) {
         Ok(item) => Ok(Some(item)),
@@ -35,7 +38,8 @@ pub fn read_line(
 
 #[tactic(auto, unfolding(crate::specs::Reading::item_of, crate::specs::Reading::words_say))]
 fn item(alloc: Global, version: ScriptVersion, line: &[u8]) -> Result<Item, ReadError>
-    ensures { Gives (λ i. i) result (item_of version line.now) }
+    ensures item { Gives (λ i. i) result (item_of version line.now) }
+    ensures memory { NeedsMemory result (CarriesHead line.now) }
 {
     if is_silent(line) {
         return Ok(Item::Silent);
@@ -46,15 +50,29 @@ fn item(alloc: Global, version: ScriptVersion, line: &[u8]) -> Result<Item, Read
 
 #[tactic(auto, unfolding(crate::specs::Reading::item_form))]
 fn form(alloc: Global, version: ScriptVersion, name: &[u8], rest: &[u8]) -> Result<Item, ReadError>
-    ensures { Gives (λ i. i) result (item_form version name.now (words_after rest.now)) }
+    ensures item { Gives (λ i. i) result (item_form version name.now (words_after rest.now)) }
+    ensures memory { NeedsMemory result (IsTrue (names_head name.now)) }
 {
-    if name == b"cache".as_slice() {
-        cache(rest)
-    } else if name == b"handle".as_slice() {
-        handle(rest)
-    } else if name == b"begin".as_slice() {
+    if name == b"begin".as_slice() {
         begin(alloc, version, rest)
-    } else if name == b"poll".as_slice() {
+    } else if name == b"accept".as_slice() {
+        accept(alloc, rest)
+    } else {
+        Ok(form_with_no_head(version, name, rest)?)
+    }
+}
+
+/// The forms that carry no head take no memory.
+#[tactic(auto, unfolding(crate::specs::Reading::item_form))]
+fn form_with_no_head(
+    version: ScriptVersion,
+    name: &[u8],
+    rest: &[u8],
+) -> Result<Item, NotUnderstood>
+    requires { names_head name.now ≡ false }
+    ensures { Reads (λ i. i) result (item_form version name.now (words_after rest.now)) }
+{
+    if name == b"poll".as_slice() {
         poll(version, rest)
     } else if name == b"found".as_slice() {
         found(version, rest)
@@ -62,20 +80,22 @@ fn form(alloc: Global, version: ScriptVersion, name: &[u8], rest: &[u8]) -> Resu
         missing(version, rest)
     } else if name == b"failed".as_slice() {
         failed(version, rest)
-    } else if name == b"accept".as_slice() {
-        accept(alloc, rest)
     } else if name == b"reject".as_slice() {
         reject(rest)
     } else if name == b"cancel".as_slice() {
         cancel(rest)
+    } else if name == b"cache".as_slice() {
+        cache(rest)
+    } else if name == b"handle".as_slice() {
+        handle(rest)
     } else {
-        Err(ReadError::NotUnderstood)
+        Err(NotUnderstood)
     }
 }
 
 #[tactic(auto, unfolding(crate::specs::Reading::cache_form))]
-fn cache(rest: &[u8]) -> Result<Item, ReadError>
-    ensures { Gives (λ i. i) result (cache_form (words_after rest.now)) }
+fn cache(rest: &[u8]) -> Result<Item, NotUnderstood>
+    ensures { Reads (λ i. i) result (cache_form (words_after rest.now)) }
 {
     let (kind, rest) = word_at(rest)?;
     if kind == b"single".as_slice() {
@@ -83,21 +103,21 @@ fn cache(rest: &[u8]) -> Result<Item, ReadError>
     } else if kind == b"chain".as_slice() {
         chain(rest)
     } else {
-        Err(ReadError::NotUnderstood)
+        Err(NotUnderstood)
     }
 }
 
 #[tactic(auto, unfolding(crate::specs::Reading::chain_form))]
-fn chain(rest: &[u8]) -> Result<Item, ReadError>
-    ensures { Gives (λ i. i) result (chain_form (words_after rest.now)) }
+fn chain(rest: &[u8]) -> Result<Item, NotUnderstood>
+    ensures { Reads (λ i. i) result (chain_form (words_after rest.now)) }
 {
     let (providers, rest) = u32_at(rest)?;
     at_end_of_line(Item::Cache(Loader::Chain(providers)), rest)
 }
 
 #[tactic(auto, unfolding(crate::specs::Reading::handle_form))]
-fn handle(rest: &[u8]) -> Result<Item, ReadError>
-    ensures { Gives (λ i. i) result (handle_form (words_after rest.now)) }
+fn handle(rest: &[u8]) -> Result<Item, NotUnderstood>
+    ensures { Reads (λ i. i) result (handle_form (words_after rest.now)) }
 {
     let (cache, rest) = u32_at(rest)?;
     let (word, rest) = word_at(rest)?;
@@ -121,8 +141,8 @@ fn begin(alloc: Global, version: ScriptVersion, rest: &[u8]) -> Result<Item, Rea
 }
 
 #[tactic(auto, unfolding(crate::specs::Reading::poll_form, crate::specs::Reading::moment_at))]
-fn poll(version: ScriptVersion, rest: &[u8]) -> Result<Item, ReadError>
-    ensures { Gives (λ i. i) result (poll_form version (words_after rest.now)) }
+fn poll(version: ScriptVersion, rest: &[u8]) -> Result<Item, NotUnderstood>
+    ensures { Reads (λ i. i) result (poll_form version (words_after rest.now)) }
 {
     let (call, rest) = call_at(rest)?;
     let (word, rest) = word_at(rest)?;
@@ -131,8 +151,8 @@ fn poll(version: ScriptVersion, rest: &[u8]) -> Result<Item, ReadError>
 }
 
 #[tactic(auto, unfolding(crate::specs::Reading::found_form, crate::specs::Reading::moment_at))]
-fn found(version: ScriptVersion, rest: &[u8]) -> Result<Item, ReadError>
-    ensures { Gives (λ i. i) result (found_form version (words_after rest.now)) }
+fn found(version: ScriptVersion, rest: &[u8]) -> Result<Item, NotUnderstood>
+    ensures { Reads (λ i. i) result (found_form version (words_after rest.now)) }
 {
     let (call, rest) = call_at(rest)?;
     let (word, rest) = word_at(rest)?;
@@ -142,8 +162,8 @@ fn found(version: ScriptVersion, rest: &[u8]) -> Result<Item, ReadError>
 }
 
 #[tactic(auto, unfolding(crate::specs::Reading::missing_form, crate::specs::Reading::moment_at))]
-fn missing(version: ScriptVersion, rest: &[u8]) -> Result<Item, ReadError>
-    ensures { Gives (λ i. i) result (missing_form version (words_after rest.now)) }
+fn missing(version: ScriptVersion, rest: &[u8]) -> Result<Item, NotUnderstood>
+    ensures { Reads (λ i. i) result (missing_form version (words_after rest.now)) }
 {
     let (call, rest) = call_at(rest)?;
     let (word, rest) = word_at(rest)?;
@@ -153,8 +173,8 @@ fn missing(version: ScriptVersion, rest: &[u8]) -> Result<Item, ReadError>
 }
 
 #[tactic(auto, unfolding(crate::specs::Reading::failed_form, crate::specs::Reading::moment_at))]
-fn failed(version: ScriptVersion, rest: &[u8]) -> Result<Item, ReadError>
-    ensures { Gives (λ i. i) result (failed_form version (words_after rest.now)) }
+fn failed(version: ScriptVersion, rest: &[u8]) -> Result<Item, NotUnderstood>
+    ensures { Reads (λ i. i) result (failed_form version (words_after rest.now)) }
 {
     let (call, rest) = call_at(rest)?;
     let (word, rest) = word_at(rest)?;
@@ -174,8 +194,8 @@ fn accept(alloc: Global, rest: &[u8]) -> Result<Item, ReadError>
 }
 
 #[tactic(auto, unfolding(crate::specs::Reading::reject_form))]
-fn reject(rest: &[u8]) -> Result<Item, ReadError>
-    ensures { Gives (λ i. i) result (reject_form (words_after rest.now)) }
+fn reject(rest: &[u8]) -> Result<Item, NotUnderstood>
+    ensures { Reads (λ i. i) result (reject_form (words_after rest.now)) }
 {
     let (call, rest) = call_at(rest)?;
     let (error, rest) = number_at(u64::MAX, rest)?;
@@ -184,8 +204,8 @@ fn reject(rest: &[u8]) -> Result<Item, ReadError>
 }
 
 #[tactic(auto, unfolding(crate::specs::Reading::cancel_form))]
-fn cancel(rest: &[u8]) -> Result<Item, ReadError>
-    ensures { Gives (λ i. i) result (cancel_form (words_after rest.now)) }
+fn cancel(rest: &[u8]) -> Result<Item, NotUnderstood>
+    ensures { Reads (λ i. i) result (cancel_form (words_after rest.now)) }
 {
     let (call, rest) = call_at(rest)?;
     at_end_of_line(event_item(Event::Cancel { call }), rest)
@@ -197,22 +217,22 @@ fn event_item(event: Event<ScriptCredential>) -> Item
     Item::Event(ScriptEvent::new(event))
 }
 
-fn rule(word: &[u8]) -> Result<ScriptRule, ReadError>
-    ensures { Gives (λ r. r) result (rule_in word.now) }
+fn rule(word: &[u8]) -> Result<ScriptRule, NotUnderstood>
+    ensures { Reads (λ r. r) result (rule_in word.now) }
 {
     if word == b"now".as_slice() {
         Ok(ScriptRule::Now)
     } else if word == b"cred".as_slice() {
         Ok(ScriptRule::Cred)
     } else {
-        Err(ReadError::NotUnderstood)
+        Err(NotUnderstood)
     }
 }
 
 /// A call, in the next two words.
 #[tactic(auto, unfolding(crate::specs::Reading::call_at))]
-fn call_at(rest: &[u8]) -> Result<(CallId, &[u8]), ReadError>
-    ensures { Gives (λ x. (x.0, words_after x.1.now)) result (call_at (words_after rest.now)) }
+fn call_at(rest: &[u8]) -> Result<(CallId, &[u8]), NotUnderstood>
+    ensures { Reads (λ x. (x.0, words_after x.1.now)) result (call_at (words_after rest.now)) }
 {
     let (handle, rest) = u32_at(rest)?;
     let (number, rest) = number_at(u64::MAX, rest)?;
@@ -221,8 +241,8 @@ fn call_at(rest: &[u8]) -> Result<(CallId, &[u8]), ReadError>
 
 /// The credential that all of these words spell.
 #[tactic(auto, unfolding(crate::specs::Reading::credential_in, crate::specs::Reading::moment_at))]
-fn credential(version: ScriptVersion, rest: &[u8]) -> Result<ScriptCredential, ReadError>
-    ensures { Gives (λ c. c) result (credential_in version (words_after rest.now)) }
+fn credential(version: ScriptVersion, rest: &[u8]) -> Result<ScriptCredential, NotUnderstood>
+    ensures { Reads (λ c. c) result (credential_in version (words_after rest.now)) }
 {
     let (generation, rest) = number_at(u64::MAX, rest)?;
     let (word, rest) = word_at(rest)?;

@@ -1,18 +1,20 @@
 //! Texts that grow at their end.
 //!
-//! Out of memory ends a call: what stood in the text before then still stands in it, and a part
-//! of what was to be added may stand behind it.
-#![tactic(auto, using(crate::proofs::Texts::grows_then, crate::proofs::Texts::grows_by, crate::proofs::Texts::grows_not))]
+//! Out of memory comes only where the text has not the room for all that is to be added. Then what stood
+//! in the text still stands in it, and a prefix of what was to be added may stand behind it.
+#![tactic(auto, using(crate::proofs::Texts::grows_then, crate::proofs::Texts::grows_by, crate::proofs::Texts::grows_not, crate::proofs::ShortTexts::short_at_once, crate::proofs::ShortTexts::short_first, crate::proofs::ShortTexts::short_behind, crate::proofs::ShortTexts::on_short_first, crate::proofs::ShortTexts::on_short_behind))]
 
-ghost use Rattle.std.specs.Prelude.{◌≡◌, ◌++◌, ◌∷◌, OnOk, decimal};
+ghost use Rattle.std.specs.Prelude.{◌≡◌, ◌≤◌, ◌++◌, ◌∷◌, OnOk, OnErr, vec_capacity, decimal};
 ghost use Rattle.signctl_format.specs.Bytes.{space};
-ghost use Rattle.signctl_format.specs.Lines.{Grows};
+ghost use Rattle.signctl_format.specs.Lines.{Grows, RunsShort};
 
 use itoa::Buffer;
 use sign_base::NoMemory;
 
 pub fn push(text: &mut Vec<u8>, bytes: &[u8]) -> Result<(), NoMemory<()>>
     ensures ok { OnOk result (text.new.items ≡ text.old.items ++ bytes.now) }
+    ensures err { OnErr result (RunsShort (vec_capacity text.old) text.old.items text.new.items bytes.now) }
+    ensures capacity { vec_capacity text.old ≤ vec_capacity text.new }
     ensures grows { Grows text.old.items text.new.items }
 {
     match text.extend_from_slice(bytes) {
@@ -23,6 +25,8 @@ pub fn push(text: &mut Vec<u8>, bytes: &[u8]) -> Result<(), NoMemory<()>>
 
 pub fn push_word(text: &mut Vec<u8>, word: &[u8]) -> Result<(), NoMemory<()>>
     ensures ok { OnOk result (text.new.items ≡ text.old.items ++ space ∷ word.now) }
+    ensures err { OnErr result (RunsShort (vec_capacity text.old) text.old.items text.new.items (space ∷ word.now)) }
+    ensures capacity { vec_capacity text.old ≤ vec_capacity text.new }
     ensures grows { Grows text.old.items text.new.items }
 {
     push(text, b" ")?;
@@ -31,6 +35,8 @@ pub fn push_word(text: &mut Vec<u8>, word: &[u8]) -> Result<(), NoMemory<()>>
 
 pub fn push_number(text: &mut Vec<u8>, number: u64) -> Result<(), NoMemory<()>>
     ensures ok { OnOk result (text.new.items ≡ text.old.items ++ space ∷ decimal number) }
+    ensures err { OnErr result (RunsShort (vec_capacity text.old) text.old.items text.new.items (space ∷ decimal number)) }
+    ensures capacity { vec_capacity text.old ≤ vec_capacity text.new }
     ensures grows { Grows text.old.items text.new.items }
 {
     push_word(text, Buffer::new().format(number).as_bytes())

@@ -1,17 +1,17 @@
 //! The words of a line, from left to right.
 //!
 //! What stands behind a word is empty, or begins with the space before the next word.
-ghost use Rattle.std.specs.Prelude.{◌≡◌, ◌≤◌, ◌<◌, [], ◌∷◌, length, ℕ, ◌^◌, IfOk, IfErr, Ok, MatchOption, MatchResult, IfSome, decimal};
+ghost use Rattle.std.specs.Prelude.{◌≡◌, ◌≤◌, ◌<◌, [], ◌∷◌, length, ℕ, ◌^◌, ◌+◌, ◌*◌, ◌≢◌, IfOk, None, MatchOption, MatchResult, IfSome, decimal};
 ghost use Rattle.std.specs.List.{position, position_or_len};
-ghost use Rattle.signctl_format.specs.declared.read_error.ReadError.TheVariants.{NotUnderstood};
-ghost use Rattle.signctl_format.specs.Words.{is_silent, is_space, words, number_of, greatest_u32};
+ghost use Rattle.std.specs.Char.{digit_value};
+ghost use Rattle.std.specs.Str.Parse.{AllDigits, digits_value};
+ghost use Rattle.signctl_format.specs.Words.{is_silent, is_space, words, begins_a_number, number_of, greatest_u32};
 ghost use Rattle.signctl_format.specs.Steps.{first_word, at_end_of_line};
 ghost use Rattle.signctl_format.specs.Reading.{number_at};
-ghost use Rattle.signctl_format.specs.Readers.{words_after, Gives};
+ghost use Rattle.signctl_format.specs.Readers.{words_after, Reads};
 
-use crate::read_error::ReadError;
-use itoa::Buffer;
-use std::str;
+use crate::byte::is_digit;
+use crate::read_error::NotUnderstood;
 
 /// Whether a line says nothing: it is empty, or begins with `#`.
 pub fn is_silent(line: &[u8]) -> bool
@@ -60,47 +60,70 @@ pub fn next_word(rest: &[u8]) -> Option<(&[u8], &[u8])>
 }
 
 /// The next word, where there has to be one.
-pub fn word_at(rest: &[u8]) -> Result<(&[u8], &[u8]), ReadError>
+pub fn word_at(rest: &[u8]) -> Result<(&[u8], &[u8]), NotUnderstood>
     ensures { MatchResult result (λ w. words_after rest.now ≡ w.0.now ∷ words_after w.1.now)
-        (λ e. (e ≡ NotUnderstood) × (words_after rest.now ≡ [])) }
+        (λ e. words_after rest.now ≡ []) }
 {
     match next_word(rest) {
         Some(found) => Ok(found),
-        None => Err(ReadError::NotUnderstood),
+        None => Err(NotUnderstood),
     }
 }
 
 /// The number up to a limit that a word spells.
-pub fn number(limit: u64, word: &[u8]) -> Result<u64, ReadError>
-    ensures value { Gives (λ n. n) result (number_of limit word.now) }
+pub fn number(limit: u64, word: &[u8]) -> Result<u64, NotUnderstood>
+    ensures value { Reads (λ n. n) result (number_of limit word.now) }
     ensures fits { IfOk result (λ n. n ≤ limit) }
 {
-    let n = parse(word)?;
-    if n <= limit && Buffer::new().format(n).as_bytes() == word {
-        Ok(n)
-    } else {
-        Err(ReadError::NotUnderstood)
+    if !begins_a_number(word) {
+        return Err(NotUnderstood);
+    }
+    match digits(word) {
+        Some(n) if n <= limit => Ok(n),
+        _ => Err(NotUnderstood),
     }
 }
 
-/// The number of some digits, which may have a sign or zeros in front.
-fn parse(word: &[u8]) -> Result<u64, ReadError>
-    ensures decimal { (n : ℕ) → n < 2 ^ 64 → word.now ≡ decimal n → result ≡ Ok n }
-    ensures err { IfErr result (λ e. e ≡ NotUnderstood) }
+/// Whether a word has a byte, and no zero before another one.
+fn begins_a_number(word: &[u8]) -> bool
+    ensures { result ≡ begins_a_number word.now }
 {
-    match str::from_utf8(word) {
-        Ok(digits) => match digits.parse::<u64>() {
-            Ok(n) => Ok(n),
-            Err(_) => Err(ReadError::NotUnderstood),
-        },
-        Err(_) => Err(ReadError::NotUnderstood),
+    match word {
+        [] => false,
+        [_] => true,
+        [b, ..] => *b != b'0',
     }
+}
+
+/// The number of a word of digits, where it fits 64 bits. They may have zeros in front.
+fn digits(word: &[u8]) -> Option<u64>
+    ensures some { IfSome result (λ n. AllDigits 10 word.now × (digits_value 10 word.now ≡ n)) }
+    ensures none { result ≡ None → (m : ℕ) → m < 2 ^ 64 → word.now ≢ decimal m }
+{
+    let mut n: u64 = 0;
+    let mut rest = word;
+    while let [b, after @ ..] = rest {
+        n = with_digit(n, *b)?;
+        rest = after;
+    }
+    Some(n)
+}
+
+/// A number with one digit more, where it fits 64 bits.
+fn with_digit(n: u64, b: u8) -> Option<u64>
+    ensures some { IfSome result (λ m. (digit_value b < 10) × (n * 10 + digit_value b ≡ m)) }
+    ensures none { result ≡ None → digit_value b < 10 → 2 ^ 64 ≤ n * 10 + digit_value b }
+{
+    if !is_digit(b) {
+        return None;
+    }
+    n.checked_mul(10)?.checked_add(u64::from(b - b'0'))
 }
 
 /// The number in the next word.
 #[tactic(auto, unfolding(crate::specs::Reading::number_at))]
-pub fn number_at(limit: u64, rest: &[u8]) -> Result<(u64, &[u8]), ReadError>
-    ensures value { Gives (λ x. (x.0, words_after x.1.now)) result (number_at limit (words_after rest.now)) }
+pub fn number_at(limit: u64, rest: &[u8]) -> Result<(u64, &[u8]), NotUnderstood>
+    ensures value { Reads (λ x. (x.0, words_after x.1.now)) result (number_at limit (words_after rest.now)) }
     ensures fits { IfOk result (λ x. x.0 ≤ limit) }
 {
     let (word, rest) = word_at(rest)?;
@@ -108,19 +131,19 @@ pub fn number_at(limit: u64, rest: &[u8]) -> Result<(u64, &[u8]), ReadError>
 }
 
 /// The number in the next word, where it fits 32 bits.
-pub fn u32_at(rest: &[u8]) -> Result<(u32, &[u8]), ReadError>
-    ensures { Gives (λ x. (x.0, words_after x.1.now)) result (number_at greatest_u32 (words_after rest.now)) }
+pub fn u32_at(rest: &[u8]) -> Result<(u32, &[u8]), NotUnderstood>
+    ensures { Reads (λ x. (x.0, words_after x.1.now)) result (number_at greatest_u32 (words_after rest.now)) }
 {
     let (n, rest) = number_at(u64::from(u32::MAX), rest)?;
     Ok((n as u32, rest))
 }
 
 /// What was read, where no word is left.
-pub fn at_end_of_line<T: Drop>(read: T, rest: &[u8]) -> Result<T, ReadError>
-    ensures { Gives (λ x. x) result (at_end_of_line read (words_after rest.now)) }
+pub fn at_end_of_line<T: Drop>(read: T, rest: &[u8]) -> Result<T, NotUnderstood>
+    ensures { Reads (λ x. x) result (at_end_of_line read (words_after rest.now)) }
 {
     match next_word(rest) {
         None => Ok(read),
-        Some(_) => Err(ReadError::NotUnderstood),
+        Some(_) => Err(NotUnderstood),
     }
 }

@@ -1,12 +1,12 @@
 //! Reading a line of `hmac`: one function for each form, by the arguments of the call that it names.
 ghost use Rattle.std.specs.Prelude.{◌≡◌, IfOk};
-ghost use Rattle.signctl_format.specs.Readers.{words_after, Gives};
+ghost use Rattle.signctl_format.specs.Readers.{words_after, Reads, Gives};
 ghost use Rattle.signctl_lines.specs.HmacReading.{call_named, unkeyed_form, keyed_form, decode_form, hmac_item_of};
 
 use crate::bytes_word::{bytes, text};
 use crate::{HashCall, HmacItem, KeyedCall, UnkeyedCall};
 use sign_base::NoMemory;
-use signctl_format::read_error::ReadError;
+use signctl_format::read_error::{NotUnderstood, ReadError};
 use signctl_format::word::{at_end_of_line, is_silent, split_word, word_at};
 use std::alloc::Global;
 
@@ -40,8 +40,8 @@ fn item(alloc: Global, line: &[u8]) -> Result<HmacItem, ReadError>
 
 /// The call that a word names.
 #[tactic(auto, unfolding(crate::specs::HmacReading::call_named))]
-fn call(name: &[u8]) -> Result<HashCall, ReadError>
-    ensures { Gives (λ c. c) result (call_named name.now) }
+fn call(name: &[u8]) -> Result<HashCall, NotUnderstood>
+    ensures { Reads (λ c. c) result (call_named name.now) }
 {
     if name == b"base64_encode".as_slice() {
         Ok(HashCall::Unkeyed(UnkeyedCall::Base64Encode))
@@ -62,7 +62,7 @@ fn call(name: &[u8]) -> Result<HashCall, ReadError>
     } else if name == b"base64_hmac_sha256".as_slice() {
         Ok(HashCall::Keyed(KeyedCall::Base64HmacSha256))
     } else {
-        Err(ReadError::NotUnderstood)
+        Err(NotUnderstood)
     }
 }
 
@@ -72,7 +72,7 @@ fn unkeyed(alloc: Global, call: UnkeyedCall, rest: &[u8]) -> Result<HmacItem, Re
 {
     let (word, rest) = word_at(rest)?;
     let content = bytes(alloc, word)?;
-    at_end_of_line(HmacItem::Unkeyed { call, content }, rest)
+    Ok(at_end_of_line(HmacItem::Unkeyed { call, content }, rest)?)
 }
 
 #[tactic(auto, unfolding(crate::specs::HmacReading::keyed_form))]
@@ -83,7 +83,7 @@ fn keyed(alloc: Global, call: KeyedCall, rest: &[u8]) -> Result<HmacItem, ReadEr
     let key = bytes(alloc, word)?;
     let (word, rest) = word_at(rest)?;
     let content = bytes(alloc, word)?;
-    at_end_of_line(HmacItem::Keyed { call, key, content }, rest)
+    Ok(at_end_of_line(HmacItem::Keyed { call, key, content }, rest)?)
 }
 
 #[tactic(auto, unfolding(crate::specs::HmacReading::decode_form))]
@@ -92,5 +92,5 @@ fn decode(alloc: Global, rest: &[u8]) -> Result<HmacItem, ReadError>
 {
     let (word, rest) = word_at(rest)?;
     let content = text(alloc, word)?;
-    at_end_of_line(HmacItem::Base64Decode { content }, rest)
+    Ok(at_end_of_line(HmacItem::Base64Decode { content }, rest)?)
 }

@@ -4,9 +4,16 @@ ghost use Rattle.std.specs.Prelude.{[], ◌<◌};
 
 use super::*;
 use sign_base::{FaultySink, FaultySource};
+use sign_request::HeaderKeys;
 use signctl_driver::{LineCommand, Status, drive};
 use std::alloc::{AllocError, Global};
 use std::test::Fail;
+
+fn view() -> ViewCommand {
+    ViewCommand {
+        keys: HeaderKeys::default(),
+    }
+}
 
 /// The bytes that the sinks of these tests have room for.
 const ROOM: usize = 4096;
@@ -176,7 +183,7 @@ fn lines_of_view_are_answered(rt: HostRuntime) -> Result<(), Fail> {
     let alloc = rt.alloc();
     for piece in [1, 4_096] {
         for (line, answer) in &VIEW {
-            let (sink, status) = driven(alloc, ViewCommand, line, piece)?;
+            let (sink, status) = driven(alloc, view(), line, piece)?;
             assert_eq!(rt; sink.written(), answer.as_bytes(), "{line}");
             assert_eq!(rt; status, Status::Done, "{line}");
         }
@@ -189,7 +196,7 @@ fn other_lines_of_view_are_bad(rt: HostRuntime) -> Result<(), Fail> {
     let alloc = rt.alloc();
     for line in &NO_VIEW {
         let input = format!(in alloc; "GET / 1.1\n{line}\nGET / 1.1\n")?;
-        let (sink, status) = driven(alloc, ViewCommand, input.as_str(), 4_096)?;
+        let (sink, status) = driven(alloc, view(), input.as_str(), 4_096)?;
         let wanted = b"refused authority\nline 2: not understood\n".as_slice();
         assert_eq!(rt; sink.written(), wanted, "{line}");
         assert_eq!(rt; status, Status::Refused, "{line}");

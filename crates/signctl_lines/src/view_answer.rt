@@ -9,7 +9,7 @@ ghost use Rattle.signctl_lines.specs.ViewAnswers.{named_line, target_lines, pair
 
 use crate::ViewItem;
 use sign_base::{Head, NoMemory};
-use sign_request::{HeadView, ViewRefusal};
+use sign_request::{HeadView, HeaderKeys, ViewRefusal};
 use signctl_format::escape::{Escaping, push_escaped};
 use signctl_format::text::{push, push_number, push_word};
 use std::alloc::Global;
@@ -17,6 +17,7 @@ use std::alloc::Global;
 /// Adds the answer to an item.
 pub(crate) fn push_answer(
     alloc: Global,
+    keys: HeaderKeys,
     item: &ViewItem,
     text: &mut Vec<u8>,
 ) -> Result<(), NoMemory<()>>
@@ -24,7 +25,7 @@ pub(crate) fn push_answer(
 {
     match item {
         ViewItem::Silent => Ok(()),
-        ViewItem::Head(head) => match HeadView::build(alloc, head) {
+        ViewItem::Head(head) => match HeadView::build_keyed(alloc, head, keys) {
             Ok(view) => push_view(alloc, view, text),
             Err(ViewRefusal::Head) => push_line(text, b"refused head"),
             Err(ViewRefusal::Authority) => push_line(text, b"refused authority"),

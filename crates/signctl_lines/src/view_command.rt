@@ -4,13 +4,17 @@ ghost use Rattle.signctl_lines.specs.ViewAnswers.{view_command};
 use crate::view_answer::push_answer;
 use crate::{ViewItem, read_view_line};
 use sign_base::NoMemory;
+use sign_request::HeaderKeys;
 use signctl_driver::LineCommand;
 use signctl_format::LineError;
 use std::alloc::Global;
 
-/// The command `view`, which keeps nothing of the lines so far.
+/// The command `view`, which keeps nothing of the lines so far. The names of headers come from outside,
+/// so the maps that are made of them have these keys; no answer depends on them.
 #[derive(Clone, Copy, Debug)]
-pub struct ViewCommand;
+pub struct ViewCommand {
+    pub keys: HeaderKeys,
+}
 
 impl LineCommand for ViewCommand {
     type Item = ViewItem;
@@ -39,7 +43,7 @@ impl LineCommand for ViewCommand {
         item: ViewItem,
         text: &mut Vec<u8>,
     ) -> Result<(), NoMemory<()>> {
-        push_answer(alloc, &item, text)
+        push_answer(alloc, self.keys, &item, text)
     }
 
     fn push_cause(cause: LineError, text: &mut Vec<u8>) -> Result<(), NoMemory<()>> {

@@ -113,9 +113,9 @@ drop-line None calls held = cc
 drop-line (Some h) calls held = refl
 
 -- a lock of the same holder and the same waiters is a lock, whatever its room
-pub lock-same : (holder : Option CallId) (old new : List (CallId × ℕ)) (room more : ℕ) → new ≡ old
-    → IsLock (record { holder = holder; waiters = calls_of old; spare = room }) → IsLock (record { holder = holder; waiters = calls_of new; spare = more })
-lock-same holder old new room more same lock = record {
+pub lock-same : (holder : Option CallId) (old new : List (CallId × ℕ)) (room more slots larger : ℕ) → new ≡ old
+    → IsLock (record { holder = holder; waiters = calls_of old; spare = room; slots = slots }) → IsLock (record { holder = holder; waiters = calls_of new; spare = more; slots = larger })
+lock-same holder old new room more slots larger same lock = record {
   idle = λ none. ap calls_of same ∙ lock.idle none;
   once = subst (λ (l : List (CallId × ℕ)). IsOnce (in_line holder (calls_of l))) (sym same) lock.once;
 }

@@ -42,12 +42,12 @@ waiter-leaves call None waiters h = refl
 waiter-leaves call (Some holder) waiters h = rw h refl
 
 -- one more waiter
-pub lock-enters : (holder : CallId) (waiters : List CallId) (call : CallId) (spare : ℕ) → IsOnce (holder ∷ waiters) → is_among call (holder ∷ waiters) ≡ false → IsLock (record { holder = Some holder; waiters = waiters ++ call ∷ []; spare = spare })
-lock-enters holder waiters call spare o h = record { idle = λ e. (cc); once = once-more call (holder ∷ waiters) o h }
+pub lock-enters : (holder : CallId) (waiters : List CallId) (call : CallId) (spare slots : ℕ) → IsOnce (holder ∷ waiters) → is_among call (holder ∷ waiters) ≡ false → IsLock (record { holder = Some holder; waiters = waiters ++ call ∷ []; spare = spare; slots = slots })
+lock-enters holder waiters call spare slots o h = record { idle = λ e. (cc); once = once-more call (holder ∷ waiters) o h }
 
 -- a waiter leaves
-pub lock-left : (lock : Lock) (call : CallId) (spare : ℕ) → IsLock lock → is_held_by call lock ≡ false → IsLock (record { holder = lock.holder; waiters = filter (λ other. not (same_call other call)) lock.waiters; spare = spare })
-lock-left lock call spare l h = record {
+pub lock-left : (lock : Lock) (call : CallId) (spare slots : ℕ) → IsLock lock → is_held_by call lock ≡ false → IsLock (record { holder = lock.holder; waiters = filter (λ other. not (same_call other call)) lock.waiters; spare = spare; slots = slots })
+lock-left lock call spare slots l h = record {
   idle = λ e. ap (filter (λ other. not (same_call other call))) (l.idle e);
   once = subst IsOnce (sym (waiter-leaves call lock.holder lock.waiters h)) (once-filter (λ other. not (same_call other call)) (line lock) l.once);
 }

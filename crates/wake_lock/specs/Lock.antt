@@ -3,11 +3,12 @@ use Rattle.std.specs.Prelude.{◌≡◌, ℕ, Bool, false, List, [], ◌∷◌, 
 use Rattle.wake_lock.specs.declared.CallId.{CallId}
 use Rattle.wake_lock.specs.Calls.{same_call, is_among, IsOnce}
 
--- the call that holds, the calls that wait, and the calls for which there is room
+-- the call that holds, the calls that wait, the calls for which there is room, and the slots in which calls wait or can wait
 pub record Lock : Type 0 where
   pub holder : Option CallId
   pub waiters : List CallId
   pub spare : ℕ
+  pub slots : ℕ
 
 -- a holder and those behind it
 abbrev pub in_line : Option CallId → List CallId → List CallId

@@ -1,5 +1,5 @@
 -- What the calls of the lock do, whether their steps are counted or not.
-use Rattle.std.specs.Prelude.{◌≡◌, ◌+◌, ◌≤◌, ◌++◌, ◌∷◌, [], Some, Option, not, filter, drop, is_some, if◌then◌else◌}
+use Rattle.std.specs.Prelude.{◌≡◌, ◌+◌, ◌-◌, ◌≤◌, ◌++◌, ◌∷◌, [], Some, Option, not, filter, drop, is_some, if◌then◌else◌}
 use Rattle.wake_lock.specs.declared.CallId.{CallId}
 use Rattle.wake_lock.specs.declared.lock.Entered.{Entered}
 use Rattle.wake_lock.specs.declared.lock.Entered.TheVariants.{Granted, Queued}
@@ -15,6 +15,8 @@ pub record Enters (id : CallId) (old : Lock) (found : Entered) (new : Lock) : Ty
   pub waiters : new.waiters ≡ (if is_some old.holder then old.waiters ++ id ∷ [] else [])
   pub line_is : line new ≡ line old ++ id ∷ []
   pub spare : old.spare ≤ new.spare + 1
+  pub spare_left : new.spare ≡ (if is_some old.holder then old.spare - 1 else old.spare)
+  pub slots : new.slots ≡ old.slots
 
 -- the lock passes from its holder to the first waiter, who is named
 pub record Releases (old : Lock) (next : Option CallId) (new : Lock) : Type 0 where
@@ -23,6 +25,8 @@ pub record Releases (old : Lock) (next : Option CallId) (new : Lock) : Type 0 wh
   pub waiters : new.waiters ≡ drop 1 old.waiters
   pub line_is : line new ≡ drop 1 (line old)
   pub spare : old.spare ≤ new.spare
+  pub spare_left : new.spare ≡ old.spare
+  pub slots : new.slots ≡ old.slots
 
 -- a call is taken out of the lock, whatever it is there
 pub record Cancels (id : CallId) (old : Lock) (left : Left) (new : Lock) : Type 0 where
@@ -33,3 +37,5 @@ pub record Cancels (id : CallId) (old : Lock) (left : Left) (new : Lock) : Type 
   pub absent : left ≡ Absent → new ≡ old
   pub lock : IsLock old
   pub spare : old.spare ≤ new.spare
+  pub spare_left : new.spare ≡ old.spare
+  pub slots : new.slots ≡ old.slots

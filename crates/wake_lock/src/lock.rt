@@ -7,7 +7,7 @@
 //! The waiters stand in linked slots, and an index names the slot of each, so a call leaves from
 //! anywhere without a walk along the others. Each call also has a form that counts its steps: one
 //! for each read and each write of a slot. Finding a call in the index is not counted.
-ghost use Rattle.std.specs.Prelude.{◌≡◌, ◌+◌, ◌<◌, ◌≤◌, ◌++◌, ◌∷◌, [], None, Some, Option, true, false, not, filter, drop, is_some, IsSome, IsTrue, OnOk, OnErr, if◌then◌else◌};
+ghost use Rattle.std.specs.Prelude.{◌≡◌, ◌+◌, ◌-◌, ◌<◌, ◌≤◌, ◌++◌, ◌∷◌, [], None, Some, Option, true, false, not, filter, drop, is_some, length, max, IsSome, IsOk, IsTrue, OnOk, OnErr, if◌then◌else◌};
 ghost use Rattle.wake_lock.specs.Calls.{same_call, first_of, is_among};
 ghost use Rattle.wake_lock.specs.Lock.{line, is_held_by, is_in_line, IsLock};
 ghost use Rattle.wake_lock.specs.LockCalls.{Enters, Releases, Cancels};
@@ -65,7 +65,7 @@ impl Model for WaitLock {
 impl WaitLock {
     /// A lock that nobody holds. It takes no memory.
     pub fn new(alloc: Global) -> WaitLock
-        ensures { result ≡ record { holder = None; waiters = []; spare = 0 } }
+        ensures { result ≡ record { holder = None; waiters = []; spare = 0; slots = 0 } }
     {
         WaitLock {
             holder: None,
@@ -75,14 +75,19 @@ impl WaitLock {
         }
     }
 
-    /// Makes room for this many calls to enter. Holder and waiters stay. Memory is refused only where
-    /// there is not so much room yet, and then nothing has changed, the room neither. It never shrinks here.
+    /// Makes room for this many calls to enter, where there is not so much yet, and no more slots than
+    /// they take. Holder and waiters stay. Memory is refused only where there is not so much room yet,
+    /// and then nothing has changed, the room neither. It never shrinks here.
     /// Room for more calls than slots can be numbered is refused too.
     pub fn reserve(&mut self, n: usize) -> Result<(), NoMemory<()>>
         ensures room { OnOk result (n ≤ self.new.spare) }
         ensures refused { OnErr result (self.old.spare < n) }
         ensures unchanged { OnErr result (self.new ≡ self.old) }
+        ensures there { n ≤ self.old.spare → IsOk result }
         ensures spare { self.old.spare ≤ self.new.spare }
+        ensures spare_made { OnOk result (self.new.spare ≡ max self.old.spare n) }
+        ensures slots { OnOk result
+            (self.new.slots ≡ max self.old.slots (length self.old.waiters + n)) }
         ensures holder { self.new.holder ≡ self.old.holder }
         ensures waiters { self.new.waiters ≡ self.old.waiters }
     {
@@ -93,7 +98,7 @@ impl WaitLock {
             return Err(NoMemory { back: () });
         }
         self.index.reserve(n)?;
-        uncounted::reserve::<Brand>(&mut self.waiters, n, Blank::new(1))?;
+        self.waiters.reserve(n)?;
         self.room = n;
         Ok(())
     }
@@ -107,6 +112,8 @@ impl WaitLock {
         ensures waiters { self.new.waiters ≡ (if is_some self.old.holder then self.old.waiters ++ id ∷ [] else []) }
         ensures line { line self.new ≡ line self.old ++ id ∷ [] }
         ensures spare { self.old.spare ≤ self.new.spare + 1 }
+        ensures spare_left { self.new.spare ≡ (if is_some self.old.holder then self.old.spare - 1 else self.old.spare) }
+        ensures slots { self.new.slots ≡ self.old.slots }
     {
         uncounted::enter::<Brand>(self, id, Blank::new(1))
     }
@@ -142,6 +149,8 @@ impl WaitLock {
         ensures waiters { self.new.waiters ≡ drop 1 self.old.waiters }
         ensures line { line self.new ≡ drop 1 (line self.old) }
         ensures spare { self.old.spare ≤ self.new.spare }
+        ensures spare_left { self.new.spare ≡ self.old.spare }
+        ensures slots { self.new.slots ≡ self.old.slots }
     {
         uncounted::release::<Brand>(self, Blank::new(1))
     }
@@ -171,6 +180,8 @@ impl WaitLock {
         ensures absent { result ≡ Left.Absent → self.new ≡ self.old }
         ensures lock { IsLock self.old }
         ensures spare { self.old.spare ≤ self.new.spare }
+        ensures spare_left { self.new.spare ≡ self.old.spare }
+        ensures slots { self.new.slots ≡ self.old.slots }
     {
         uncounted::cancel::<Brand>(self, id, Blank::new(1))
     }

@@ -1,7 +1,7 @@
 //! Slots in which waiters stand, each with a link to the slot before it and to the slot after it.
-//! `read` and `write` are the only ways to a slot, and each of them counts one step.
+//! `read` and `write` are the only ways to a slot that is there, and each of them counts one step.
 ghost use Rattle.std.specs.Prelude.{◌≡◌, ◌+◌, ◌<◌, ◌++◌, ◌∷◌, [], IfOk, OnOk, OnErr, length, slice_set};
-ghost use Rattle.wake_lock.specs.Slots.{slot_at, blank_slot};
+ghost use Rattle.wake_lock.specs.Slots.{slot_at, blank_slot, chained_slots, chain_start};
 
 use crate::CallId;
 use crate::steps::Steps;
@@ -83,6 +83,31 @@ impl Slots {
         self.kept.reserve(1)?;
         self.kept.push_reserved(blank_slot());
         Ok(place)
+    }
+
+    /// So many more slots, at the end, linked to one another and to the slot given; the place where
+    /// the links start. After a failed allocation nothing has changed.
+    pub(crate) fn grow_linked(
+        &mut self,
+        n: u32,
+        after: Option<u32>,
+    ) -> Result<Option<u32>, NoMemory<()>>
+        requires { length self.old + n < 4294967296 }
+        ensures start { IfOk result (λ start. start ≡ chain_start (length self.old) n after) }
+        ensures slots { OnOk result (self.new ≡ self.old ++ chained_slots (length self.old) n after) }
+        ensures refused { OnErr result (self.new ≡ self.old) }
+    {
+        self.kept.reserve(n as usize)?;
+        let first = self.len();
+        let mut start = after;
+        for place in first..first + n {
+            self.kept.push_reserved(Slot {
+                after: start,
+                ..blank_slot()
+            });
+            start = Some(place);
+        }
+        Ok(start)
     }
 }
 

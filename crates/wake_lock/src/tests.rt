@@ -151,7 +151,7 @@ fn places<L: Ledger>(alloc: Global, blank: Blank) -> Option<(u32, u32)>
 {
     let mut steps = Steps::<L>::new(blank);
     let mut waiters = WaitList::new(alloc);
-    waiters.reserve(1, &mut steps).ok()?;
+    waiters.reserve(1).ok()?;
     let first = waiters.push(call(1), &mut steps);
     let _left = waiters.take(first, &mut steps);
     Some((first, waiters.push(call(2), &mut steps)))

@@ -1,5 +1,5 @@
 //! The calls of the lock for those who count no steps: each opens a count of its own.
-ghost use Rattle.std.specs.Prelude.{◌≡◌, ◌<◌, ◌≤◌, false, IsSome, OnOk};
+ghost use Rattle.std.specs.Prelude.{◌≡◌, ◌<◌, false, IsSome};
 ghost use Rattle.wake_lock.specs.Calls.{first_of};
 ghost use Rattle.wake_lock.specs.Lock.{is_in_line};
 ghost use Rattle.wake_lock.specs.LockCalls.{Enters, Releases, Cancels};
@@ -9,25 +9,7 @@ use crate::CallId;
 use crate::lock::{Entered, Left, WaitLock};
 use crate::steps::Steps;
 use crate::wait_list::WaitList;
-use sign_base::NoMemory;
 use std::sync::ledger::{Blank, Ledger};
-
-/// `WaitList::reserve`.
-pub(crate) fn reserve<L: Ledger>(
-    waiters: &mut WaitList,
-    n: usize,
-    blank: Blank,
-) -> Result<(), NoMemory<()>>
-    requires name { blank.name ≡ L.name }
-    requires parts { blank.parts ≡ L.parts }
-    requires share { 0 < blank.parts }
-    ensures waiters { waiters.new.waiters ≡ waiters.old.waiters }
-    ensures vacant { waiters.old.vacant ≤ waiters.new.vacant }
-    ensures room { OnOk result (n ≤ waiters.new.vacant) }
-{
-    let mut steps = Steps::<L>::new(blank);
-    waiters.reserve(n, &mut steps)
-}
 
 /// `WaitList::first_call`.
 pub(crate) fn first<L: Ledger>(waiters: &WaitList, blank: Blank) -> Option<CallId>

@@ -1,7 +1,7 @@
 //! The calls that wait, in the order in which they came. Each stands in a slot that names its two
 //! neighbours, so it leaves the middle without a walk along the others. The slots in which nobody
 //! waits are linked too, and are used again before a new one is made.
-ghost use Rattle.std.specs.Prelude.{◌≡◌, ◌+◌, ◌<◌, ◌≤◌, ◌++◌, ◌∷◌, [], Option, OnOk, OnErr, length};
+ghost use Rattle.std.specs.Prelude.{◌≡◌, ◌+◌, ◌<◌, ◌≤◌, ◌++◌, ◌∷◌, [], Option, OnOk, OnErr, length, max};
 ghost use Rattle.std.specs.Option.{ForSome};
 ghost use Rattle.wake_lock.specs.Calls.{first_of};
 ghost use Rattle.wake_lock.specs.Links.{times, with_after, with_before, end_with};
@@ -51,13 +51,6 @@ impl WaitList {
         }
     }
 
-    /// The number of vacant slots.
-    pub fn vacant(&self) -> usize
-        ensures { result ≡ self.now.vacant }
-    {
-        self.vacant
-    }
-
     /// The place of the first waiter.
     pub fn first(&self) -> Option<u32>
         ensures { result ≡ first_place self.now.waiters }
@@ -76,34 +69,19 @@ impl WaitList {
         }
     }
 
-    /// One more vacant slot. It fails where an allocation failed, or where there are as many slots as a
-    /// place can number; then nothing has changed.
-    pub fn grow<L: Ledger>(&mut self, steps: &mut Steps<L>) -> Result<(), NoMemory<()>>
+    /// Makes slots until so many are vacant, and no more. It fails where an allocation failed, or where
+    /// there were more slots than a place can number; then nothing has changed.
+    pub fn reserve(&mut self, n: usize) -> Result<(), NoMemory<()>>
         ensures waiters { self.new.waiters ≡ self.old.waiters }
-        ensures vacant { OnOk result (self.new.vacant ≡ self.old.vacant + 1) }
+        ensures vacant { OnOk result (self.new.vacant ≡ max self.old.vacant n) }
         ensures refused { OnErr result (self.new ≡ self.old) }
     {
-        if self.slots.len() == u32::MAX {
+        let missing = n.saturating_sub(self.vacant);
+        if missing > (u32::MAX - self.slots.len()) as usize {
             return Err(NoMemory { back: () });
         }
-        let place = self.slots.grow()?;
-        let slot = self.slots.read(place, steps);
-        let after = self.free;
-        self.slots.write(place, Slot { after, ..slot }, steps);
-        self.free = Some(place);
-        self.vacant += 1;
-        Ok(())
-    }
-
-    /// Makes slots until so many are vacant. Where it fails, there may be more of them than before.
-    pub fn reserve<L: Ledger>(&mut self, n: usize, steps: &mut Steps<L>) -> Result<(), NoMemory<()>>
-        ensures waiters { self.new.waiters ≡ self.old.waiters }
-        ensures vacant { self.old.vacant ≤ self.new.vacant }
-        ensures room { OnOk result (n ≤ self.new.vacant) }
-    {
-        while self.vacant() < n {
-            self.grow(steps)?;
-        }
+        self.free = self.slots.grow_linked(missing as u32, self.free)?;
+        self.vacant += missing;
         Ok(())
     }
 

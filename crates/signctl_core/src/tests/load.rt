@@ -38,43 +38,6 @@ fn replies_are_counted(rt: HostRuntime) -> Result<(), Fail> {
     Ok(())
 }
 
-/// Numbers have one spelling, and there is exactly one.
-#[test]
-fn other_numbers_are_no_load(rt: HostRuntime) -> Result<(), Fail> {
-    for number in [
-        "01",
-        "100001",
-        "+1",
-        "-1",
-        "",
-        " 1",
-        "1 ",
-        "x",
-        "18446744073709551616",
-    ] {
-        let mut source = MemorySource::new(Vec::new(rt.alloc()));
-        let mut sink = MemorySink::new(rt.alloc(), ROOM).map_err(|_| AllocError)?;
-        let status = run_words(rt.alloc(), &["load", number], &mut source, &mut sink)?;
-        assert_eq!(rt; status, Status::Usage, "{number}");
-        assert_eq!(rt; sink.written(), b"".as_slice(), "{number}");
-    }
-    Ok(())
-}
-
-#[test]
-fn other_words_are_no_load(rt: HostRuntime) -> Result<(), Fail> {
-    let mut source = MemorySource::new(Vec::new(rt.alloc()));
-    let mut sink = MemorySink::new(rt.alloc(), ROOM).map_err(|_| AllocError)?;
-    let too_few = run_words(rt.alloc(), &["load"], &mut source, &mut sink)?;
-    assert_eq!(rt; too_few, Status::Usage);
-    let too_many = run_words(rt.alloc(), &["load", "1", "2"], &mut source, &mut sink)?;
-    assert_eq!(rt; too_many, Status::Usage);
-    let another = run_words(rt.alloc(), &["loads", "1"], &mut source, &mut sink)?;
-    assert_eq!(rt; another, Status::Usage);
-    assert_eq!(rt; sink.written(), b"".as_slice());
-    Ok(())
-}
-
 /// A source whose first read fails is not asked, and a sink that takes one byte at a time holds all bytes
 /// before the write that failed.
 #[test]

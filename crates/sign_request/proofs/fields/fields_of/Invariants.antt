@@ -6,4 +6,4 @@ use Rattle.sign_request.proofs.fields.fields_of.Given as goal
 
 -- the fields so far and the headers to come are all headers
 abbrev pub invariant-loop-name : goal.invariant-loop-name
-invariant-loop-name l = map field_pair l.fields ++ map header_pair l.name-iterator ≡ map header_pair (pairs l.headers)
+invariant-loop-name l = map field_pair l.fields.items ++ map header_pair l.name-iterator ≡ map header_pair (pairs l.headers)

@@ -7,7 +7,7 @@ use Rattle.sign_request.proofs.fields.headers_of.Goals as goal
 
 pub returns-in_err-append_field-clause-err : goal.returns-in_err-append_field-clause-err
 returns-in_err-append_field-clause-err c =
-    passed_on c.from_residual.result _ c.from_residual.ensures.1
+    passed_on c.from_residual-in_err-append_field.result _ c.from_residual-in_err-append_field.ensures.1
     (λ cause.
     subst (λ (fields : List Field). RefusesFields fields) c.as_slice-field-items.ensures
     (refused-next c.as_slice-field-items.result.now c.loop-field.field-index c.field-item.result c.loop-field-test.true c.field-item.is

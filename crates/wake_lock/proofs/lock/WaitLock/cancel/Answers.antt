@@ -20,3 +20,9 @@ returns-clause-lock c = c.cancel.ensures.lock
 
 pub returns-clause-spare : goal.returns-clause-spare
 returns-clause-spare c = c.cancel.ensures.spare
+
+pub returns-clause-spare_left : goal.returns-clause-spare_left
+returns-clause-spare_left c = c.cancel.ensures.spare_left
+
+pub returns-clause-slots : goal.returns-clause-slots
+returns-clause-slots c = c.cancel.ensures.slots

@@ -1,4 +1,4 @@
-use Rattle.std.proofs.Common.{◌≡◌, ℕ, ◌<◌, true, false, not, cond, List, ◌∷◌, ◌++◌, Option, Some, None, filter, refl, ap, sym, subst, ◌∙◌, arith}
+use Rattle.std.proofs.Common.{◌≡◌, ℕ, ◌+◌, ◌<◌, length, length-append, true, false, not, cond, List, ◌∷◌, ◌++◌, Option, Some, None, filter, refl, ap, sym, subst, ◌∙◌, arith}
 use Rattle.std.specs.Map.{lookup}
 use Rattle.wake_lock.specs.declared.CallId.{CallId}
 use Rattle.wake_lock.specs.Calls.{same_call, is_among, IsOnce}
@@ -13,6 +13,7 @@ use Rattle.wake_lock.proofs.lock.WaitLock.cancel_counted.Goals as goal
 -- a waiter with a place, and those who wait on once it left
 record Leaves (call : CallId) (place : ℕ) (old new : List (CallId × ℕ)) : Type 0 where
   calls : calls_of new ≡ filter (λ other. not (same_call other call)) (calls_of old)
+  count : length old ≡ length new + 1
   places : (q : CallId) → lookup (same_call q) new ≡ cond (same_call call q) None (lookup (same_call q) old)
 
 leaves : (call : CallId) (place : ℕ) (old new : List (CallId × ℕ)) (next : CallId) → IsOnce (calls_of old) → lookup (same_call call) old ≡ Some place → TakesOut old place next new → Leaves call place old new
@@ -22,6 +23,7 @@ leaves call place old new next once is out =
     let once' : IsOnce (calls_of (split.0 ++ (call, place) ∷ split.1)) = subst (λ (l : List (CallId × ℕ)). IsOnce (calls_of l)) split.2 once in
     record {
       calls = ap calls_of left ∙ calls-left call place split.0 split.1 once' ∙ ap (λ (l : List (CallId × ℕ)). filter (λ other. not (same_call other call)) (calls_of l)) (sym split.2);
+      count = omega (arith, ap length split.2, ap length left, length-append split.0 ((call, place) ∷ split.1), length-append split.0 split.1);
       places = λ q. ap (λ (l : List (CallId × ℕ)). lookup (same_call q) l) left ∙ place-left q call place split.0 split.1 once'
           ∙ ap (λ (l : List (CallId × ℕ)). cond (same_call call q) None (lookup (same_call q) l)) (sym split.2);
     }
@@ -44,8 +46,8 @@ invariant_of-self-in-Some g c =
     let l : Leaves id c.in-Some.place old new =
     leaves id c.in-Some.place old new c.take-id.result (once-waiters c.self.inside.holder (calls_of old) c.self.invariant.is_lock.once) is c.take-id.ensures.waiters in
     record {
-      is_lock = subst (λ (w : List CallId). IsLock (record { holder = c.self.inside.holder; waiters = w; spare = c.self.inside.room })) (sym l.calls)
-          (lock-left (record { holder = c.self.inside.holder; waiters = calls_of old; spare = c.self.inside.room }) id c.self.inside.room c.self.invariant.is_lock here);
+      is_lock = subst (λ (w : List CallId). IsLock (record { holder = c.self.inside.holder; waiters = w; spare = c.self.inside.room; slots = length new + c.take-id.new.self.vacant })) (sym l.calls)
+          (lock-left (record { holder = c.self.inside.holder; waiters = calls_of old; spare = c.self.inside.room; slots = length old + c.self.inside.waiters.vacant }) id c.self.inside.room (length new + c.take-id.new.self.vacant) c.self.invariant.is_lock here);
       indexed = λ q. c.remove.ensures.updates.0 q ∙ ap (λ (o : Option ℕ). cond (same_call id q) None o) (c.self.invariant.indexed q) ∙ sym (l.places q);
       slots = omega arith;
       entries = omega arith;
@@ -71,6 +73,8 @@ returns-then-is_held_by-clause-does g c =
       absent = λ e. absurd (cc);
       lock = c.is_held_by.ensures.lock;
       spare = released.spare;
+      spare_left = released.spare_left;
+      slots = released.slots;
     }
 
 pub returns-in-None-clause-does : goal.returns-in-None-clause-does
@@ -88,6 +92,8 @@ returns-in-None-clause-does g c =
       absent = λ e. c.self.view_is;
       lock = c.is_held_by.ensures.lock;
       spare = grind (arith, c.self.view_is);
+      spare_left = ap (λ (l : Lock). l.spare) c.self.view_is;
+      slots = ap (λ (l : Lock). l.slots) c.self.view_is;
     }
 
 pub returns-in-Some-clause-does : goal.returns-in-Some-clause-does
@@ -110,4 +116,6 @@ returns-in-Some-clause-does g c =
       absent = λ e. absurd (cc);
       lock = c.is_held_by.ensures.lock;
       spare = grind (arith, c.self.view_is);
+      spare_left = ap (λ (k : Lock). k.spare) c.self.view_is;
+      slots = omega (arith, l.count, ap (λ (k : Lock). k.slots) c.self.view_is);
     }

@@ -14,3 +14,9 @@ returns-clause-line c = c.enter.ensures.line_is
 
 pub returns-clause-spare : goal.returns-clause-spare
 returns-clause-spare c = c.enter.ensures.spare
+
+pub returns-clause-spare_left : goal.returns-clause-spare_left
+returns-clause-spare_left c = c.enter.ensures.spare_left
+
+pub returns-clause-slots : goal.returns-clause-slots
+returns-clause-slots c = c.enter.ensures.slots

@@ -1,4 +1,4 @@
-use Rattle.std.proofs.Common.{◌≡◌, ℕ, cond, List, [], ◌∷◌, Option, Some, None, drop, ap, sym, subst, ◌∙◌, arith}
+use Rattle.std.proofs.Common.{◌≡◌, ℕ, length, cond, List, [], ◌∷◌, Option, Some, None, drop, ap, sym, subst, ◌∙◌, arith}
 use Rattle.std.specs.Map.{lookup}
 use Rattle.wake_lock.specs.declared.CallId.{CallId}
 use Rattle.wake_lock.specs.Calls.{same_call, first_of, IsOnce}
@@ -46,4 +46,6 @@ returns-clause-does g c =
       waiters = sym (sym (ap (λ (l : Lock). drop 1 l.waiters) c.self.view_is) ∙ ap (λ (l : List (CallId × ℕ)). drop 1 (calls_of l)) first.was);
       line_is = sym (drop-line c.args.self.now.holder c.args.self.now.waiters c.requires ∙ sym (ap (λ (l : Lock). l.waiters) c.self.view_is) ∙ ap calls_of first.was);
       spare = grind arith;
+      spare_left = ap (λ (l : Lock). l.spare) c.self.view_is;
+      slots = omega (arith, ap length first.was, ap (λ (l : Lock). l.slots) c.self.view_is);
     }

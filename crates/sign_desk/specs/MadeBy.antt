@@ -1,0 +1,34 @@
+-- The states of calls that a signer made.
+use Rattle.std.specs.Prelude.{ℕ, IsSomeAnd}
+use Rattle.sign_desk.specs.DeskState.{DeskState}
+use Rattle.sign_desk.specs.CallAt.{IsWaiting, IsAsking, IsSigning}
+use Rattle.sign_desk.specs.ObjectAnswer.{IsLoadKept, IsWorkKept}
+use Rattle.sign_desk.specs.SignerInvariant.{SignerState}
+use Rattle.sign_desk.specs.SignerObjects.{Meanings, CallMeaning, call_meaning, objects_of}
+use Rattle.sign_desk.specs.declared.sign.BegunCall.{BegunCall}
+use Rattle.sign_desk.specs.declared.sign.LoadState.{LoadState}
+use Rattle.sign_desk.specs.declared.sign.WorkState.{WorkState}
+use Rattle.sign_desk.specs.declared.sign.SignState.{SignState}
+use Rattle.sign_desk.specs.declared.sign.SignState.TheVariants.{Waiting, Loading, Signing}
+use Rattle.sign_desk.specs.declared.sign.Sign.{Sign}
+
+module _ {K L W : Type 0} (m : CallMeaning K L W) where
+  -- the load was started by the provider last asked, and an answer that is kept is one that it gives
+  abbrev pub IsLoadMade : ℕ → LoadState K L → Type 0
+  IsLoadMade provider l = IsLoadKept (m.load_started provider) (m.load_gives provider) l
+
+  -- the work was started with the credential, the candidate is one for the begun head, and an answer that is kept is one that
+  -- the service gives
+  abbrev pub IsWorkMade : BegunCall → K → WorkState W → Type 0
+  IsWorkMade begun credential w = IsWorkKept (m.work_started credential) (m.work_gives credential) begun.head w
+
+  -- the desk has the call's record with the same state, and load or work were made for the call
+  abbrev pub IsStateMade : {D : Type 0} → BegunCall → DeskState K D → SignState K L W → Type 0
+  IsStateMade begun desk Waiting = IsWaiting begun desk
+  IsStateMade begun desk (Loading provider l) = IsAsking begun provider desk × IsLoadMade provider l
+  IsStateMade begun desk (Signing credential w) = IsSigning begun desk × IsWorkMade begun credential w
+
+-- this signer made this state
+abbrev pub IsMadeBy : {P S K C L W : Type 0} → Meanings P S K C L W → SignerState P S K C → Sign P S K C L C W K → Type 0
+IsMadeBy m signer sign =
+    IsSomeAnd (objects_of signer sign.begun.id.handle) (λ o. IsStateMade (call_meaning m sign.begun o) sign.begun signer.desk sign.state)

@@ -1,0 +1,64 @@
+//! What a signer keeps of a call between its polls. Its caller holds it, and hands it in at each poll.
+
+use credentials::{ProvideCredential, SignRequest};
+use sign_base::Head;
+use std::fmt;
+use std::time::Duration;
+use wake_lock::CallId;
+
+/// What a call was begun with.
+#[derive(Drop)]
+pub(crate) struct BegunCall {
+    pub(crate) id: CallId,
+    pub(crate) head: Head,
+    pub(crate) expires_in: Option<Duration>,
+}
+
+/// The load of the provider that was asked last.
+#[derive(Drop)]
+pub(crate) enum LoadState<K, L> {
+    /// There was no memory yet to start it.
+    Unstarted,
+    Started(L),
+    /// What it found, which the desk had no memory to take.
+    Found(K),
+}
+
+/// The work of the service.
+#[derive(Drop)]
+pub(crate) enum WorkState<W> {
+    /// There was no memory yet to start it.
+    Unstarted,
+    /// The work, and the candidate: the copy of the head on which it works.
+    Started(W, Head),
+    /// The signed candidate, for which there was no memory.
+    Signed(Head),
+}
+
+/// How far a call is.
+#[derive(Drop)]
+pub(crate) enum SignState<K, L, W> {
+    /// It waits for its turn.
+    Waiting,
+    /// The provider with this number was asked.
+    Loading(u32, LoadState<K, L>),
+    /// The service signs with this credential.
+    Signing(K, WorkState<W>),
+}
+
+/// A call that was begun and is not over. It ends by the last answer of its polls, or by
+/// `Signer::cancel`; where it is dropped before, the calls behind it wait for ever.
+#[derive(Drop)]
+pub struct Sign<P: ProvideCredential, S: SignRequest> {
+    pub(crate) begun: BegunCall,
+    pub(crate) state: SignState<P::Credential, P::Load, S::Work>,
+}
+
+/// Shows which call it is, and neither its head nor a credential.
+impl<P: ProvideCredential, S: SignRequest> fmt::Debug for Sign<P, S> {
+    fn fmt<W: fmt::Write>(&self, f: &mut fmt::Formatter<W>) -> fmt::Result {
+        let mut parts = f.debug_struct("Sign");
+        parts.field("call", &self.begun.id);
+        parts.finish()
+    }
+}

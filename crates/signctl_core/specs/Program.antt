@@ -1,0 +1,119 @@
+-- The program: what its words ask for, what it writes where, and its exit status.
+use Rattle.std.specs.Prelude.{◌≡◌, ◌⊎◌, ℕ, List, [], ◌∷◌, ◌++◌, Option, Some, None, if◌then◌else◌, codes, drop, Bool, false, option_map}
+use Rattle.std.specs.Str.{bytes_eq}
+use Rattle.std.specs.Io.{StartsWith}
+use Rattle.std.specs.Io.KnownBytes.{Appends}
+use Rattle.sign_base.specs.Faults.{IsOneFault}
+use Rattle.signctl_driver.specs.Output.{AppendsPrefix}
+use Rattle.signctl_driver.specs.Status.{exit_status}
+use Rattle.signctl_driver.specs.declared.status.Status.{Status}
+use Rattle.signctl_driver.specs.declared.status.Status.TheVariants.{Done, Usage, Refused, ReadFault, WriteFault, OutOfMemory}
+use Rattle.signctl_core.specs.Commands.{Bytes, Runs, command_named, reads_source}
+use Rattle.signctl_core.specs.declared.commands.CommandName.{CommandName}
+
+-- ---- texts
+
+-- the usage line
+abbrev pub usage_line : List ℕ
+usage_line = codes "usage: signctl script|view|hmac|grant|load N|pool W J\n"
+
+-- the text of `--help`
+abbrev pub help_text : List ℕ
+help_text =
+    usage_line
+    ++ codes "\n"
+    ++ codes "These commands work. The first three read lines from standard input and answer them on standard\n"
+    ++ codes "output; the last reads nothing.\n"
+    ++ codes "\n"
+    ++ codes "  script    runs the request signer: events in, its replies out\n"
+    ++ codes "  hmac      digests, HMAC and Base64: a call and its arguments in, the text out\n"
+    ++ codes "  view      request heads in, what a signing service sees of each out\n"
+    ++ codes "  load N    runs N made-up calls on the signer, and counts its replies\n"
+    ++ codes "\n"
+    ++ codes "  --help, --version    print this text, the version\n"
+    ++ codes "\n"
+    ++ codes "exit status: 0 done, 2 no such command, 3 a line was refused, 4 a read failed,\n"
+    ++ codes "5 a write failed, 6 out of memory. The lines are described in docs/FORMATS.md.\n"
+
+-- the text of `--version`
+abbrev pub version_text : List ℕ
+version_text = codes "signctl 0.2.0\n"
+
+-- what stands on standard error for the way in which a run ended: the line that says what the output can't
+abbrev pub reason_line : Status → List ℕ
+reason_line Done = []
+reason_line Refused = []
+reason_line Usage = usage_line
+reason_line ReadFault = codes "signctl: a read failed\n"
+reason_line WriteFault = codes "signctl: a write failed\n"
+reason_line OutOfMemory = codes "signctl: out of memory\n"
+
+-- ---- what is asked for
+
+-- a text about the program, or a run of a command
+pub data Request : Type 0 where
+  Show : List ℕ → Request
+  Run : CommandName → Request
+
+-- the text that this word asks for
+abbrev pub text_by_word : List ℕ → Option (List ℕ)
+text_by_word word =
+    if bytes_eq word (codes "--help") then Some help_text
+    else (if bytes_eq word (codes "--version") then Some version_text
+    else None)
+
+-- the text that the words ask for: it is asked for by one word alone
+abbrev pub text_named : List (List ℕ) → Option (List ℕ)
+text_named (word ∷ []) = text_by_word word
+text_named _ = None
+
+-- the text, or else a run of the command
+abbrev pub show_or_run : Option (List ℕ) → Option CommandName → Option Request
+show_or_run (Some text) name = Some (Show text)
+show_or_run None name = option_map (λ n. Run n) name
+
+-- what the words ask for
+abbrev pub request_by : List (List ℕ) → Option Request
+request_by words = show_or_run (text_named words) (command_named words)
+
+-- what a command line asks for, whose first word is the program's name. One that is not text asks for nothing
+abbrev pub request_of : Option (List (List ℕ)) → Option Request
+request_of None = None
+request_of (Some words) = request_by (drop 1 words)
+
+-- whether standard input is read for it
+abbrev pub reads_input : Request → Bool
+reads_input (Show text) = false
+reads_input (Run name) = reads_source name
+
+-- ---- how it is answered
+
+-- what a text that was asked for adds to the output, by how it ended
+abbrev pub TextAdds : List ℕ → Status → List ℕ → Type 0
+TextAdds text Done added = added ≡ text
+TextAdds text WriteFault added = StartsWith text added
+TextAdds text _ added = ⊥
+
+-- the text was written, or a prefix of it
+abbrev pub Shows : List ℕ → Status → Bytes → Type 0
+Shows text status sink = (added : List ℕ) × Appends sink.before sink.after added × TextAdds text status added
+
+-- what was taken from standard input and added to standard output
+abbrev pub Answers : Request → Status → Bytes → Bytes → Type 0
+Answers (Show text) status source sink = Shows text status sink
+Answers (Run name) status source sink = Runs name status source sink
+
+-- a sink, as far as contracts observe it: what it holds, and how often a write has failed
+pub record Written : Type 0 where
+  pub holds : Option (List ℕ)
+  pub faults : ℕ
+
+-- all of the text was written, or one write failed, and left a prefix of it
+abbrev pub WritesOnce : List ℕ → Written → Written → Type 0
+WritesOnce text old new =
+    (Appends old.holds new.holds text × (new.faults ≡ old.faults))
+    ⊎ (AppendsPrefix old.holds new.holds text × IsOneFault old.faults new.faults)
+
+-- the exit status is that of a run that ended so. No two ends of a run have the same
+abbrev pub ExitsWith : ℕ → (Status → Type 0) → Type 0
+ExitsWith code ended = (status : Status) × (code ≡ exit_status status) × ended status

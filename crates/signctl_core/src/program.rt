@@ -1,0 +1,178 @@
+//! The whole program, as a function over its words and streams: `main` hands it the real ones.
+ghost use Rattle.std.specs.Prelude.{◌≡◌, ◌≢◌, ◌↔◌, None, IfSome, map, drop, string_bytes, option_map, false};
+ghost use Rattle.sign_base.specs.Faults.{CountsFault};
+ghost use Rattle.signctl_driver.specs.Status.{is_read_fault, is_write_fault};
+ghost use Rattle.signctl_core.specs.Program.{usage_line, help_text, version_text, reason_line, text_by_word, text_named, request_by, request_of, reads_input, Shows, Answers, WritesOnce, ExitsWith};
+
+use crate::commands::run_keyed;
+use sign_base::{Sink, Source};
+use sign_request::HeaderKeys;
+use signctl_driver::Status;
+use signctl_driver::output::write_all;
+use std::alloc::Global;
+
+/// Answers a command line, whose first word is the program's name, and gives the exit status. `None` is
+/// a command line that is not text.
+///
+/// The answer goes to `output`, and to `errors` the line that says why it ended early. Where that line
+/// can't be written a prefix of it stands there, and the exit status is the same. The header maps that are
+/// made of lines have these keys; nothing else depends on them.
+pub fn run_program<S: Source, D: Sink, E: Sink>(
+    alloc: Global,
+    words: Option<Vec<String>>,
+    source: &mut S,
+    output: &mut D,
+    errors: &mut E,
+    keys: HeaderKeys,
+) -> u8
+    // Usage comes exactly where the words ask for nothing, and touches nothing.
+    ensures usage { ExitsWith result (λ status.
+        (status ≡ Status.Usage) ↔ (request_of (option_map (λ all. map string_bytes all.items) words) ≡ None)) }
+    ensures untouched { ExitsWith result (λ status.
+        status ≡ Status.Usage → (source.new ≡ source.old) × (output.new ≡ output.old)) }
+
+    // What was taken from standard input, and added to standard output.
+    ensures bytes { ExitsWith result (λ status.
+        IfSome (request_of (option_map (λ all. map string_bytes all.items) words)) (λ request. Answers request status
+        (record { before = S.left source.old; after = S.left source.new })
+        (record { before = D.holds output.old; after = D.holds output.new }))) }
+    ensures unread { IfSome (request_of (option_map (λ all. map string_bytes all.items) words)) (λ request.
+        reads_input request ≡ false → source.new ≡ source.old) }
+
+    // What was added to standard error.
+    ensures reason { ExitsWith result (λ status. WritesOnce (reason_line status)
+        (record { holds = E.holds errors.old; faults = E.faults errors.old })
+        (record { holds = E.holds errors.new; faults = E.faults errors.new })) }
+
+    // A count of faults rises by one exactly where the exit status says so, and else stays.
+    ensures reads { ExitsWith result (λ status. CountsFault (is_read_fault status) (S.faults source.old) (S.faults source.new)) }
+    ensures writes { ExitsWith result (λ status. CountsFault (is_write_fault status) (D.faults output.old) (D.faults output.new)) }
+{
+    let status = match words {
+        Some(all) => answer(alloc, behind_name(all.as_slice()), source, output, keys),
+        None => Status::Usage,
+    };
+    report(status, errors);
+    status.exit_status()
+}
+
+/// The words behind the program's name.
+fn behind_name(all: &[String]) -> &[String]
+    ensures { map string_bytes result.now ≡ drop 1 (map string_bytes all.now) }
+{
+    match all {
+        [_, words @ ..] => words,
+        [] => all,
+    }
+}
+
+/// Shows the text that the words ask for, or runs the command that they name.
+fn answer<S: Source, D: Sink>(
+    alloc: Global,
+    words: &[String],
+    source: &mut S,
+    output: &mut D,
+    keys: HeaderKeys,
+) -> Status
+    ensures usage { (result ≡ Status.Usage) ↔ (request_by (map string_bytes words.now) ≡ None) }
+    ensures untouched { result ≡ Status.Usage → (source.new ≡ source.old) × (output.new ≡ output.old) }
+    ensures bytes { IfSome (request_by (map string_bytes words.now)) (λ request. Answers request result
+        (record { before = S.left source.old; after = S.left source.new })
+        (record { before = D.holds output.old; after = D.holds output.new })) }
+    ensures unread { IfSome (request_by (map string_bytes words.now)) (λ request.
+        reads_input request ≡ false → source.new ≡ source.old) }
+    ensures reads { CountsFault (is_read_fault result) (S.faults source.old) (S.faults source.new) }
+    ensures writes { CountsFault (is_write_fault result) (D.faults output.old) (D.faults output.new) }
+{
+    match text_named(words) {
+        Some(text) => show(text, output),
+        None => run_keyed(alloc, words, source, output, keys),
+    }
+}
+
+/// The text that the words ask for.
+fn text_named(words: &[String]) -> Option<&'static str>
+    ensures { option_map (λ text. text.now) result ≡ text_named (map string_bytes words.now) }
+{
+    match words {
+        [word] => text_by_word(word.as_str()),
+        _ => None,
+    }
+}
+
+fn text_by_word(word: &str) -> Option<&'static str>
+    ensures { option_map (λ text. text.now) result ≡ text_by_word word.now }
+{
+    match word {
+        "--help" => Some(help_text()),
+        "--version" => Some(version_text()),
+        _ => None,
+    }
+}
+
+/// Writes a text that was asked for.
+fn show<D: Sink>(text: &str, output: &mut D) -> Status
+    ensures ran { result ≢ Status.Usage }
+    ensures shown { Shows text.now result (record { before = D.holds output.old; after = D.holds output.new }) }
+    ensures reads { is_read_fault result ≡ false }
+    ensures writes { CountsFault (is_write_fault result) (D.faults output.old) (D.faults output.new) }
+{
+    match write_all(output, text.as_bytes()) {
+        Ok(()) => Status::Done,
+        Err(_) => Status::WriteFault,
+    }
+}
+
+/// Writes the line that says why a run ended early, where there is one.
+fn report<E: Sink>(status: Status, errors: &mut E)
+    ensures { WritesOnce (reason_line status)
+        (record { holds = E.holds errors.old; faults = E.faults errors.old })
+        (record { holds = E.holds errors.new; faults = E.faults errors.new }) }
+{
+    let _ = write_all(errors, reason_line(status).as_bytes());
+}
+
+fn reason_line(status: Status) -> &'static str
+    ensures { result.now ≡ reason_line status }
+{
+    match status {
+        Status::Done | Status::Refused => "",
+        Status::Usage => usage_line(),
+        Status::ReadFault => "signctl: a read failed\n",
+        Status::WriteFault => "signctl: a write failed\n",
+        Status::OutOfMemory => "signctl: out of memory\n",
+    }
+}
+
+fn usage_line() -> &'static str
+    ensures { result.now ≡ usage_line }
+{
+    "usage: signctl script|view|hmac|grant|load N|pool W J\n"
+}
+
+fn version_text() -> &'static str
+    ensures { result.now ≡ version_text }
+{
+    "signctl 0.2.0\n"
+}
+
+fn help_text() -> &'static str
+    ensures { result.now ≡ help_text }
+{
+    "\
+usage: signctl script|view|hmac|grant|load N|pool W J
+
+These commands work. The first three read lines from standard input and answer them on standard
+output; the last reads nothing.
+
+  script    runs the request signer: events in, its replies out
+  hmac      digests, HMAC and Base64: a call and its arguments in, the text out
+  view      request heads in, what a signing service sees of each out
+  load N    runs N made-up calls on the signer, and counts its replies
+
+  --help, --version    print this text, the version
+
+exit status: 0 done, 2 no such command, 3 a line was refused, 4 a read failed,
+5 a write failed, 6 out of memory. The lines are described in docs/FORMATS.md.
+"
+}
