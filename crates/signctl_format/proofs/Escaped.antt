@@ -1,8 +1,8 @@
 -- Bytes that stand for themselves are not escaped.
-use Rattle.std.proofs.Common.{◌≡◌, ℕ, Bool, true, List, [], ◌∷◌, refl, ap, ◌∙◌}
+use Rattle.std.proofs.Common.{◌≡◌, ℕ, Bool, true, List, [], ◌∷◌, refl, ap}
 use Rattle.std.specs.List.{list_all}
 use Rattle.std.proofs.lemmas.Bool.{and_parts}
-use Rattle.signctl_format.specs.Escapes.{byte_or_escape, with_escapes}
+use Rattle.signctl_format.specs.Escapes.{with_escapes}
 
 -- where every byte passes the test, nothing is escaped
 pub escapes_nothing : (test : ℕ → Bool) (bytes : List ℕ) → list_all test bytes ≡ true → with_escapes test bytes ≡ bytes

@@ -1,5 +1,6 @@
 -- The lines that a script prints, without their newline.
-use Rattle.std.specs.Prelude.{◌≡◌, ◌<◌, ◌+◌, ℕ, length, List, [], ◌∷◌, ◌++◌, Option, Some, None, codes}
+use Rattle.std.specs.Prelude.{◌≡◌, ◌<◌, ◌+◌, ℕ, length, List, [], ◌∷◌, ◌++◌, Option, Some, None, codes, vec_capacity}
+use Rattle.std.specs.Global.{Vec}
 use Rattle.std.specs.Fmt.{decimal}
 use Rattle.wake_lock.specs.declared.CallId.{CallId}
 use Rattle.sequential_signer.specs.declared.event.Reply.{Reply}
@@ -81,9 +82,9 @@ pub record Grows (old new : List ℕ) : Type 0 where
   pub is : new ≡ old ++ more
 
 -- a text had not the room for all of these bytes, and holds a prefix of them behind what it held
-pub record RunsShort (capacity : ℕ) (old new bytes : List ℕ) : Type 0 where
+pub record RunsShort (old new : Vec ℕ) (bytes : List ℕ) : Type 0 where
   pub part : List ℕ
   pub rest : List ℕ
   pub parts : bytes ≡ part ++ rest
-  pub text : new ≡ old ++ part
-  pub room : capacity < length old + length bytes
+  pub text : new.items ≡ old.items ++ part
+  pub room : vec_capacity old < length old.items + length bytes

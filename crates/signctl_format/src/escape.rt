@@ -1,10 +1,10 @@
 //! Bytes that can't stand for themselves, added to a text as `%` and two digits.
 #![tactic(auto, using(crate::proofs::Texts::grows_then, crate::proofs::Texts::grows_by, crate::proofs::Texts::grows_not, crate::proofs::Escaped::escapes_nothing))]
 
-ghost use Rattle.std.specs.Prelude.{◌≡◌, ◌++◌, OnOk};
+ghost use Rattle.std.specs.Prelude.{◌≡◌, ◌++◌, ◌≤◌, OnOk, OnErr, vec_capacity};
 ghost use Rattle.std.specs.List.{list_all};
 ghost use Rattle.signctl_format.specs.Escapes.{stands, byte_or_escape, with_escapes};
-ghost use Rattle.signctl_format.specs.Lines.{Grows};
+ghost use Rattle.signctl_format.specs.Lines.{Grows, RunsShort};
 
 use crate::byte::{is_plain, upper_hex};
 use crate::text::push;
@@ -26,6 +26,8 @@ pub fn push_escaped(
     bytes: &[u8],
 ) -> Result<(), NoMemory<()>>
     ensures ok { OnOk result (text.new.items ≡ text.old.items ++ with_escapes (stands escaping) bytes.now) }
+    ensures err { OnErr result (RunsShort text.old text.new (with_escapes (stands escaping) bytes.now)) }
+    ensures capacity { vec_capacity text.old ≤ vec_capacity text.new }
     ensures grows { Grows text.old.items text.new.items }
 {
     if all_stand(escaping, bytes) {
@@ -37,6 +39,8 @@ pub fn push_escaped(
 
 fn push_each(text: &mut Vec<u8>, escaping: Escaping, bytes: &[u8]) -> Result<(), NoMemory<()>>
     ensures ok { OnOk result (text.new.items ≡ text.old.items ++ with_escapes (stands escaping) bytes.now) }
+    ensures err { OnErr result (RunsShort text.old text.new (with_escapes (stands escaping) bytes.now)) }
+    ensures capacity { vec_capacity text.old ≤ vec_capacity text.new }
     ensures grows { Grows text.old.items text.new.items }
 {
     for b in bytes {
@@ -47,6 +51,8 @@ fn push_each(text: &mut Vec<u8>, escaping: Escaping, bytes: &[u8]) -> Result<(),
 
 fn push_byte(text: &mut Vec<u8>, escaping: Escaping, b: u8) -> Result<(), NoMemory<()>>
     ensures ok { OnOk result (text.new.items ≡ text.old.items ++ byte_or_escape (stands escaping) b) }
+    ensures err { OnErr result (RunsShort text.old text.new (byte_or_escape (stands escaping) b)) }
+    ensures capacity { vec_capacity text.old ≤ vec_capacity text.new }
     ensures grows { Grows text.old.items text.new.items }
 {
     if stands(escaping, b) {

@@ -1,10 +1,10 @@
 //! The words of moments, added at the end of a text.
 #![tactic(auto, using(crate::proofs::Texts::grows_then, crate::proofs::Texts::grows_by, crate::proofs::Texts::grows_not))]
 
-ghost use Rattle.std.specs.Prelude.{◌≡◌, ◌++◌, ◌∷◌, ◌^◌, ◌<◌, ◌≤◌, OnOk};
+ghost use Rattle.std.specs.Prelude.{◌≡◌, ◌++◌, ◌∷◌, ◌^◌, ◌<◌, ◌≤◌, OnOk, OnErr, vec_capacity};
 ghost use Rattle.signctl_format.specs.Bytes.{space};
 ghost use Rattle.signctl_format.specs.Moments.{moment_word, time_word, plain_duration, fraction_digits, fraction_word, nanos_of_second};
-ghost use Rattle.signctl_format.specs.Lines.{Grows};
+ghost use Rattle.signctl_format.specs.Lines.{Grows, RunsShort};
 
 use crate::ScriptVersion;
 use crate::text::{push, push_word};
@@ -22,6 +22,8 @@ pub fn push_moment(
     moment: Timestamp,
 ) -> Result<(), NoMemory<()>>
     ensures ok { OnOk result (text.new.items ≡ text.old.items ++ space ∷ moment_word version moment) }
+    ensures err { OnErr result (RunsShort text.old text.new (space ∷ moment_word version moment)) }
+    ensures capacity { vec_capacity text.old ≤ vec_capacity text.new }
     ensures grows { Grows text.old.items text.new.items }
 {
     match version {
@@ -32,6 +34,8 @@ pub fn push_moment(
 
 fn push_exact_moment(text: &mut Vec<u8>, moment: Timestamp) -> Result<(), NoMemory<()>>
     ensures ok { OnOk result (text.new.items ≡ text.old.items ++ space ∷ moment_word ScriptVersion.Two moment) }
+    ensures err { OnErr result (RunsShort text.old text.new (space ∷ moment_word ScriptVersion.Two moment)) }
+    ensures capacity { vec_capacity text.old ≤ vec_capacity text.new }
     ensures grows { Grows text.old.items text.new.items }
 {
     let nanos = moment.as_nanos();
@@ -53,6 +57,8 @@ pub fn push_time(
     time: Duration,
 ) -> Result<(), NoMemory<()>>
     ensures ok { OnOk result (text.new.items ≡ text.old.items ++ time_word version (plain_duration time)) }
+    ensures err { OnErr result (RunsShort text.old text.new (time_word version (plain_duration time))) }
+    ensures capacity { vec_capacity text.old ≤ vec_capacity text.new }
     ensures grows { Grows text.old.items text.new.items }
 {
     push(text, Buffer::new().format(time.as_secs()).as_bytes())?;
@@ -66,6 +72,8 @@ pub fn push_time(
 fn push_fraction(text: &mut Vec<u8>, nanos: u32) -> Result<(), NoMemory<()>>
     requires { nanos < nanos_of_second }
     ensures ok { OnOk result (text.new.items ≡ text.old.items ++ fraction_word nanos) }
+    ensures err { OnErr result (RunsShort text.old text.new (fraction_word nanos)) }
+    ensures capacity { vec_capacity text.old ≤ vec_capacity text.new }
     ensures grows { Grows text.old.items text.new.items }
 {
     if nanos == 0 {
@@ -80,6 +88,8 @@ fn push_digits(text: &mut Vec<u8>, places: u32, n: u32) -> Result<(), NoMemory<(
     requires few { places ≤ 9 }
     requires below { n < 10 ^ places }
     ensures ok { OnOk result (text.new.items ≡ text.old.items ++ fraction_digits places n) }
+    ensures err { OnErr result (RunsShort text.old text.new (fraction_digits places n)) }
+    ensures capacity { vec_capacity text.old ≤ vec_capacity text.new }
     ensures grows { Grows text.old.items text.new.items }
 {
     let mut places = places;

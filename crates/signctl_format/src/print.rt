@@ -1,12 +1,12 @@
 //! The lines that a script prints, each added at the end of a text without its newline.
 //!
-//! Out of memory ends the program: what stood in the text before then still stands in it, and
-//! a part of the line may stand behind it.
+//! Out of memory comes only where the text has not the room for the line. Then what stood in the text
+//! still stands in it, and a prefix of the line may stand behind it.
 #![tactic(auto, using(crate::proofs::Texts::grows_then, crate::proofs::Texts::grows_by, crate::proofs::Texts::grows_not))]
 
-ghost use Rattle.std.specs.Prelude.{◌≡◌, ◌++◌, OnOk};
+ghost use Rattle.std.specs.Prelude.{◌≡◌, ◌++◌, ◌≤◌, OnOk, OnErr, vec_capacity};
 ghost use Rattle.signctl_format.specs.Words.{spaced_words};
-ghost use Rattle.signctl_format.specs.Lines.{Grows, call_words, credential_words, wake_words, why_words, reply_line, cache_line, handle_line, final_line};
+ghost use Rattle.signctl_format.specs.Lines.{Grows, RunsShort, call_words, credential_words, wake_words, why_words, reply_line, cache_line, handle_line, final_line};
 
 use crate::head_text::push_head;
 use crate::moment_text::push_moment;
@@ -19,6 +19,8 @@ use wake_lock::CallId;
 /// Adds the line of a reply.
 pub fn push_reply(text: &mut Vec<u8>, reply: &Reply<ScriptCredential>) -> Result<(), NoMemory<()>>
     ensures ok { OnOk result (text.new.items ≡ text.old.items ++ reply_line reply.now) }
+    ensures err { OnErr result (RunsShort text.old text.new (reply_line reply.now)) }
+    ensures capacity { vec_capacity text.old ≤ vec_capacity text.new }
     ensures grows { Grows text.old.items text.new.items }
 {
     match reply {
@@ -54,6 +56,8 @@ pub fn push_reply(text: &mut Vec<u8>, reply: &Reply<ScriptCredential>) -> Result
 /// Adds the line of a new cache, by its number.
 pub fn push_cache(text: &mut Vec<u8>, number: u64) -> Result<(), NoMemory<()>>
     ensures ok { OnOk result (text.new.items ≡ text.old.items ++ cache_line number) }
+    ensures err { OnErr result (RunsShort text.old text.new (cache_line number)) }
+    ensures capacity { vec_capacity text.old ≤ vec_capacity text.new }
     ensures grows { Grows text.old.items text.new.items }
 {
     push(text, b"cache")?;
@@ -63,6 +67,8 @@ pub fn push_cache(text: &mut Vec<u8>, number: u64) -> Result<(), NoMemory<()>>
 /// Adds the line of a new handle, by its number.
 pub fn push_handle(text: &mut Vec<u8>, number: u64) -> Result<(), NoMemory<()>>
     ensures ok { OnOk result (text.new.items ≡ text.old.items ++ handle_line number) }
+    ensures err { OnErr result (RunsShort text.old text.new (handle_line number)) }
+    ensures capacity { vec_capacity text.old ≤ vec_capacity text.new }
     ensures grows { Grows text.old.items text.new.items }
 {
     push(text, b"handle")?;
@@ -77,6 +83,8 @@ pub fn push_final(
     cached: Option<ScriptCredential>,
 ) -> Result<(), NoMemory<()>>
     ensures ok { OnOk result (text.new.items ≡ text.old.items ++ final_line version cache cached) }
+    ensures err { OnErr result (RunsShort text.old text.new (final_line version cache cached)) }
+    ensures capacity { vec_capacity text.old ≤ vec_capacity text.new }
     ensures grows { Grows text.old.items text.new.items }
 {
     push(text, b"final")?;
@@ -89,6 +97,8 @@ pub fn push_final(
 
 pub(crate) fn push_call(text: &mut Vec<u8>, call: CallId) -> Result<(), NoMemory<()>>
     ensures ok { OnOk result (text.new.items ≡ text.old.items ++ spaced_words (call_words call)) }
+    ensures err { OnErr result (RunsShort text.old text.new (spaced_words (call_words call))) }
+    ensures capacity { vec_capacity text.old ≤ vec_capacity text.new }
     ensures grows { Grows text.old.items text.new.items }
 {
     push_number(text, u64::from(call.handle))?;
@@ -97,6 +107,8 @@ pub(crate) fn push_call(text: &mut Vec<u8>, call: CallId) -> Result<(), NoMemory
 
 fn push_wake(text: &mut Vec<u8>, wake: Option<CallId>) -> Result<(), NoMemory<()>>
     ensures ok { OnOk result (text.new.items ≡ text.old.items ++ spaced_words (wake_words wake)) }
+    ensures err { OnErr result (RunsShort text.old text.new (spaced_words (wake_words wake))) }
+    ensures capacity { vec_capacity text.old ≤ vec_capacity text.new }
     ensures grows { Grows text.old.items text.new.items }
 {
     match wake {
@@ -110,6 +122,8 @@ fn push_wake(text: &mut Vec<u8>, wake: Option<CallId>) -> Result<(), NoMemory<()
 
 fn push_why(text: &mut Vec<u8>, why: &Why) -> Result<(), NoMemory<()>>
     ensures ok { OnOk result (text.new.items ≡ text.old.items ++ spaced_words (why_words why.now)) }
+    ensures err { OnErr result (RunsShort text.old text.new (spaced_words (why_words why.now))) }
+    ensures capacity { vec_capacity text.old ≤ vec_capacity text.new }
     ensures grows { Grows text.old.items text.new.items }
 {
     match why {
@@ -133,6 +147,8 @@ pub(crate) fn push_credential(
     c: ScriptCredential,
 ) -> Result<(), NoMemory<()>>
     ensures ok { OnOk result (text.new.items ≡ text.old.items ++ spaced_words (credential_words version c)) }
+    ensures err { OnErr result (RunsShort text.old text.new (spaced_words (credential_words version c))) }
+    ensures capacity { vec_capacity text.old ≤ vec_capacity text.new }
     ensures grows { Grows text.old.items text.new.items }
 {
     push_number(text, c.generation)?;

@@ -2,7 +2,7 @@
 //!
 //! Out of memory comes only where the text has not the room for all that is to be added. Then what stood
 //! in the text still stands in it, and a prefix of what was to be added may stand behind it.
-#![tactic(auto, using(crate::proofs::Texts::grows_then, crate::proofs::Texts::grows_by, crate::proofs::Texts::grows_not, crate::proofs::ShortTexts::short_at_once, crate::proofs::ShortTexts::short_first, crate::proofs::ShortTexts::short_behind, crate::proofs::ShortTexts::on_short_first, crate::proofs::ShortTexts::on_short_behind))]
+#![tactic(auto, using(crate::proofs::Texts::grows_then, crate::proofs::Texts::grows_by, crate::proofs::Texts::grows_not, crate::proofs::ShortTexts::short_at_once, crate::proofs::ShortTexts::short_first, crate::proofs::ShortTexts::short_behind))]
 
 ghost use Rattle.std.specs.Prelude.{◌≡◌, ◌≤◌, ◌++◌, ◌∷◌, OnOk, OnErr, vec_capacity, decimal};
 ghost use Rattle.signctl_format.specs.Bytes.{space};
@@ -13,7 +13,7 @@ use sign_base::NoMemory;
 
 pub fn push(text: &mut Vec<u8>, bytes: &[u8]) -> Result<(), NoMemory<()>>
     ensures ok { OnOk result (text.new.items ≡ text.old.items ++ bytes.now) }
-    ensures err { OnErr result (RunsShort (vec_capacity text.old) text.old.items text.new.items bytes.now) }
+    ensures err { OnErr result (RunsShort text.old text.new bytes.now) }
     ensures capacity { vec_capacity text.old ≤ vec_capacity text.new }
     ensures grows { Grows text.old.items text.new.items }
 {
@@ -25,7 +25,7 @@ pub fn push(text: &mut Vec<u8>, bytes: &[u8]) -> Result<(), NoMemory<()>>
 
 pub fn push_word(text: &mut Vec<u8>, word: &[u8]) -> Result<(), NoMemory<()>>
     ensures ok { OnOk result (text.new.items ≡ text.old.items ++ space ∷ word.now) }
-    ensures err { OnErr result (RunsShort (vec_capacity text.old) text.old.items text.new.items (space ∷ word.now)) }
+    ensures err { OnErr result (RunsShort text.old text.new (space ∷ word.now)) }
     ensures capacity { vec_capacity text.old ≤ vec_capacity text.new }
     ensures grows { Grows text.old.items text.new.items }
 {
@@ -35,7 +35,7 @@ pub fn push_word(text: &mut Vec<u8>, word: &[u8]) -> Result<(), NoMemory<()>>
 
 pub fn push_number(text: &mut Vec<u8>, number: u64) -> Result<(), NoMemory<()>>
     ensures ok { OnOk result (text.new.items ≡ text.old.items ++ space ∷ decimal number) }
-    ensures err { OnErr result (RunsShort (vec_capacity text.old) text.old.items text.new.items (space ∷ decimal number)) }
+    ensures err { OnErr result (RunsShort text.old text.new (space ∷ decimal number)) }
     ensures capacity { vec_capacity text.old ≤ vec_capacity text.new }
     ensures grows { Grows text.old.items text.new.items }
 {
