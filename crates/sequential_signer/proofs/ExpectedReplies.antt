@@ -1,17 +1,18 @@
 -- Transcripts in which each reply is the expected one: how they grow, that all their entries are committed, and that they are the
 -- legal ones without an allocation failure.
-use Rattle.std.proofs.Common.{refl, ◌≡◌, List, [], ◌∷◌, ◌++◌, sym, ◌∙◌, ap, subst, fold, map, inl, inr, true, false}
+use Rattle.std.proofs.Common.{refl, ◌≡◌, List, [], ◌∷◌, ◌++◌, sym, ◌∙◌, ap, fold, map, inl, inr, true, false}
 use Rattle.std.proofs.lemmas.List.{append-nil, append_assoc, map-append}
 use Rattle.std.proofs.lemmas.List.Sums.{fold-append}
 use Rattle.sequential_signer.specs.Policy.{Policy}
 use Rattle.sequential_signer.specs.Setup.{Setup}
 use Rattle.sequential_signer.specs.Transcript.{committed_entries, is_out_of_memory}
 use Rattle.sequential_signer.specs.ExpectedReply.{expected_reply}
-use Rattle.sequential_signer.specs.Legal.{IsLegal, IsLegalAfter, IsLegalEntry, allocates, with_expected_reply, expected_entries}
+use Rattle.sequential_signer.specs.Legal.{IsLegal, IsLegalEntry, allocates, with_expected_reply, expected_entries}
 use Rattle.sequential_signer.specs.LawsOfReplies.{ExpectedRepliesAreLegal, LegalRepliesAreExpected}
 use Rattle.sequential_signer.specs.declared.event.Entry.{Entry}
 use Rattle.sequential_signer.specs.declared.event.Event.{Event}
 use Rattle.sequential_signer.specs.declared.event.Reply.TheVariants.{OutOfMemory}
+use Rattle.sequential_signer.proofs.LegalAfter.{legal_split}
 use Rattle.sequential_signer.proofs.Run.{expected_in_memory, committed_entries-none, committed_entries-more, legal-more, legal_keeps}
 
 fold-keeps : {B X : Type 0} (f : B → X → B) (P : B → Type 0) → ((b : B) (x : X) → P b → P (f b x)) → (xs : List X) (b : B) → P b → P (fold f b xs)
@@ -71,22 +72,15 @@ module _ {K D : Type 0} (policy : Policy K D) (setup : Setup D) where
       ))
       (committed_entries-none, nothing_is_legal) events).1
 
-  -- what is legal in one piece is legal piece by piece
-  pub legal_split : (before xs ys : List (Entry K)) → IsLegalAfter policy setup before (xs ++ ys) → IsLegalAfter policy setup before xs × IsLegalAfter policy setup (before ++ xs) ys
-  legal_split before [] ys l = (tt, subst (λ v. IsLegalAfter policy setup v ys) (sym (append-nil before)) l)
-  legal_split before (x ∷ xs) ys l =
-      let parts = legal_split (before ++ x ∷ []) xs ys l.1 in
-      ((l.0, parts.0), subst (λ v. IsLegalAfter policy setup v ys) (append_assoc before (x ∷ []) xs) parts.1)
-
   -- a legal transcript without its last entry is legal
   pub legal_before : (entries : List (Entry K)) (e : Entry K) → IsLegal policy setup (entries ++ e ∷ []) → IsLegal policy setup entries
   unfolding IsLegal
-  legal_before entries e l = (legal_split [] entries (e ∷ []) l).0
+  legal_before entries e l = (legal_split committed_entries (IsLegalEntry policy setup) [] entries (e ∷ []) l).0
 
   -- and its last entry is legal after those before it
   pub legal_last : (entries : List (Entry K)) (e : Entry K) → IsLegal policy setup (entries ++ e ∷ []) → IsLegalEntry policy setup (committed_entries entries) e
   unfolding IsLegal
-  legal_last entries e l = (legal_split [] entries (e ∷ []) l).1.0
+  legal_last entries e l = (legal_split committed_entries (IsLegalEntry policy setup) [] entries (e ∷ []) l).1.0
 
   -- an event that is answered `OutOfMemory` in a legal transcript allocates
   pub lost_allocates : (entries : List (Entry K)) (event : Event K) → IsLegal policy setup (entries ++ record { event = event; reply = OutOfMemory } ∷ []) → allocates policy setup (committed_entries entries) event ≡ true

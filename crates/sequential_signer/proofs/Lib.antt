@@ -4,6 +4,7 @@ pub mod OwnEntries
 pub mod Distinct
 pub mod PollOrder
 pub mod LegalStep
+pub mod LegalAfter
 pub mod Run
 pub mod NewNumbers
 pub mod CallInvariant
@@ -32,3 +33,5 @@ pub mod OneLoad
 pub mod SameReplies
 pub mod Pairwise
 pub mod StoredDurations
+pub mod GrantSources
+pub mod GrantReplies

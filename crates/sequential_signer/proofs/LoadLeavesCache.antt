@@ -29,7 +29,8 @@ use Rattle.sequential_signer.proofs.CallInvariantSteps.{stands, unbegun, pending
 use Rattle.sequential_signer.proofs.CacheRows.{stays_not_now, stays_other, stays_unserved}
 use Rattle.sequential_signer.proofs.LoadLaw.{other_stays}
 use Rattle.sequential_signer.proofs.WokenOnce.{unbegun_unknown}
-use Rattle.sequential_signer.proofs.ExpectedReplies.{legal_before, legal_split}
+use Rattle.sequential_signer.proofs.ExpectedReplies.{legal_before}
+use Rattle.sequential_signer.proofs.LegalAfter.{legal_split}
 use Rattle.sequential_signer.proofs.CancelTrace.{loading_is, cancel_changes_no_cache}
 
 -- past its look
@@ -167,7 +168,7 @@ module _ {K D : Type 0} (policy : Policy K D) (setup : Setup D) (before between 
       → sequential_cache policy setup (committed_entries (before ++ look_entry call now ∷ between)) i ≡ sequential_cache policy setup (committed_entries before) i
   unfolding IsLegal
   cache_between l h =
-      let parts = legal_split policy setup [] before (look_entry call now ∷ between) l in
+      let parts = legal_split committed_entries (IsLegalEntry policy setup) [] before (look_entry call now ∷ between) l in
       let first : IsPastLook policy setup call (sequential_cache policy setup (committed_entries before) i) (committed_entries (before ++ look_entry call now ∷ [])) = past_look parts.0 parts.1.0 in
       let last : IsPastLook policy setup call (sequential_cache policy setup (committed_entries before) i) (committed_entries (before ++ look_entry call now ∷ between)) =
       subst (λ (v : List (Entry K)). IsPastLook policy setup call (sequential_cache policy setup (committed_entries before) i) (committed_entries v)) (append_assoc before (look_entry call now ∷ []) between)

@@ -29,7 +29,7 @@ use Rattle.sequential_signer.proofs.CallInvariant.{Loads, phase-other, loads-own
 use Rattle.sequential_signer.proofs.CallInvariantSteps.{run_loads}
 use Rattle.sequential_signer.proofs.CacheLaw.{is_number-eq}
 use Rattle.sequential_signer.proofs.CacheRows.{one_turn}
-use Rattle.sequential_signer.proofs.ExpectedReplies.{legal_split}
+use Rattle.sequential_signer.proofs.LegalAfter.{legal_split}
 use Rattle.sequential_signer.proofs.HandedOut.{cache_elsewhere, cache_step, CacheStep, EndsHold, leaves_all, ends_hold_at}
 use Rattle.sequential_signer.proofs.FoundCredential.{signed_found_is_cached, is_refresh, others_leave}
 
@@ -179,7 +179,7 @@ pub one_load_serves_all : (K D : Type 0) → OneLoadServesAll K D
 unfolding IsLegal
 one_load_serves_all K D policy setup before after call now c handed wake i l at serves =
     let found : Entry K = found_entry call now c (Sign handed wake) in
-    let parts = legal_split policy setup [] before (found ∷ after) l in
+    let parts = legal_split committed_entries (IsLegalEntry policy setup) [] before (found ∷ after) l in
     let step : LegalStep policy setup (committed_entries before) (Provided call now (Found c)) (Sign handed wake) = legal_entry_step policy setup (committed_entries before) found refl parts.1.0 in
     nobody_asked policy setup i c (before ++ found ∷ []) after
     (subst (λ (v : List (Entry K)). HasLoaded policy setup i c v) (sym (committed_entries-more before found refl))

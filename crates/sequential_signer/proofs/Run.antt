@@ -14,6 +14,7 @@ use Rattle.sequential_signer.specs.declared.event.Event.{Event}
 use Rattle.sequential_signer.specs.declared.event.Reply.{Reply}
 use Rattle.sequential_signer.specs.declared.event.Reply.TheVariants.{Begun, Pending, NotNow, OutOfMemory, Ask, Sign, Refused, Done, Cancelled}
 use Rattle.sequential_signer.proofs.Lists.{filter-more_yes, filter-more_no}
+use Rattle.sequential_signer.proofs.LegalAfter.{legal_after-more}
 use Rattle.sequential_signer.proofs.LegalStep.{LegalStep, not_now, begins, waits, pending, looks, takes_effect, accepts, fails, cancels, expected_step}
 
 module _ {K D : Type 0} where
@@ -96,12 +97,7 @@ module _ {K D : Type 0} (policy : Policy K D) (setup : Setup D) where
   pub legal_run : (entries : List (Entry K)) → IsLegal policy setup entries → IsRun policy setup (committed_entries entries)
   legal_run entries l = legal_keeps (IsRun policy setup) (λ before event r. more before event _ r (expected_step policy setup before event)) start entries l
 
-  legal_after-more : (before entries : List (Entry K)) (e : Entry K) → IsLegalAfter policy setup before entries → IsLegalEntry policy setup (committed_entries (before ++ entries)) e → IsLegalAfter policy setup before (entries ++ e ∷ [])
-  legal_after-more before [] e l h = (subst (λ b. IsLegalEntry policy setup (committed_entries b) e) (append-nil before) h, tt)
-  legal_after-more before (x ∷ rest) e l h =
-      (l.0, legal_after-more (before ++ x ∷ []) rest e l.1 (subst (λ b. IsLegalEntry policy setup (committed_entries b) e) (sym (append_assoc before (x ∷ []) rest)) h))
-
   -- one more legal entry leaves a legal transcript
   pub legal-more : (entries : List (Entry K)) (e : Entry K) → IsLegal policy setup entries → IsLegalEntry policy setup (committed_entries entries) e → IsLegal policy setup (entries ++ e ∷ [])
   unfolding IsLegal
-  legal-more entries e l h = legal_after-more [] entries e l h
+  legal-more entries e l h = legal_after-more committed_entries (IsLegalEntry policy setup) [] entries e l h

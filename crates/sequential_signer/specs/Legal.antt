@@ -39,11 +39,15 @@ IsLegalEntry policy setup entries entry =
     (entry.reply ≡ expected_reply policy setup entries entry.event)
     ⊎ ((entry.reply ≡ OutOfMemory) × IsTrue (allocates policy setup entries entry.event))
 
--- each entry is legal after those before it; the first of them comes after `before`
+-- each entry of any kind is legal after the committed ones of those before it; the first of them comes after `before`
+abbrev pub AreLegalAfter : {E : Type 0} → (List E → List E) → (List E → E → Type 0) → List E → List E → Type 0
+AreLegalAfter committed legal before [] = Unit {0}
+AreLegalAfter committed legal before (entry ∷ rest) =
+    legal (committed before) entry × AreLegalAfter committed legal (before ++ entry ∷ []) rest
+
+-- each of these entries is legal after those before it
 abbrev pub IsLegalAfter : {K D : Type 0} → Policy K D → Setup D → List (Entry K) → List (Entry K) → Type 0
-IsLegalAfter policy setup before [] = Unit {0}
-IsLegalAfter policy setup before (entry ∷ rest) =
-    IsLegalEntry policy setup (committed_entries before) entry × IsLegalAfter policy setup (before ++ entry ∷ []) rest
+IsLegalAfter policy setup before entries = AreLegalAfter committed_entries (IsLegalEntry policy setup) before entries
 
 -- each entry is legal after those before it
 unfoldable pub IsLegal : {K D : Type 0} → Policy K D → Setup D → List (Entry K) → Type 0

@@ -11,7 +11,12 @@ pub mod Wake
 pub mod ExpectedReply
 pub mod Legal
 pub mod LiveCall
+pub mod GrantTranscript
+pub mod GrantSource
+pub mod ExpectedGrantReply
+pub mod GrantLegal
 pub mod LawsOfReplies
 pub mod LawsOfHandOver
 pub mod LawsOfCancel
 pub mod LawsOfCaches
+pub mod LawsOfGrants

@@ -38,6 +38,11 @@ abbrev pub after_lookup : {K : Type 0} → Option (Outcome K) → Option K → P
 after_lookup (Some outcome) cache load = Over outcome cache
 after_lookup None cache load = load
 
+-- the load of a call, by its rule, its duration and the answers so far
+abbrev pub call_load : {K D : Type 0} → Policy K D → Option K → Loader → D → Option ℕ → List (Answer K × ℤ) → Progress K
+call_load policy cache loader rule duration answers =
+    load_progress (check_refreshed policy rule duration) loader cache (length answers) (last_of answers)
+
 -- what the call works with: its rule, its duration, the moment of its look, and the providers' answers so far, each with
 -- its moment
 pub record HoldInput (K D : Type 0) : Type 0 where
@@ -52,4 +57,4 @@ sequential_call policy cache loader i =
     after_lookup
     (cache_lookup policy cache i.rule i.duration i.now)
     cache
-    (load_progress (check_refreshed policy i.rule i.duration) loader cache (length i.answers) (last_of i.answers))
+    (call_load policy cache loader i.rule i.duration i.answers)

@@ -3,8 +3,11 @@
 #![tactic(auto)]
 
 pub mod event;
+pub mod grant_event;
+pub mod grant_laws;
 
 pub use event::{Answer, Entry, Event, Loader, Reply, Verdict, Why};
+pub use grant_event::{GrantEntry, GrantEvent, GrantReply, GrantWhy, Made};
 
 #[cfg(test)]
 mod tests;

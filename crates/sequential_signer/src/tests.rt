@@ -1,5 +1,5 @@
 //! Debug texts of entries show no secret of a head, and of a credential what its type shows.
-use crate::{Answer, Entry, Event, Reply, Verdict};
+use crate::{Answer, Entry, Event, GrantEntry, GrantEvent, GrantReply, Made, Reply, Verdict};
 use sign_base::{Field, Fields, Head, NoMemory, Octets, Timestamp, Version};
 use std::alloc::Global;
 use std::fmt;
@@ -75,6 +75,32 @@ fn provided(now: Timestamp) -> Entry<Key> {
     }
 }
 
+fn found(now: Timestamp) -> GrantEntry<Key> {
+    GrantEntry {
+        event: GrantEvent::Provided {
+            call: CALL,
+            now,
+            answer: Answer::Found(Key { number: 736_573 }),
+        },
+        reply: GrantReply::Grant {
+            source: Key { number: 736_573 },
+        },
+    }
+}
+
+fn granted(now: Timestamp) -> GrantEntry<Key> {
+    GrantEntry {
+        event: GrantEvent::Granted {
+            call: CALL,
+            now,
+            answer: Made::Made(Key { number: 736_573 }),
+        },
+        reply: GrantReply::Given {
+            credential: Key { number: 736_573 },
+        },
+    }
+}
+
 /// The secret's word, as text and as numbers, and the number of a key.
 const FORMS: [&str; 3] = ["sesame", "115,101,115,97,109,101", "736573"];
 
@@ -98,4 +124,11 @@ fn entries_show_no_secret(rt: HostRuntime) -> Result<(), Fail> {
     hides(&rt, alloc, &begun(alloc))?;
     hides(&rt, alloc, &accepted(alloc))?;
     hides(&rt, alloc, &Timestamp::from_nanos(7).map(provided))
+}
+
+#[test]
+fn entries_of_a_granter_show_no_secret(rt: HostRuntime) -> Result<(), Fail> {
+    let alloc = rt.alloc();
+    hides(&rt, alloc, &Timestamp::from_nanos(7).map(found))?;
+    hides(&rt, alloc, &Timestamp::from_nanos(7).map(granted))
 }
