@@ -6,3 +6,7 @@ pub mod Caches
 pub mod Chains
 pub mod Bounds
 pub mod OutOfMemory
+pub mod GrantWords
+pub mod Grants
+pub mod GrantLoads
+pub mod GrantOutOfMemory
