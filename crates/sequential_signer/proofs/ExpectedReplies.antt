@@ -1,7 +1,7 @@
 -- Transcripts in which each reply is the expected one: how they grow, that all their entries are committed, and that they are the
 -- legal ones without an allocation failure.
-use Rattle.std.proofs.Common.{refl, ◌≡◌, List, [], ◌∷◌, ◌++◌, sym, ◌∙◌, ap, fold, map, inl, inr, true, false}
-use Rattle.std.proofs.lemmas.List.{append-nil, append_assoc, map-append}
+use Rattle.std.proofs.Common.{refl, ◌≡◌, List, [], ◌∷◌, ◌++◌, sym, ◌∙◌, ap, map, inl, inr, true, false}
+use Rattle.std.proofs.lemmas.List.{map-append}
 use Rattle.std.proofs.lemmas.List.Sums.{fold-append}
 use Rattle.sequential_signer.specs.Policy.{Policy}
 use Rattle.sequential_signer.specs.Setup.{Setup}
@@ -12,12 +12,8 @@ use Rattle.sequential_signer.specs.LawsOfReplies.{ExpectedRepliesAreLegal, Legal
 use Rattle.sequential_signer.specs.declared.event.Entry.{Entry}
 use Rattle.sequential_signer.specs.declared.event.Event.{Event}
 use Rattle.sequential_signer.specs.declared.event.Reply.TheVariants.{OutOfMemory}
-use Rattle.sequential_signer.proofs.LegalAfter.{legal_split}
-use Rattle.sequential_signer.proofs.Run.{expected_in_memory, committed_entries-none, committed_entries-more, legal-more, legal_keeps}
-
-fold-keeps : {B X : Type 0} (f : B → X → B) (P : B → Type 0) → ((b : B) (x : X) → P b → P (f b x)) → (xs : List X) (b : B) → P b → P (fold f b xs)
-fold-keeps f P step [] b h = h
-fold-keeps f P step (x ∷ xs) b h = fold-keeps f P step xs (f b x) (step b x h)
+use Rattle.sequential_signer.proofs.LegalAfter.{legal_split, IsNext, next_entries-legal}
+use Rattle.sequential_signer.proofs.Run.{expected_in_memory, committed_entries-none, committed_entries-more, legal_keeps}
 
 module _ {K D : Type 0} (policy : Policy K D) (setup : Setup D) where
   -- one more event has the expected reply after those before it
@@ -25,52 +21,30 @@ module _ {K D : Type 0} (policy : Policy K D) (setup : Setup D) where
   unfolding expected_entries
   expected_entries-more events event = fold-append (with_expected_reply policy setup) [] events (event ∷ [])
 
-  -- what holds of the empty transcript, and stays with each expected entry, holds of each transcript of expected entries
-  expected_entries-keeps : (P : List (Entry K) → Type 0)
-      → ((entries : List (Entry K)) (event : Event K) → P entries → P (entries ++ record { event = event; reply = expected_reply policy setup entries event } ∷ []))
-      → P [] → (events : List (Event K)) → P (expected_entries policy setup events)
-  unfolding expected_entries
-  expected_entries-keeps P step start events = fold-keeps (with_expected_reply policy setup) P step events [] start
-
   expected_entries-none : [] ≡ expected_entries policy setup []
   unfolding expected_entries
   expected_entries-none = refl
 
-  -- its events are these
-  events_from : (events : List (Event K)) (entries : List (Entry K)) → map (λ (e : Entry K). e.event) (fold (with_expected_reply policy setup) entries events) ≡ map (λ (e : Entry K). e.event) entries ++ events
-  events_from [] entries = sym (append-nil _)
-  events_from (event ∷ rest) entries =
-      events_from rest (with_expected_reply policy setup entries event)
-      ∙ ap (λ v. v ++ rest) (map-append (λ (e : Entry K). e.event) entries (record { event = event; reply = expected_reply policy setup entries event } ∷ []))
-      ∙ append_assoc (map (λ (e : Entry K). e.event) entries) (event ∷ []) rest
+  -- an event's entry with the expected reply
+  abbrev expected_entry : List (Entry K) → Event K → Entry K
+  expected_entry entries event = record { event = event; reply = expected_reply policy setup entries event }
 
-  expected_entries-events : (events : List (Event K)) → map (λ (e : Entry K). e.event) (expected_entries policy setup events) ≡ events
-  unfolding expected_entries
-  expected_entries-events events = events_from events []
+  expected_next : IsNext committed_entries (IsLegalEntry policy setup) (λ (x : Entry K). x.event) expected_entry
+  expected_next = record {
+    none = committed_entries-none;
+    kept = λ before entries event. committed_entries-more before (expected_entry entries event) (expected_in_memory policy setup entries event);
+    of_event = λ entries event. refl;
+    is_legal = λ entries event. inl refl;
+  }
 
-  -- all its entries are committed
-  pub committed_entries-expected : (events : List (Event K)) → committed_entries (expected_entries policy setup events) ≡ expected_entries policy setup events
-  committed_entries-expected events =
-      expected_entries-keeps (λ entries. committed_entries entries ≡ entries)
-      (λ entries event h.
-      committed_entries-more entries (record { event = event; reply = expected_reply policy setup entries event }) (expected_in_memory policy setup entries event)
-      ∙ ap (λ (v : List (Entry K)). v ++ record { event = event; reply = expected_reply policy setup entries event } ∷ []) h)
-      committed_entries-none events
-
-  -- it is legal
-  nothing_is_legal : IsLegal policy setup []
-  unfolding IsLegal
-  nothing_is_legal = tt
-
+  -- it is legal, of these events, and all its entries are committed
   expected_is_legal : (events : List (Event K)) → IsLegal policy setup (expected_entries policy setup events)
-  expected_is_legal events =
-      (expected_entries-keeps (λ entries. (committed_entries entries ≡ entries) × IsLegal policy setup entries)
-      (λ entries event h.
-      let e : Entry K = record { event = event; reply = expected_reply policy setup entries event } in (
-        committed_entries-more entries e (expected_in_memory policy setup entries event) ∙ ap (λ (v : List (Entry K)). v ++ e ∷ []) h.0,
-        legal-more policy setup entries e h.1 (inl (ap (λ v. expected_reply policy setup v event) (sym h.0))),
-      ))
-      (committed_entries-none, nothing_is_legal) events).1
+      × (map (λ (e : Entry K). e.event) (expected_entries policy setup events) ≡ events) × (committed_entries (expected_entries policy setup events) ≡ expected_entries policy setup events)
+  unfolding expected_entries IsLegal
+  expected_is_legal events = next_entries-legal committed_entries (IsLegalEntry policy setup) (λ (x : Entry K). x.event) expected_entry expected_next events
+
+  pub committed_entries-expected : (events : List (Event K)) → committed_entries (expected_entries policy setup events) ≡ expected_entries policy setup events
+  committed_entries-expected events = (expected_is_legal events).2
 
   -- a legal transcript without its last entry is legal
   pub legal_before : (entries : List (Entry K)) (e : Entry K) → IsLegal policy setup (entries ++ e ∷ []) → IsLegal policy setup entries
@@ -105,7 +79,7 @@ module _ {K D : Type 0} (policy : Policy K D) (setup : Setup D) where
 
 -- the expected replies are legal, and legal replies are the expected ones
 pub expected_replies_are_legal : (K D : Type 0) → ExpectedRepliesAreLegal K D
-expected_replies_are_legal K D policy setup events = (expected_is_legal policy setup events, expected_entries-events policy setup events, committed_entries-expected policy setup events)
+expected_replies_are_legal K D policy setup events = expected_is_legal policy setup events
 
 pub legal_replies_are_expected : (K D : Type 0) → LegalRepliesAreExpected K D
 legal_replies_are_expected K D policy setup entries l = ap (map (λ (e : Entry K). e.reply)) (committed_is_expected policy setup entries l)

@@ -58,7 +58,7 @@ module _ {K D : Type 0} (policy : Policy K D) where
       by_test false h = cc
 
   -- a load hands out what was found last
-  load_hands_out : (loader : Loader) (rule : D) (duration : Option ℕ) (cache left : Option K) (count : ℕ) (answer : Answer K) (now : ℤ) (k : K)
+  pub load_hands_out : (loader : Loader) (rule : D) (duration : Option ℕ) (cache left : Option K) (count : ℕ) (answer : Answer K) (now : ℤ) (k : K)
       → Over (HandOut k) left ≡ load_progress (check_refreshed policy rule duration) loader cache count (Some (answer, now)) → answer ≡ Found k
   load_hands_out loader rule duration cache left count (Found c) now k h = ap Found (check_hands_out c k now cache left (policy.deadline rule c duration now) h)
   load_hands_out Single rule duration cache left count Missing now k h = cc

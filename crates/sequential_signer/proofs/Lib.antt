@@ -34,4 +34,6 @@ pub mod SameReplies
 pub mod Pairwise
 pub mod StoredDurations
 pub mod GrantSources
+pub mod GrantHandsOut
 pub mod GrantReplies
+pub mod GrantRuns
