@@ -37,12 +37,13 @@ module _ {K D : Type 0} (policy : Policy K D) (setup : Setup D) where
     is_legal = λ entries event. inl refl;
   }
 
-  -- it is legal, of these events, and all its entries are committed
+  -- the transcript is legal, of these events, and all its entries are committed
   expected_is_legal : (events : List (Event K)) → IsLegal policy setup (expected_entries policy setup events)
       × (map (λ (e : Entry K). e.event) (expected_entries policy setup events) ≡ events) × (committed_entries (expected_entries policy setup events) ≡ expected_entries policy setup events)
   unfolding expected_entries IsLegal
   expected_is_legal events = next_entries-legal committed_entries (IsLegalEntry policy setup) (λ (x : Entry K). x.event) expected_entry expected_next events
 
+  -- all its entries are committed
   pub committed_entries-expected : (events : List (Event K)) → committed_entries (expected_entries policy setup events) ≡ expected_entries policy setup events
   committed_entries-expected events = (expected_is_legal events).2
 
