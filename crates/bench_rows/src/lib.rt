@@ -2,6 +2,8 @@
 #![tactic(auto)]
 
 #[cfg(test)]
+mod credentials_tests;
+#[cfg(test)]
 mod desk_run;
 #[cfg(test)]
 mod one_signer;

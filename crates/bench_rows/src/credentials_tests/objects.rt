@@ -1,36 +1,23 @@
 //! Objects of the tests, each of which answers the one byte `a`.
 ghost use Rattle.std.specs.Prelude.{⊤};
 
-use crate::{CommandExecute, CommandOutput, Context, FileRead, HttpSend, NoopEnv, Polled};
 use bytes::Bytes;
+use credentials::{CommandExecute, CommandOutput, Context, FileRead, HttpSend, NoopEnv, Polled};
 use http::{Request, Response};
 use sign_base::NoMemory;
-use std::alloc::{AllocError, Global};
+use std::alloc::Global;
 
 #[derive(Clone, Copy, Debug)]
 pub(crate) struct AlwaysA;
 
 /// A context of these objects.
-pub(crate) fn always_a() -> Context<AlwaysA, AlwaysA, NoopEnv, AlwaysA> {
+pub(crate) type ContextOfA = Context<AlwaysA, AlwaysA, NoopEnv, AlwaysA>;
+
+pub(crate) fn always_a() -> ContextOfA {
     Context::new()
         .with_file_read(AlwaysA)
         .with_http_send(AlwaysA)
         .with_command_execute(AlwaysA)
-}
-
-/// Variables of these names and values.
-pub(crate) fn texts(
-    alloc: Global,
-    pairs: &[(&str, &str)],
-) -> Result<Vec<(String, String)>, AllocError> {
-    let mut texts = Vec::new(alloc);
-    for (name, value) in pairs {
-        texts.push((
-            String::from_str(alloc, name)?,
-            String::from_str(alloc, value)?,
-        ))?;
-    }
-    Ok(texts)
 }
 
 impl FileRead for AlwaysA {

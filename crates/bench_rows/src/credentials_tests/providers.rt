@@ -1,7 +1,7 @@
 //! Providers of the tests, which say what they answer.
 ghost use Rattle.std.specs.Prelude.{⊤, int_lt};
 
-use crate::{
+use credentials::{
     DeadlineRule, Polled, ProvideCredential, ProvideCredentialChain, SigningCredential,
     operation_end,
 };
