@@ -8,6 +8,8 @@ mod desk_run;
 #[cfg(test)]
 mod one_signer;
 #[cfg(test)]
+mod program_tests;
+#[cfg(test)]
 mod waiting;
 #[cfg(test)]
 mod worked_service;

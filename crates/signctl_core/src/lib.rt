@@ -7,8 +7,6 @@ mod load;
 pub mod program;
 mod script_line;
 mod session;
-#[cfg(test)]
-mod tests;
 
 pub use commands::run;
 pub use program::run_program;

@@ -1,5 +1,5 @@
 //! How many scripts begin, and the rows that go on from there.
-use crate::Status;
+use signctl_core::Status;
 
 /// The first lines of a script, and what is added for them.
 #[derive(Clone, Copy)]

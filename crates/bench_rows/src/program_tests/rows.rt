@@ -1,8 +1,8 @@
 //! Scripts of one cache and what is answered to them. Each row is named by what it shows.
 use super::row::{LOADING, NOTHING, Row, SET_UP, SIGNING, TWO_POLLED};
-use crate::Status;
+use signctl_core::Status;
 
-pub const ONE_CACHE: [Row; 25] = [
+pub static ONE_CACHE: [Row; 25] = [
     Row {
         shows: "an empty script",
         after: NOTHING,

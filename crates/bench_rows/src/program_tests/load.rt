@@ -1,15 +1,14 @@
-//! `load`: its counts, words that are none of its, a fault at each byte of its line, and its events on a
-//! desk of the test's own.
+//! `load`: its counts, a fault at each byte of its line, and its events on a desk of the test's own.
 ghost use Rattle.std.specs.Prelude.{◌≤◌, ◌<◌, ◌+◌, ◌*◌};
 
-use super::{ROOM, run_words};
-use crate::Status;
+use super::{ROOM, ends_as, run_words};
 use sequential_signer::{Loader, Reply};
 use sign_base::{FaultySink, FaultySource, MemorySink, MemorySource};
 use sign_desk::Desk;
+use signctl_core::Status;
 use signctl_format::{Item, ScriptCredential, ScriptRule, ScriptVersion, read_line};
 use std::alloc::{AllocError, Global};
-use std::test::Fail;
+use std::process::Abort;
 
 const NO_CALLS: &str = "begun 0 pending 0 ask 0 sign 0 done 0 refused 0 cancelled 0 not-now 0\n";
 
@@ -21,40 +20,47 @@ const FOUR_ROUNDS: &str =
 const MOST_CALLS: &str = "begun 100000 pending 43750 ask 9375 sign 96875 done 96875 refused 0 \
     cancelled 3125 not-now 0\n";
 
+/// The counts of so many calls, and how the run ends. None where memory is lacking.
+fn counts(alloc: Global, calls: &str) -> Option<(MemorySink, Status)> {
+    let mut source = MemorySource::new(Vec::new(alloc));
+    let mut sink = MemorySink::new(alloc, ROOM).ok()?;
+    let status = run_words(alloc, &["load", calls], &mut source, &mut sink).ok()?;
+    Some((sink, status))
+}
+
 #[test]
-fn replies_are_counted(rt: HostRuntime) -> Result<(), Fail> {
+fn replies_are_counted(rt: HostRuntime) {
     for (calls, line) in [
         ("0", NO_CALLS),
         ("8", ONE_ROUND),
         ("32", FOUR_ROUNDS),
         ("100000", MOST_CALLS),
     ] {
-        let mut source = MemorySource::new(Vec::new(rt.alloc()));
-        let mut sink = MemorySink::new(rt.alloc(), ROOM).map_err(|_| AllocError)?;
-        let status = run_words(rt.alloc(), &["load", calls], &mut source, &mut sink)?;
-        assert_eq!(rt; sink.written(), line.as_bytes(), "{calls}");
-        assert_eq!(rt; status, Status::Done, "{calls}");
+        let (sink, status) = counts(rt.alloc(), calls).expect(&rt, "memory");
+        let expected = (line.as_bytes(), Status::Done);
+        ends_as(&rt, (sink.written(), status), expected, &calls);
     }
-    Ok(())
+}
+
+/// The same of eight calls, where the write of this number fails. The source fails at its first read.
+fn counts_up_to(alloc: Global, write: usize) -> Option<(FaultySink, Status)> {
+    let reads = vec![in alloc; 0u64].ok()?;
+    let writes = vec![in alloc; write as u64].ok()?;
+    let mut source = FaultySource::new(Vec::new(alloc), 1, reads);
+    let mut sink = FaultySink::new(alloc, ROOM, 1, writes).ok()?;
+    let status = run_words(alloc, &["load", "8"], &mut source, &mut sink).ok()?;
+    Some((sink, status))
 }
 
 /// A source whose first read fails is not asked, and a sink that takes one byte at a time holds all bytes
 /// before the write that failed.
 #[test]
-fn each_byte_of_the_counts_fails_in_turn(rt: HostRuntime) -> Result<(), Fail> {
-    for at in 0..ONE_ROUND.len() {
-        let mut source = FaultySource::new(Vec::new(rt.alloc()), 1, vec![in rt.alloc(); 0u64]?);
-        let mut sink = FaultySink::new(
-            rt.alloc(),
-            ROOM,
-            1,
-            vec![in rt.alloc(); at as u64]?,
-        ).map_err(|_| AllocError)?;
-        let status = run_words(rt.alloc(), &["load", "8"], &mut source, &mut sink)?;
-        assert_eq!(rt; sink.written(), &ONE_ROUND.as_bytes()[..at], "write {at}");
-        assert_eq!(rt; status, Status::WriteFault, "write {at}");
+fn each_byte_of_the_counts_fails_in_turn(rt: HostRuntime) {
+    for write in 0..ONE_ROUND.len() {
+        let (sink, status) = counts_up_to(rt.alloc(), write).expect(&rt, "memory");
+        let expected = (&ONE_ROUND.as_bytes()[..write], Status::WriteFault);
+        ends_as(&rt, (sink.written(), status), expected, &write);
     }
-    Ok(())
 }
 
 /// A desk with one handle, how often it gave each kind of reply, and the calls of a round that are signed.
@@ -86,10 +92,8 @@ fn kind(reply: &Reply<ScriptCredential>) -> usize
 impl Tally {
     /// Steps the desk with the event of a line about this call.
     fn step(&mut self, call: u64, line: &str) -> Result<(), AllocError> {
-        let item = read_line(self.alloc, ScriptVersion::One, line.as_bytes()).map_err(
-            |_| AllocError,
-        )?;
-        let Some(Item::Event(event)) = item else {
+        let item = read_line(self.alloc, ScriptVersion::One, line.as_bytes());
+        let Ok(Some(Item::Event(event))) = item else {
             return Err(AllocError);
         };
         let reply = self.desk.step(event.as_event());
@@ -173,26 +177,36 @@ impl Tally {
     }
 }
 
-/// The events of the greatest load, read from lines of a script, on a desk.
-#[test]
-fn a_desk_gives_the_counted_replies(rt: HostRuntime) -> Result<(), Fail> {
-    let mut desk = Desk::new(rt.alloc());
-    assert!(rt; desk.add_cache(Loader::Single).is_ok());
-    assert!(rt; desk.add_rule(ScriptRule::Now).is_ok());
-    assert!(rt; desk.add_handle(0, 0).is_ok());
+/// A desk with one cache and one handle.
+fn desk_of_one_handle(alloc: Global) -> Option<Desk<ScriptCredential, ScriptRule>> {
+    let mut desk = Desk::new(alloc);
+    desk.add_cache(Loader::Single).ok()?;
+    desk.add_rule(ScriptRule::Now).ok()?;
+    desk.add_handle(0, 0).ok()?;
+    Some(desk)
+}
+
+/// The events of so many rounds of eight calls, read from lines of a script, on a desk.
+fn tally_of(rt: &impl Abort, alloc: Global) -> Tally {
     let mut tally = Tally {
-        alloc: rt.alloc(),
-        desk,
+        alloc,
+        desk: desk_of_one_handle(alloc).expect(rt, "a desk"),
         counts: [0; 9],
-        signed: Vec::new(rt.alloc()),
+        signed: Vec::new(alloc),
     };
     for round in 0..12_500 {
-        tally.round(round, 100_001)?;
+        tally.round(round, 100_001).expect(rt, "memory");
     }
+    tally
+}
+
+/// The events of the greatest load, on a desk.
+#[test]
+fn a_desk_gives_the_counted_replies(rt: HostRuntime) {
+    let tally = tally_of(&rt, rt.alloc());
     assert_eq!(rt;
         tally.counts,
         [100_000, 43_750, 9_375, 96_875, 96_875, 0, 3_125, 0, 0]
     );
     assert_eq!(rt; tally.desk.live(), 0);
-    Ok(())
 }

@@ -1,9 +1,9 @@
 //! More scripts: several caches, chains, refused refreshes, version 2, and woken calls. They stand
 //! apart from the others because a proof holds one table of this size at a time.
 use super::row::{NOTHING, Row, SECOND_VERSION, SET_UP, TWO_POLLED};
-use crate::Status;
+use signctl_core::Status;
 
-pub const MANY_CACHES: [Row; 25] = [
+pub static MANY_CACHES: [Row; 25] = [
     Row {
         shows: "a last line needs no newline",
         after: SET_UP,
