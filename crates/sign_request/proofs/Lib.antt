@@ -1,6 +1,7 @@
 pub mod Sorting
 pub mod Joined
 pub mod TextOrder
+pub mod KeyOrder
 pub mod QuerySize
 pub mod SamePairs
 pub mod HeaderClone

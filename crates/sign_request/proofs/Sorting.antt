@@ -1,6 +1,5 @@
 -- A list has one ascending order, where elements that tie are the same.
-use Rattle.std.proofs.Common.{◌≡◌, ℕ, ◌+◌, ◌<◌, suc, inl, inr, true, false, List, [], ◌∷◌, length, get_or, cond, refl, sym, ◌∙◌, ap, subst, zero-add, arith}
-use Rattle.std.specs.Prelude.{⊤}
+use Rattle.std.proofs.Common.{◌≡◌, ℕ, ◌+◌, ◌<◌, suc, inl, inr, true, false, List, [], ◌∷◌, ◌++◌, length, get_or, cond, refl, sym, ◌∙◌, ap, subst, zero-add, arith}
 use Rattle.std.specs.Cmp.{IsTotalOrder}
 use Rattle.std.specs.List.{AllByRecursion, sum_by}
 use Rattle.std.specs.List.Sorted.{IsPermutation, IsSorted}
@@ -13,6 +12,7 @@ use Rattle.std.proofs.lemmas.Cmp as orders
 use Rattle.std.proofs.lemmas.List.Sorted.{ranks_by, sorted_far, sum_by-IsPermutation}
 use Rattle.std.proofs.lemmas.List.Sums.{sum_by-cons}
 use Rattle.sign_request.specs.CanonicalText.{insert_sorted, sorted}
+use Rattle.sign_request.specs.KeyOrder.{Ascends}
 
 -- the two ways to say that y is not below x
 turned : (r : Ordering) → is_lt r ≡ false → is_gt (ordering_reverse r) ≡ false
@@ -31,7 +31,7 @@ neither Equal h k = refl
 neither Greater h k = cc
 
 module _ {X : Type 0} where
-  all_mapped : (P Q : X → Type 0) → ((x : X) → P x → Q x) → (xs : List X) → AllByRecursion P xs → AllByRecursion Q xs
+  pub all_mapped : (P Q : X → Type 0) → ((x : X) → P x → Q x) → (xs : List X) → AllByRecursion P xs → AllByRecursion Q xs
   all_mapped P Q f [] h = tt
   all_mapped P Q f (x ∷ xs) h = (f x h.0, all_mapped P Q f xs h.1)
 
@@ -44,11 +44,6 @@ module _ {X : Type 0} where
   no_sum f (x ∷ xs) h = sum_by-cons f x xs ∙ (ap (λ n. n + sum_by f xs) h.0 ∙ (zero-add _ ∙ no_sum f xs h.1))
 
   module _ (cmp : X → X → Ordering) (o : IsTotalOrder cmp) where
-    -- no element is above a later one
-    abbrev pub Ascends : List X → Type 0
-    Ascends [] = ⊤
-    Ascends (x ∷ xs) = AllByRecursion (λ y. is_gt (cmp x y) ≡ false) xs × Ascends xs
-
     sum_by-insert : (f : X → ℕ) (x : X) (ys : List X) → sum_by f (insert_sorted cmp x ys) ≡ f x + sum_by f ys
     sum_by-insert f x [] = sum_by-cons f x []
     sum_by-insert f x (y ∷ ys) =
@@ -69,7 +64,26 @@ module _ {X : Type 0} where
           | inr n ↦ rw n (p, h)
         ]
 
-    Ascends-insert : (x : X) (ys : List X) → Ascends ys → Ascends (insert_sorted cmp x ys)
+    all_sorted : (P : X → Type 0) (xs : List X) → AllByRecursion P xs → AllByRecursion P (sorted cmp xs)
+    all_sorted P [] h = tt
+    all_sorted P (x ∷ xs) h = all_inserted P x (sorted cmp xs) h.0 (all_sorted P xs h.1)
+
+    insert-append : (x : X) (xs ys : List X) → AllByRecursion (λ y. is_gt (cmp x y) ≡ false) ys → insert_sorted cmp x (xs ++ ys) ≡ insert_sorted cmp x xs ++ ys
+    insert-append x [] [] h = refl
+    insert-append x [] (y ∷ ys) h = rw h.0 refl
+    insert-append x (z ∷ xs) ys h =
+        elim (cases_Bool (is_gt (cmp x z))) [
+          | inl t ↦ rw t (ap (λ zs. z ∷ zs) (insert-append x xs ys h))
+          | inr n ↦ rw n refl
+        ]
+
+    -- two lists of which no element of the first is above one of the second
+    pub sorted-append : (xs ys : List X) → AllByRecursion (λ x. AllByRecursion (λ y. is_gt (cmp x y) ≡ false) ys) xs → sorted cmp (xs ++ ys) ≡ sorted cmp xs ++ sorted cmp ys
+    sorted-append [] ys h = refl
+    sorted-append (x ∷ xs) ys h =
+        ap (insert_sorted cmp x) (sorted-append xs ys h.1) ∙ insert-append x (sorted cmp xs) (sorted cmp ys) (all_sorted (λ y. is_gt (cmp x y) ≡ false) ys h.0)
+
+    Ascends-insert : (x : X) (ys : List X) → Ascends cmp ys → Ascends cmp (insert_sorted cmp x ys)
     Ascends-insert x [] h = (tt, tt)
     Ascends-insert x (y ∷ ys) h =
         elim (cases_Bool (is_gt (cmp x y))) [
@@ -77,12 +91,12 @@ module _ {X : Type 0} where
           | inr n ↦ rw n ((n, all_mapped (λ z. is_gt (cmp y z) ≡ false) (λ z. is_gt (cmp x z) ≡ false) (λ z b. orders.upto o x y z n b) ys h.0), h)
         ]
 
-    pub Ascends-sorted : (xs : List X) → Ascends (sorted cmp xs)
+    pub Ascends-sorted : (xs : List X) → Ascends cmp (sorted cmp xs)
     Ascends-sorted [] = tt
     Ascends-sorted (x ∷ xs) = Ascends-insert x (sorted cmp xs) (Ascends-sorted xs)
 
     -- what a sort ensures
-    pub Ascends-from_sort : (xs : List X) → IsSorted cmp xs → Ascends xs
+    pub Ascends-from_sort : (xs : List X) → IsSorted cmp xs → Ascends cmp xs
     Ascends-from_sort [] h = tt
     Ascends-from_sort (x ∷ xs) h =
         let far = sorted_far (λ y z. is_lt (cmp y z)) (ranks_by o (λ y. y)) (x ∷ xs) h in (
@@ -96,7 +110,7 @@ module _ {X : Type 0} where
 
     module _ (same : (x y : X) → cmp x y ≡ Equal → x ≡ y) where
       -- the first of an ascending list is not above what another one with the same elements begins with
-      first_not_above : (x y : X) (xs ys : List X) → Ascends (x ∷ xs) → ((f : X → ℕ) → sum_by f (x ∷ xs) ≡ sum_by f (y ∷ ys)) → is_gt (cmp x y) ≡ false
+      first_not_above : (x y : X) (xs ys : List X) → Ascends cmp (x ∷ xs) → ((f : X → ℕ) → sum_by f (x ∷ xs) ≡ sum_by f (y ∷ ys)) → is_gt (cmp x y) ≡ false
       first_not_above x y xs ys h e =
           let below : X → ℕ = λ z. cond (is_gt (cmp x z)) 1 0 in
           let none : sum_by below (x ∷ xs) ≡ 0 = no_sum below (x ∷ xs) (rw (tied_itself o x) refl, all_mapped _ _ (λ z b. rw b refl) xs h.0) in
@@ -105,7 +119,7 @@ module _ {X : Type 0} where
             | inr n ↦ n
           ]
 
-      pub one_order : (xs ys : List X) → Ascends xs → Ascends ys → ((f : X → ℕ) → sum_by f xs ≡ sum_by f ys) → xs ≡ ys
+      pub one_order : (xs ys : List X) → Ascends cmp xs → Ascends cmp ys → ((f : X → ℕ) → sum_by f xs ≡ sum_by f ys) → xs ≡ ys
       one_order [] [] h k e = refl
       one_order [] (y ∷ ys) h k e = absurd (let one = e (λ _. 1) in let some = sum_by-cons (λ _. 1) y ys in omega (arith, one, some))
       one_order (x ∷ xs) [] h k e = absurd (let one = e (λ _. 1) in let some = sum_by-cons (λ _. 1) x xs in omega (arith, one, some))

@@ -4,21 +4,19 @@ use Rattle.std.specs.Cmp.{IsTotalOrder}
 use Rattle.std.specs.Cmp.Lexicographic.{nat_list_cmp_total, texts_ties, bytes_decides}
 use Rattle.std.specs.List.Sorted.{IsPermutation, IsSorted}
 use Rattle.std.specs.Ordering.{ordering_then, is_eq}
-use Rattle.std.specs.String.{string_cmp}
 use Rattle.std.specs.declared.cmp.Ordering.{Ordering}
 use Rattle.std.specs.declared.cmp.Ordering.TheVariants.{Less, Equal, Greater}
-use Rattle.std.specs.declared.string.String.{String}
 use Rattle.std.proofs.lemmas.Cmp.{then_total, on_total}
 use Rattle.std.proofs.lemmas.List.{get_or-map, length-map}
 use Rattle.std.proofs.lemmas.List.Sorted.{IsPermutation-map}
 use Rattle.http_header.specs.FieldValue.{FieldValue}
 use Rattle.http_header.specs.HeaderMap.{Entries, keys}
-use Rattle.sign_request.specs.Query.{Pair, text_pair, text_pairs}
+use Rattle.sign_request.specs.Query.{Pair}
 use Rattle.sign_request.specs.CanonicalText.{text_cmp, pair_cmp, sorted, sorted_pairs, joined_texts, canonical_text}
 use Rattle.sign_request.specs.Headers.{sorted_names}
 use Rattle.sign_request.proofs.Sorting.{sorted-from_sort, sorted-IsPermutation}
 
-same_text : (x y : List ℕ) → text_cmp x y ≡ Equal → x ≡ y
+pub same_text : (x y : List ℕ) → text_cmp x y ≡ Equal → x ≡ y
 same_text x y h = (bytes_decides x y).0 (texts_ties x y ∙ ap is_eq h)
 
 tied_first : (r s : Ordering) → ordering_then r s ≡ Equal → r ≡ Equal
@@ -31,26 +29,19 @@ tied_second Less s h = cc
 tied_second Equal s h = h
 tied_second Greater s h = cc
 
-same_pair : (p q : Pair) → pair_cmp p q ≡ Equal → p ≡ q
+pub same_pair : (p q : Pair) → pair_cmp p q ≡ Equal → p ≡ q
 same_pair p q h =
     λ i. (same_text p.0 q.0 (tied_first (text_cmp p.0 q.0) (text_cmp p.1 q.1) h) i, same_text p.1 q.1 (tied_second (text_cmp p.0 q.0) (text_cmp p.1 q.1) h) i)
 
-pair_total : IsTotalOrder pair_cmp
+pub pair_total : IsTotalOrder pair_cmp
 pair_total = then_total (on_total (λ p. p.0) nat_list_cmp_total) (on_total (λ p. p.1) nat_list_cmp_total)
 
 -- what is sorted by what it shows, shows a sorted list
-IsSorted-map : {X Y : Type 0} (shows : X → Y) (cmp : Y → Y → Ordering) (xs : List X) → IsSorted (λ x y. cmp (shows x) (shows y)) xs → IsSorted cmp (map shows xs)
+pub IsSorted-map : {X Y : Type 0} (shows : X → Y) (cmp : Y → Y → Ordering) (xs : List X) → IsSorted (λ x y. cmp (shows x) (shows y)) xs → IsSorted cmp (map shows xs)
 IsSorted-map shows cmp [] up = λ k d low high. absurd (omega arith)
 IsSorted-map shows cmp (x ∷ xs) up = λ k d low high.
     let as_long = length-map (x ∷ xs) shows in
     rw (get_or-map shows (x ∷ xs) (k + 1) x d (omega (arith, as_long)), get_or-map shows (x ∷ xs) k x d (omega (arith, as_long))) (up k x low (omega (arith, as_long)))
-
--- pairs of strings after a sort
-pub sorted_pairs-from_sort : {Z : Type 0} (xs ys : List (String Z × String Z)) → IsPermutation xs ys
-    → IsSorted (λ x y. ordering_then (string_cmp x.0 y.0) (string_cmp x.1 y.1)) ys → text_pairs ys ≡ sorted_pairs (text_pairs xs)
-unfolding sorted_pairs
-sorted_pairs-from_sort xs ys moved up =
-    sorted-from_sort pair_cmp pair_total same_pair (text_pairs xs) (text_pairs ys) (IsPermutation-map text_pair xs ys moved) (IsSorted-map text_pair pair_cmp ys up)
 
 -- the order of the pairs does not count
 pub sorted_pairs-IsPermutation : (ps qs : List Pair) → IsPermutation ps qs → sorted_pairs ps ≡ sorted_pairs qs

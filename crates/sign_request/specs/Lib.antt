@@ -1,5 +1,6 @@
 pub mod Query
 pub mod CanonicalText
+pub mod KeyOrder
 pub mod Escaped
 pub mod PairForm
 pub mod Target

@@ -17,6 +17,7 @@ mod query;
 mod query_view;
 mod refusal;
 mod request;
+mod sort;
 mod target;
 #[cfg(test)]
 mod tests;

@@ -6,6 +6,7 @@ ghost use Rattle.sign_request.specs.PairForm.{pair_text};
 
 use crate::SigningRequest;
 use crate::pair_form::{PairForm, write_pairs};
+use crate::sort::sort_pairs;
 use sign_base::NoMemory;
 use std::alloc::Global;
 
@@ -68,12 +69,4 @@ fn canonical(alloc: Global, pairs: Pairs, form: PairForm, sep: &str, join: &str)
         Ok(text) => Ok(text),
         Err(_) => Err(NoMemory { back: pairs }),
     }
-}
-
-// The pairs in order.
-fn sort_pairs(mut pairs: Pairs) -> Pairs
-    ensures { text_pairs result.items ≡ sorted_pairs (text_pairs pairs.items) }
-{
-    pairs.sort_unstable();
-    pairs
 }
