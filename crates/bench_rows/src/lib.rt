@@ -10,6 +10,8 @@ mod one_signer;
 #[cfg(test)]
 mod program_tests;
 #[cfg(test)]
+mod request_tests;
+#[cfg(test)]
 mod waiting;
 #[cfg(test)]
 mod worked_service;

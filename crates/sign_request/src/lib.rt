@@ -4,8 +4,6 @@
 
 mod decode;
 mod fields;
-#[cfg(test)]
-mod flood_tests;
 mod head_view;
 mod header_keys;
 mod headers;
@@ -19,8 +17,6 @@ mod refusal;
 mod request;
 mod sort;
 mod target;
-#[cfg(test)]
-mod tests;
 mod text;
 
 pub use head_view::{HeadView, ViewRefusal};

@@ -1,5 +1,5 @@
 //! Words that name a command, and words that name none.
-use super::{ROOM, run_words};
+use super::{ROOM, ends_as, run_words};
 use sign_base::{MemorySink, MemorySource};
 use signctl_core::{HeaderKeys, Status, run_program};
 use std::alloc::{AllocError, Global};
@@ -44,9 +44,12 @@ type Answer = (&'static str, &'static str, u8);
 
 fn is_answered(rt: &impl Abort, alloc: Global, line: &str, expected: Answer) {
     let (output, errors, exit) = answer(alloc, line).expect(rt, "memory");
-    assert_eq!(rt; output.written(), expected.0.as_bytes(), "{line}");
-    assert_eq!(rt; errors.written(), expected.1.as_bytes(), "{line}");
-    assert_eq!(rt; exit, expected.2, "{line}");
+    let (on_output, on_errors, status) = expected;
+    assert_eq!(rt;
+        (output.written(), errors.written(), exit),
+        (on_output.as_bytes(), on_errors.as_bytes(), status),
+        "{line}"
+    );
 }
 
 /// The words behind the program's name are answered, on both streams and by the exit status.
@@ -86,19 +89,19 @@ static OTHER_WORDS: [&str; 16] = [
     "loads|1",
 ];
 
-/// Whether the words name no command, and nothing is written.
-fn is_no_command(rt: &impl Abort, alloc: Global, line: &str) {
-    let words: Vec<&str> = line.split('|').collect(alloc).expect(rt, "memory");
-    let mut source = source(alloc).expect(rt, "memory");
-    let mut sink = MemorySink::new(alloc, ROOM).expect(rt, "memory");
-    let status = run_words(alloc, words.as_slice(), &mut source, &mut sink);
-    assert_eq!(rt; status.expect(rt, "memory"), Status::Usage, "{line}");
-    assert_eq!(rt; sink.written(), b"".as_slice(), "{line}");
+/// What words are answered, and how the run ends. None where memory is lacking.
+fn answer_to_words(alloc: Global, line: &str) -> Option<(MemorySink, Status)> {
+    let words: Vec<&str> = line.split('|').collect(alloc).ok()?;
+    let mut source = source(alloc).ok()?;
+    let mut sink = MemorySink::new(alloc, ROOM).ok()?;
+    let status = run_words(alloc, words.as_slice(), &mut source, &mut sink).ok()?;
+    Some((sink, status))
 }
 
 #[test]
 fn other_words_are_no_command(rt: HostRuntime) {
     for line in &OTHER_WORDS {
-        is_no_command(&rt, rt.alloc(), *line);
+        let (sink, status) = answer_to_words(rt.alloc(), *line).expect(&rt, "memory");
+        ends_as(&rt, (sink.written(), status), (b"", Status::Usage), line);
     }
 }

@@ -50,8 +50,10 @@ fn newlines_are_too_many_in_pieces(rt: HostRuntime) {
 /// Remarks of 64 bytes, up to exactly the limit, and then this.
 fn remarks(alloc: Global, end: &[u8]) -> Result<Vec<u8>, AllocError> {
     let mut bytes = vec![in alloc; b'#'; INPUT_LIMIT]?;
-    for line in bytes.chunks_exact_mut(64) {
-        line[63] = b'\n';
+    for line in bytes.chunks_mut(64) {
+        if let Some(last) = line.last_mut() {
+            *last = b'\n';
+        }
     }
     bytes.extend_from_slice(end)?;
     Ok(bytes)

@@ -1,12 +1,12 @@
 //! `load`: its counts, a fault at each byte of its line, and its events on a desk of the test's own.
-ghost use Rattle.std.specs.Prelude.{◌≤◌, ◌<◌, ◌+◌, ◌*◌};
+ghost use Rattle.std.specs.Prelude.{◌≤◌, ◌<◌, ◌+◌, ◌*◌, IfOk};
 
 use super::{ROOM, ends_as, run_words};
 use sequential_signer::{Loader, Reply};
 use sign_base::{FaultySink, FaultySource, MemorySink, MemorySource};
 use sign_desk::Desk;
 use signctl_core::Status;
-use signctl_format::{Item, ScriptCredential, ScriptRule, ScriptVersion, read_line};
+use signctl_format::{Item, ScriptCredential, ScriptEvent, ScriptRule, ScriptVersion, read_line};
 use std::alloc::{AllocError, Global};
 use std::process::Abort;
 
@@ -72,6 +72,9 @@ struct Tally {
     signed: Vec<u64>,
 }
 
+/// The place of `Sign` among the counts.
+const SIGN: usize = 3;
+
 /// The place of a kind of reply among the counts.
 fn kind(reply: &Reply<ScriptCredential>) -> usize
     ensures { result < 9 }
@@ -80,7 +83,7 @@ fn kind(reply: &Reply<ScriptCredential>) -> usize
         Reply::Begun => 0,
         Reply::Pending => 1,
         Reply::Ask { .. } => 2,
-        Reply::Sign { .. } => 3,
+        Reply::Sign { .. } => SIGN,
         Reply::Done { .. } => 4,
         Reply::Refused { .. } => 5,
         Reply::Cancelled { .. } => 6,
@@ -89,17 +92,28 @@ fn kind(reply: &Reply<ScriptCredential>) -> usize
     }
 }
 
+/// The event that a line spells.
+fn event_of(alloc: Global, line: &str) -> Result<ScriptEvent, AllocError> {
+    match read_line(alloc, ScriptVersion::One, line.as_bytes()) {
+        Ok(Some(Item::Event(event))) => Ok(event),
+        _ => Err(AllocError),
+    }
+}
+
 impl Tally {
+    /// The place of the reply that the desk gives to the event of a line.
+    fn reply_kind(&mut self, line: &str) -> Result<usize, AllocError>
+        ensures { IfOk result (λ place. place < 9) }
+    {
+        let event = event_of(self.alloc, line)?;
+        Ok(kind(&self.desk.step(event.as_event())))
+    }
+
     /// Steps the desk with the event of a line about this call.
     fn step(&mut self, call: u64, line: &str) -> Result<(), AllocError> {
-        let item = read_line(self.alloc, ScriptVersion::One, line.as_bytes());
-        let Ok(Some(Item::Event(event))) = item else {
-            return Err(AllocError);
-        };
-        let reply = self.desk.step(event.as_event());
-        let kind = kind(&reply);
+        let kind = self.reply_kind(line)?;
         self.counts[kind] = self.counts[kind].saturating_add(1);
-        if matches!(reply, Reply::Sign { .. }) {
+        if kind == SIGN {
             self.signed.push(call)?;
         }
         Ok(())
