@@ -2,6 +2,8 @@
 #![tactic(auto)]
 
 #[cfg(test)]
+mod base_tests;
+#[cfg(test)]
 mod credentials_tests;
 #[cfg(test)]
 mod desk_run;

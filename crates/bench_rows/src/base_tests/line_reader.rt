@@ -2,12 +2,10 @@
 //! read after a fault.
 ghost use Rattle.std.specs.Prelude.{◌<◌};
 
-use crate::source::Failed;
-use crate::{FaultySource, LineReader, MemorySource, Next, NoMemory, Source};
+use sign_base::{Failed, FaultySource, LineReader, MemorySource, Next, NoMemory, Source};
 use std::alloc::{AllocError, Global};
 use std::process::Abort;
 use std::str;
-use std::test::Fail;
 
 /// Adds an answer to a text: a short line itself, a longer one as its number of bytes, each with a
 /// bar behind it; or why there is no line.
@@ -54,10 +52,8 @@ fn reads_as(rt: &impl Abort, alloc: Global, input: Vec<u8>, piece: usize, text: 
     requires { 0 < piece }
 {
     let mut source = FaultySource::new(input, piece, Vec::new(alloc));
-    match answers(alloc, &mut source) {
-        Ok((answers, _)) => assert_eq!(rt; answers.as_str(), text, "in pieces of {piece}"),
-        Err(_) => assert!(rt; false, "memory"),
-    }
+    let (answers, _) = answers(alloc, &mut source).expect(rt, "memory");
+    assert_eq!(rt; answers.as_str(), text, "in pieces of {piece}");
 }
 
 /// So many equal bytes, and then these.
@@ -67,7 +63,7 @@ fn repeated(alloc: Global, byte: u8, count: usize, end: &[u8]) -> Result<Vec<u8>
     Ok(bytes)
 }
 
-const SHORT_INPUTS: [(&[u8], &str); 7] = [
+static SHORT_INPUTS: [(&[u8], &str); 7] = [
     (b"", "end|end"),
     (b"\n", "|end|end"),
     (b"a", "a|end|end"),
@@ -78,17 +74,16 @@ const SHORT_INPUTS: [(&[u8], &str); 7] = [
 ];
 
 #[test]
-fn lines_end_at_newlines_and_at_the_end(rt: HostRuntime) -> Result<(), Fail> {
-    let alloc = rt.alloc();
+fn lines_end_at_newlines_and_at_the_end(rt: HostRuntime) {
     for (input, text) in &SHORT_INPUTS {
         for piece in [1, 2, 3, 4_096] {
-            reads_as(&rt, alloc, Vec::from_slice(alloc, *input)?, piece, *text);
+            let input = Vec::from_slice(rt.alloc(), *input).expect(&rt, "memory");
+            reads_as(&rt, rt.alloc(), input, piece, *text);
         }
     }
-    Ok(())
 }
 
-const LONG_LINES: [(usize, &[u8], &str); 6] = [
+static LONG_LINES: [(usize, &[u8], &str); 6] = [
     (65_536, b"\n", "65536|end|end"),
     (65_536, b"", "65536|end|end"),
     (65_536, b"\nab\n", "65536|ab|end|end"),
@@ -98,15 +93,13 @@ const LONG_LINES: [(usize, &[u8], &str); 6] = [
 ];
 
 #[test]
-fn lines_have_at_most_65_536_bytes(rt: HostRuntime) -> Result<(), Fail> {
-    let alloc = rt.alloc();
+fn lines_have_at_most_65_536_bytes(rt: HostRuntime) {
     for (count, end, text) in &LONG_LINES {
         for piece in [1, 4_096, 1_000_000] {
-            let input = repeated(alloc, b'x', *count, *end)?;
-            reads_as(&rt, alloc, input, piece, *text);
+            let input = repeated(rt.alloc(), b'x', *count, *end).expect(&rt, "memory");
+            reads_as(&rt, rt.alloc(), input, piece, *text);
         }
     }
-    Ok(())
 }
 
 /// The number and the byte of a line of equal bytes.
@@ -133,49 +126,47 @@ fn lines_of_letters(alloc: Global) -> Result<Vec<u8>, AllocError> {
 }
 
 #[test]
-fn lines_keep_their_bytes_as_the_buffer_moves(rt: HostRuntime) -> Result<(), Fail> {
-    let alloc = rt.alloc();
-    let mut source = FaultySource::new(lines_of_letters(alloc)?, 4_099, Vec::new(alloc));
-    let mut reader = LineReader::new(alloc).map_err(|_| "memory")?;
+fn lines_keep_their_bytes_as_the_buffer_moves(rt: HostRuntime) {
+    let input = lines_of_letters(rt.alloc()).expect(&rt, "memory");
+    let mut source = FaultySource::new(input, 4_099, Vec::new(rt.alloc()));
+    let mut reader = LineReader::new(rt.alloc()).expect(&rt, "memory");
     for letter in b'a'..=b'z' {
-        assert_eq!(rt;
-            equal_bytes(reader.next(&mut source)),
-            Some((30_000, letter))
-        );
+        let answer = equal_bytes(reader.next(&mut source));
+        assert_eq!(rt; answer, Some((30_000, letter)));
     }
     assert_eq!(rt; reader.taken(), 26 * 30_001);
-    Ok(())
 }
 
+/// Two short lines, a byte at a time, whose fifth read fails, and then the seventh.
+fn with_two_faults(alloc: Global) -> Option<FaultySource> {
+    let input = Vec::from_slice(alloc, b"ab\ncdef\n").ok()?;
+    let fails = Vec::from_array(alloc, [4, 6]).ok()?;
+    Some(FaultySource::new(input, 1, fails))
+}
+
+/// The fifth read fails inside the second line. Were there one more, the seventh would be next.
 #[test]
-fn nothing_is_read_after_a_fault(rt: HostRuntime) -> Result<(), Fail> {
-    let alloc = rt.alloc();
-    // The fifth read fails, inside the second line. Were there one more, the seventh would be next.
-    let input = Vec::from_slice(alloc, b"ab\ncdef\n")?;
-    let mut source = FaultySource::new(input, 1, Vec::from_array(alloc, [4, 6])?);
-    let Ok((text, taken)) = answers(alloc, &mut source) else {
-        return Err(Fail::from("memory"));
-    };
+fn nothing_is_read_after_a_fault(rt: HostRuntime) {
+    let mut source = with_two_faults(rt.alloc()).expect(&rt, "memory");
+    let (text, taken) = answers(rt.alloc(), &mut source).expect(&rt, "memory");
     assert_eq!(rt; (text.as_str(), taken), ("ab|fault|fault", 4));
     let mut buf = [0];
     assert_eq!(rt; (source.read(&mut buf), buf[0]), (Ok(1), b'd'));
     assert_eq!(rt; source.read(&mut buf), Err(Failed));
-    Ok(())
 }
 
 #[test]
-fn a_read_is_needed_only_for_what_is_not_whole(rt: HostRuntime) -> Result<(), Fail> {
-    let alloc = rt.alloc();
-    let mut source = MemorySource::new(Vec::from_slice(alloc, b"a\nb\nc")?);
-    let mut reader = LineReader::new(alloc).map_err(|_| "memory")?;
-    let mut text = String::new(alloc);
+fn a_read_is_needed_only_for_what_is_not_whole(rt: HostRuntime) {
+    let input = Vec::from_slice(rt.alloc(), b"a\nb\nc").expect(&rt, "memory");
+    let mut source = MemorySource::new(input);
+    let mut reader = LineReader::new(rt.alloc()).expect(&rt, "memory");
+    let mut text = String::new(rt.alloc());
     for (needed, taken) in [(true, 5), (false, 5), (true, 5), (false, 5)] {
         assert_eq!(rt; reader.needs_read(), needed);
-        push_answer(&mut text, reader.next(&mut source))?;
+        push_answer(&mut text, reader.next(&mut source)).expect(&rt, "memory");
         assert_eq!(rt; reader.taken(), taken);
     }
     assert_eq!(rt; text.as_str(), "a|b|c|end");
-    Ok(())
 }
 
 /// Lines of 65,535 bytes, each with its newline, of 67,108,864 bytes in all, and then these.
@@ -187,23 +178,19 @@ fn longest_input(alloc: Global, end: &[u8]) -> Result<Vec<u8>, AllocError> {
     Ok(input)
 }
 
-const ENDS: [(&[u8], &str); 3] = [
+static ENDS: [(&[u8], &str); 3] = [
     (b"", "end|end"),
     (b"\n", "too much|too much"),
     (b"x", "too much|too much"),
 ];
 
 #[test]
-fn an_input_has_at_most_67_108_864_bytes(rt: HostRuntime) -> Result<(), Fail> {
-    let alloc = rt.alloc();
+fn an_input_has_at_most_67_108_864_bytes(rt: HostRuntime) {
     for (more, text) in &ENDS {
-        let input = longest_input(alloc, *more)?;
-        let mut source = FaultySource::new(input, 131_072, Vec::new(alloc));
-        let Ok((answers, _)) = answers(alloc, &mut source) else {
-            return Err(Fail::from("memory"));
-        };
+        let input = longest_input(rt.alloc(), *more).expect(&rt, "memory");
+        let mut source = FaultySource::new(input, 131_072, Vec::new(rt.alloc()));
+        let (answers, _) = answers(rt.alloc(), &mut source).expect(&rt, "memory");
         assert_eq!(rt; answers.as_str().matches("65535|").count(), 1_024);
         assert!(rt; answers.as_str().ends_with(*text));
     }
-    Ok(())
 }

@@ -1,10 +1,8 @@
 //! The system's clock, reader and writer where they fail: the last reading stands, and nothing is
 //! tried again.
-use crate::source::Failed;
-use crate::{Clock, Sink, Source, StdSink, StdSource, SystemClock};
+use sign_base::{Clock, Failed, Sink, Source, StdSink, StdSource, SystemClock};
 use std::cell::Cell;
 use std::io::{Read, Write};
-use std::test::Fail;
 use std::time::Duration;
 use std::{io, time};
 
