@@ -1,10 +1,13 @@
 //! Names of headers that were picked to collide, in a map with keys.
+//!
+//! What a flood of them may cost is measured against as many ordinary names of the same length.
 use http::header::HeaderMap;
 use sign_base::{Field, Fields, Head, Octets, Version};
 use sign_request::{HeaderKeys, commit_keyed, parts_of_keyed};
 use std::alloc::Global;
 use std::hash::{DefaultHasher, Hasher, RandomState};
 use std::test::Fail;
+use std::time::{Duration, Instant};
 
 // So many names collide under the quick hash, which makes a map change to the other one.
 const QUICK: u32 = 600;
@@ -67,13 +70,34 @@ fn colliding_fields(alloc: Global) -> Result<Fields, Fail> {
     Ok(fields)
 }
 
-fn colliding_head(alloc: Global) -> Result<Head, Fail> {
+// As many names, at random.
+fn ordinary_fields(alloc: Global) -> Result<Fields, Fail> {
+    let mut fields = Fields::new(alloc);
+    let mut number = 1u32;
+    for _ in 0..NAMES {
+        number = number.wrapping_mul(1_664_525).wrapping_add(1_013_904_223);
+        let name = Octets::from_slice(alloc, &name_of(number))?;
+        let value = Octets::from_slice(alloc, b"")?;
+        fields.push(Field { name, value })?;
+    }
+    Ok(fields)
+}
+
+fn head_with(alloc: Global, headers: Fields) -> Result<Head, Fail> {
     Ok(Head {
         method: Octets::from_slice(alloc, b"GET")?,
         uri: Octets::from_slice(alloc, b"/")?,
         version: Version::V11,
-        headers: colliding_fields(alloc)?,
+        headers,
     })
+}
+
+fn colliding_head(alloc: Global) -> Result<Head, Fail> {
+    head_with(alloc, colliding_fields(alloc)?)
+}
+
+fn ordinary_head(alloc: Global) -> Result<Head, Fail> {
+    head_with(alloc, ordinary_fields(alloc)?)
 }
 
 // Whether each name is found, again and again.
@@ -98,4 +122,39 @@ fn names_that_collide_are_found_at_once(rt: HostRuntime) {
     commit_keyed(alloc, &mut parts, &head, keys).expect(&rt, "a head");
     assert!(rt; are_found(&parts.headers));
     assert_eq!(rt; parts.headers.keys_len(), 24_000);
+}
+
+// The head crosses four times, and is committed once.
+fn cross(alloc: Global, head: &Head, keys: HeaderKeys) -> Option<()> {
+    for _ in 0..3 {
+        parts_of_keyed(alloc, head, keys).ok()?;
+    }
+    let mut parts = parts_of_keyed(alloc, head, keys).ok()?;
+    commit_keyed(alloc, &mut parts, head, keys).ok()
+}
+
+// The least time of five that crossing takes.
+fn least_time(rt: &HostRuntime, head: &Head, keys: HeaderKeys) -> Duration {
+    let mut least = Duration::MAX;
+    for _ in 0..5 {
+        let start = Instant::now(rt).expect(rt, "a clock");
+        cross(rt.alloc(), head, keys).expect(rt, "a head");
+        least = least.min(start.elapsed(rt).expect(rt, "a clock"));
+    }
+    least
+}
+
+// They take half as long again; in a map without keys it is some hundred times as long.
+#[test]
+fn names_that_collide_take_at_most_three_times_as_long(rt: HostRuntime) {
+    let alloc = rt.alloc();
+    let keys = HeaderKeys::new(RandomState::new(&rt).expect(&rt, "keys"));
+    let colliding = colliding_head(alloc).ok().expect(&rt, "memory");
+    let ordinary = ordinary_head(alloc).ok().expect(&rt, "memory");
+    let flood = least_time(&rt, &colliding, keys);
+    let usual = least_time(&rt, &ordinary, keys);
+    assert!(rt;
+        flood / 3 <= usual,
+        "{flood:?} where names collide, {usual:?} where not"
+    );
 }
