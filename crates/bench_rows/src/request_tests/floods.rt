@@ -113,15 +113,16 @@ fn are_found(headers: &HeaderMap) -> bool {
 
 // Without keys the looks take minutes, and a test has one.
 #[test]
-fn names_that_collide_are_found_at_once(rt: HostRuntime) {
+fn names_that_collide_are_found_at_once(rt: HostRuntime) -> Result<(), Fail> {
     let alloc = rt.alloc();
     let keys = HeaderKeys::new(RandomState::new(&rt).expect(&rt, "keys"));
-    let head = colliding_head(alloc).ok().expect(&rt, "memory");
+    let head = colliding_head(alloc)?;
     let mut parts = parts_of_keyed(alloc, &head, keys).expect(&rt, "a head");
     assert!(rt; are_found(&parts.headers));
     commit_keyed(alloc, &mut parts, &head, keys).expect(&rt, "a head");
     assert!(rt; are_found(&parts.headers));
     assert_eq!(rt; parts.headers.keys_len(), 24_000);
+    Ok(())
 }
 
 // The head crosses four times, and is committed once.
@@ -134,27 +135,28 @@ fn cross(alloc: Global, head: &Head, keys: HeaderKeys) -> Option<()> {
 }
 
 // The least time of five that crossing takes.
-fn least_time(rt: &HostRuntime, head: &Head, keys: HeaderKeys) -> Duration {
+fn least_time(rt: &HostRuntime, head: &Head, keys: HeaderKeys) -> Result<Duration, Fail> {
     let mut least = Duration::MAX;
     for _ in 0..5 {
-        let start = Instant::now(rt).expect(rt, "a clock");
-        cross(rt.alloc(), head, keys).expect(rt, "a head");
-        least = least.min(start.elapsed(rt).expect(rt, "a clock"));
+        let start = Instant::now(rt)?;
+        cross(rt.alloc(), head, keys).ok_or("a head that crosses")?;
+        least = least.min(start.elapsed(rt)?);
     }
-    least
+    Ok(least)
 }
 
 // They take half as long again; in a map without keys it is some hundred times as long.
 #[test]
-fn names_that_collide_take_at_most_three_times_as_long(rt: HostRuntime) {
+fn names_that_collide_take_at_most_three_times_as_long(rt: HostRuntime) -> Result<(), Fail> {
     let alloc = rt.alloc();
     let keys = HeaderKeys::new(RandomState::new(&rt).expect(&rt, "keys"));
-    let colliding = colliding_head(alloc).ok().expect(&rt, "memory");
-    let ordinary = ordinary_head(alloc).ok().expect(&rt, "memory");
-    let flood = least_time(&rt, &colliding, keys);
-    let usual = least_time(&rt, &ordinary, keys);
+    let colliding = colliding_head(alloc)?;
+    let ordinary = ordinary_head(alloc)?;
+    let flood = least_time(&rt, &colliding, keys)?;
+    let usual = least_time(&rt, &ordinary, keys)?;
     assert!(rt;
         flood / 3 <= usual,
         "{flood:?} where names collide, {usual:?} where not"
     );
+    Ok(())
 }
