@@ -4,6 +4,8 @@
 #[cfg(test)]
 mod base_tests;
 #[cfg(test)]
+mod calls;
+#[cfg(test)]
 mod credentials_tests;
 #[cfg(test)]
 mod desk_run;
@@ -13,6 +15,8 @@ mod one_signer;
 mod program_tests;
 #[cfg(test)]
 mod request_tests;
+#[cfg(test)]
+mod signer_calls;
 #[cfg(test)]
 mod waiting;
 #[cfg(test)]

@@ -1,18 +1,21 @@
-//! What the author of a service signer writes: a credential, two providers in a chain, and a service.
-//! docs/GUIDE.md walks through this file.
-ghost use Rattle.std.specs.Prelude.{◌≡◌, ◌≢◌, true, ⊤};
+//! What the author of a service signer writes: a credential, two providers in a chain, and a service; and
+//! how calls are signed with these. docs/GUIDE.md walks through this file.
+ghost use Rattle.std.specs.Prelude.{◌≡◌, ◌≢◌, true, ⊤, length, IfOk};
 ghost use Rattle.bench_rows.specs.Usable.{is_before};
 ghost use Rattle.credentials.specs.declared.polled.Polled.{Polled};
 ghost use Rattle.credentials.specs.Deadline.{operation_end};
 
+use crate::calls::{CallAnswer, CallPoll, Calls};
 use credentials::{
     Context, DeadlineRule, FileRead, NoopCommandExecute, NoopHttpSend, Polled, ProvideCredential,
-    ProvideCredentialChain, SignRequest, SigningCredential, StaticEnv, operation_end,
+    ProvideCredentialChain, Providers, SignRequest, SigningCredential, StaticEnv, operation_end,
 };
 use hmac_core::hash;
+use http::request::Parts;
 use sign_base::{
     Error, ErrorKind, Field, Fields, Head, NoMemory, Octets, Redact, Timestamp, Version,
 };
+use sign_desk::Signer;
 use sign_request::{SigningRequest, parts_of};
 use std::alloc::Global;
 use std::collections::HashMap;
@@ -212,7 +215,9 @@ impl ProvideCredential for KeyProvider {
 fn environment_then_file(
     alloc: Global,
     path: &'static str,
-) -> Result<ProvideCredentialChain<KeyProvider>, NoMemory<()>> {
+) -> Result<ProvideCredentialChain<KeyProvider>, NoMemory<()>>
+    ensures { IfOk result (λ chain. length chain ≡ 2) }
+{
     let mut providers = Vec::with_capacity(alloc, 2)?;
     providers.push_reserved(KeyProvider::Environment);
     providers.push_reserved(KeyProvider::File(path));
@@ -378,6 +383,24 @@ fn key_context(alloc: Global) -> KeyContext {
     Context::new().with_env(env).with_file_read(file)
 }
 
+/// The calls of a signer with the chain and the service.
+fn key_calls(
+    alloc: Global,
+    path: &'static str,
+) -> Result<Calls<KeyProvider, HeaderHmac>, NoMemory<()>> {
+    let chain = Providers::Chain(environment_then_file(alloc, path)?);
+    match Signer::new(alloc, key_context(alloc), chain, HeaderHmac) {
+        Ok(signer) => Ok(Calls::new(alloc, signer)),
+        Err(_) => Err(NoMemory { back: () }),
+    }
+}
+
+/// A request to be signed.
+fn request(alloc: Global) -> Result<Parts, Error> {
+    let head = head(alloc, "https://example.com/a%2Fb?y=2&x=1")?;
+    parts_of(alloc, &head)
+}
+
 /// The header of `https://example.com/a%2Fb?y=2&x=1`, as another implementation of HMAC-SHA256 has it.
 const SIGNED_BY_ME: &str =
     "HMAC me:e359a741623dc63f085e2aa8af69a333a750346530903cdce9ff1a89a0f82f94";
@@ -427,5 +450,59 @@ fn the_chain_goes_on_to_the_file(rt: HostRuntime) -> Result<(), Fail> {
         Polled::Ready(Some(key)) => assert_eq!(rt; key.id.as_str(), "me"),
         _ => return Err(Fail::from("the file has a key")),
     }
+    Ok(())
+}
+
+/// Eight calls on an empty cache. The first asks the file, and the others wait for its load. Then one is
+/// given up, and each that is woken is polled.
+#[test]
+fn eight_calls_wait_for_one_load(rt: HostRuntime) -> Result<(), Fail> {
+    let alloc = rt.alloc();
+    let now = Timestamp::from_second(alloc, 5)?;
+    let mut calls = key_calls(alloc, "/keys").map_err(|_| "memory")?;
+    let mut reqs = Vec::new(alloc);
+    for _ in 0..8 {
+        let mut req = request(alloc)?;
+        let call = calls.begin(alloc, 0, &req, None)?;
+        let polled = calls.poll(call, &mut req, now).ok_or("a call")?;
+        assert!(rt; matches!(polled.answer, CallAnswer::Pending));
+        reqs.push(req)?;
+    }
+    assert!(rt; calls.cancel(3).is_none());
+    let mut turn = Some(0);
+    for _ in 0..7 {
+        let call = turn.ok_or("a call is woken")?;
+        let req = reqs.get_mut(call).ok_or("a request for each call")?;
+        let CallPoll { answer, wake } = calls.poll(call, req, now).ok_or("a call")?;
+        assert!(rt; matches!(answer, CallAnswer::Done));
+        let signed = req.headers.get("authorization").ok_or("a header")?;
+        assert_eq!(rt; signed.as_bytes(), SIGNED_BY_ME.as_bytes());
+        turn = wake.map(|call| call.number as usize);
+    }
+    assert!(rt; turn.is_none());
+    Ok(())
+}
+
+/// Where no provider has a key, the call is refused, and the refusal becomes an error.
+#[test]
+fn a_refusal_becomes_an_error(rt: HostRuntime) -> Result<(), Fail> {
+    let alloc = rt.alloc();
+    let now = Timestamp::from_second(alloc, 5)?;
+    let mut calls = key_calls(alloc, "/no/keys").map_err(|_| "memory")?;
+    let mut req = request(alloc)?;
+    let call = calls.begin(alloc, 0, &req, None)?;
+    let polled = calls.poll(call, &mut req, now).ok_or("a call")?;
+    assert!(rt; matches!(polled.answer, CallAnswer::Pending));
+    let polled = calls.poll(call, &mut req, now).ok_or("a call")?;
+    let CallAnswer::Refused(why) = polled.answer else {
+        return Err(Fail::from("there is no key"));
+    };
+    let error = why
+        .into_error(alloc, AccessKey::NAME)
+        .map_err(|_| "memory")?;
+    assert_eq!(rt;
+        format!(in alloc; "{error}")?.as_str(),
+        "failed to load signing credential"
+    );
     Ok(())
 }

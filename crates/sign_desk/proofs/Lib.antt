@@ -31,3 +31,4 @@ pub mod Underway
 pub mod SignerObjectsAt
 pub mod SignerSetup
 pub mod SignerBegins
+pub mod CallsOfSigner

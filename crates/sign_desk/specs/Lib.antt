@@ -34,5 +34,6 @@ pub mod StepReply
 pub mod Target
 pub mod Driving
 pub mod SignerCalls
+pub mod CallsOf
 pub mod RefusalText
 pub mod RefusalError
