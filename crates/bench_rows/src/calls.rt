@@ -52,11 +52,39 @@ pub(crate) enum CallAnswer {
     OutOfMemory,
 }
 
-/// The answer of a poll, and the call to poll next.
+/// The answer of a poll, and the number of the call that has its turn by it.
 #[derive(Debug, Drop)]
 pub(crate) struct CallPoll {
     pub(crate) answer: CallAnswer,
-    pub(crate) wake: Option<CallId>,
+    pub(crate) wake: Option<usize>,
+}
+
+impl CallAnswer {
+    /// The error of a call that was refused, which names this type of credentials.
+    pub(crate) fn into_error(self, alloc: Global, name: &str) -> Option<Error> {
+        match self {
+            CallAnswer::Refused(why) => why.into_error(alloc, name).ok(),
+            _ => None,
+        }
+    }
+}
+
+impl CallPoll {
+    /// Whether the call has to wait, and nobody is woken.
+    fn is_waiting(&self) -> bool {
+        match self.answer {
+            CallAnswer::Pending => self.wake.is_none(),
+            _ => false,
+        }
+    }
+
+    /// Whether the call is over.
+    fn is_over(&self) -> bool {
+        match self.answer {
+            CallAnswer::Done | CallAnswer::Refused(_) => true,
+            CallAnswer::Pending | CallAnswer::OutOfMemory => false,
+        }
+    }
 }
 
 impl<P, S> Calls<P, S>
@@ -105,24 +133,71 @@ where
         let SignPoll { answer, wake } = self.signer.poll(sign, req, now);
         let (answer, state) = parts_of_answer(answer);
         put(&mut self.states, number, state);
-        Some(CallPoll { answer, wake })
+        Some(CallPoll {
+            answer,
+            wake: number_of(wake),
+        })
     }
 
-    /// Gives the call of this number up, and names the call to poll next.
-    pub(crate) fn cancel(&mut self, number: usize) -> Option<CallId> {
+    /// Polls the call of this number, and tells whether it has to wait and nobody is woken.
+    pub(crate) fn waits(&mut self, number: usize, req: &mut Parts, now: Timestamp) -> bool {
+        match self.poll(number, req, now) {
+            Some(polled) => polled.is_waiting(),
+            None => false,
+        }
+    }
+
+    /// Polls the call of this number until it is over, four times at the most.
+    pub(crate) fn finish(
+        &mut self,
+        number: usize,
+        req: &mut Parts,
+        now: Timestamp,
+    ) -> Option<CallPoll> {
+        for _ in 0..4 {
+            let polled = self.poll(number, req, now)?;
+            if polled.is_over() {
+                return Some(polled);
+            }
+        }
+        None
+    }
+
+    /// Gives the call of this number up, and returns the number of the call that has its turn by this.
+    pub(crate) fn cancel(&mut self, number: usize) -> Option<usize> {
         let sign = taken(&mut self.states, number)?;
-        self.signer.cancel(sign)
+        number_of(self.signer.cancel(sign))
     }
+}
 
-    /// The signer, which shows its desk.
-    pub(crate) fn signer(&self) -> &Signer<P, S> {
-        &self.signer
+/// The number of a call, which is its place.
+fn number_of(call: Option<CallId>) -> Option<usize> {
+    match call {
+        Some(call) => Some(call.number as usize),
+        None => None,
     }
+}
 
-    /// The state of the call of this number, where it is not over.
-    pub(crate) fn state(&self, number: usize) -> Option<&Sign<P, S>> {
-        self.states.get(number)?.as_ref()
-    }
+/// Signs one request with a signer that has begun no call. None where the call is not begun, or does not
+/// end.
+pub(crate) fn signed<P, S>(
+    alloc: Global,
+    signer: Signer<P, S>,
+    req: &mut Parts,
+    now: Timestamp,
+) -> Option<CallAnswer>
+where
+    P: ProvideCredential,
+    P::Credential: SigningCredential,
+    S: SignRequest<Credential = P::Credential, Ctx = P::Ctx>,
+    requires { signer.begun ≡ 0 }
+{
+    let mut calls = Calls::new(alloc, signer);
+    let Ok(number) = calls.begin(alloc, 0, req, None) else {
+        return None;
+    };
+    let over = calls.finish(number, req, now)?;
+    Some(over.answer)
 }
 
 /// The state of the call of this number, which leaves none at its place.

@@ -2,18 +2,20 @@
 //!
 //! Two things are not tried, since no caller can bring them about. The state of a call that was cancelled
 //! cannot be polled: `cancel` takes it. And call numbers are used up after 2^64 - 1 calls only.
+ghost use Rattle.std.specs.Prelude.{◌≡◌, IfSome};
 ghost use Rattle.sign_desk.specs.SignerInvariant.{AreFew};
 
-use crate::calls::{CallAnswer, CallPoll, Calls};
-use credentials::{ProvideCredentialChain, Providers, SigningCredential};
+use crate::calls::{CallAnswer, CallPoll, Calls, signed};
+use credentials::{
+    ProvideCredential, ProvideCredentialChain, Providers, SignRequest, SigningCredential,
+};
 use http::request::Parts;
 use sign_base::{Error, ErrorKind, Field, Fields, Head, Octets, Timestamp, Version};
 use sign_desk::{Refusal, SignAnswer, SignPoll, Signer};
 use sign_request::parts_of;
 use std::alloc::Global;
-use std::fmt::Write;
+use std::fmt::{self, Write};
 use std::test::Fail;
-use wake_lock::CallId;
 
 mod objects;
 
@@ -50,17 +52,34 @@ fn text_of(alloc: Global, req: &Parts) -> Result<String, Fail> {
     Ok(format!(in alloc; "{method} {uri} {version:?} {headers:?}")?)
 }
 
-/// The calls of a signer with these providers and this service.
-fn calls_of(
+/// A signer with these providers and this service.
+fn signer_of(
     alloc: Global,
     providers: Providers<Source>,
     stamp: Stamp,
-) -> Result<Calls<Source, Stamp>, Fail>
+) -> Option<Signer<Source, Stamp>>
+    requires { AreFew providers }
+    ensures { IfSome result (λ signer. signer.begun ≡ 0) }
+{
+    Signer::new(alloc, Loads::new(), providers, stamp).ok()
+}
+
+/// What a signer with these answers for one request.
+fn answer_by(
+    alloc: Global,
+    providers: Providers<Source>,
+    stamp: Stamp,
+    req: &mut Parts,
+) -> Result<CallAnswer, Fail>
     requires { AreFew providers }
 {
-    match Signer::new(alloc, Loads::new(), providers, stamp) {
-        Ok(signer) => Ok(Calls::new(alloc, signer)),
-        Err(_) => Err(Fail::from("memory")),
+    let now = Timestamp::from_second(alloc, 5)?;
+    let Some(signer) = signer_of(alloc, providers, stamp) else {
+        return Err(Fail::from("memory"));
+    };
+    match signed(alloc, signer, req, now) {
+        Some(answer) => Ok(answer),
+        None => Err(Fail::from("the call ends")),
     }
 }
 
@@ -68,7 +87,6 @@ fn calls_of(
 #[test]
 fn a_service_that_is_refused_changes_nothing(rt: HostRuntime) -> Result<(), Fail> {
     let alloc = rt.alloc();
-    let now = Timestamp::from_second(alloc, 5)?;
     for (stamp, refused, after) in [
         (
             Stamp::Header,
@@ -89,33 +107,12 @@ fn a_service_that_is_refused_changes_nothing(rt: HostRuntime) -> Result<(), Fail
             UNSIGNED,
         ),
     ] {
-        let mut calls = calls_of(alloc, Providers::Single(Source::Finds), stamp)?;
         let mut req = request(alloc)?;
-        let call = calls.begin(alloc, 0, &req, None)?;
-        let answer = answer_of(&mut calls, call, &mut req, now)?;
+        let answer = answer_by(alloc, Providers::Single(Source::Finds), stamp, &mut req)?;
         assert_eq!(rt; kind_of(answer)?, refused);
         assert_eq!(rt; text_of(alloc, &req)?.as_str(), after);
     }
     Ok(())
-}
-
-/// Polls the call until it is over.
-fn answer_of(
-    calls: &mut Calls<Source, Stamp>,
-    call: usize,
-    req: &mut Parts,
-    now: Timestamp,
-) -> Result<CallAnswer, Fail> {
-    for _ in 0..4 {
-        match calls.poll(call, req, now) {
-            Some(CallPoll { answer, .. }) => match answer {
-                CallAnswer::Pending | CallAnswer::OutOfMemory => {}
-                over => return Ok(over),
-            },
-            None => return Err(Fail::from("the call is there")),
-        }
-    }
-    Err(Fail::from("the call ends"))
 }
 
 /// The kind of the service's error, where it is refused.
@@ -127,24 +124,77 @@ fn kind_of(answer: CallAnswer) -> Result<Option<ErrorKind>, Fail> {
     }
 }
 
+/// A chain that finds no key refuses a call with the signer's error, and a provider that fails with its own.
+#[test]
+fn refusals_become_errors(rt: HostRuntime) -> Result<(), Fail> {
+    let alloc = rt.alloc();
+    let mut providers = Vec::with_capacity(alloc, 2)?;
+    providers.push_reserved(Source::Fails);
+    providers.push_reserved(Source::FindsNone);
+    let chain = Providers::Chain(ProvideCredentialChain::from_vec(providers));
+    let mut req = request(alloc)?;
+    let answer = answer_by(alloc, chain, Stamp::Header, &mut req)?;
+    assert_eq!(rt;
+        error_text(alloc, answer)?.as_str(),
+        "CredentialInvalid failed to load signing credential [\"credential_type: Key\"]"
+    );
+    let single = Providers::Single(Source::Fails);
+    let answer = answer_by(alloc, single, Stamp::Header, &mut req)?;
+    assert_eq!(rt;
+        error_text(alloc, answer)?.as_str(),
+        "RateLimited injected refresh failure [\"refresh_generation: 1\"]"
+    );
+    Ok(())
+}
+
+/// The error of a call that was refused.
+fn error_text(alloc: Global, answer: CallAnswer) -> Result<String, Fail> {
+    let error = answer.into_error(alloc, Key::NAME).ok_or("an error")?;
+    let kind = error.kind();
+    let context = error.context();
+    Ok(format!(in alloc; "{kind:?} {error} {context:?}")?)
+}
+
 /// What there was no memory for is kept: the load is begun once, and so is the work.
 #[test]
 fn a_poll_without_memory_is_repeated(rt: HostRuntime) -> Result<(), Fail> {
     let alloc = rt.alloc();
-    let now = Timestamp::from_second(alloc, 5)?;
     let single = Providers::Single(Source::FindsWithoutMemory);
-    let mut calls = calls_of(alloc, single, Stamp::HeaderWithoutMemory)?;
+    let Some(signer) = signer_of(alloc, single, Stamp::HeaderWithoutMemory) else {
+        return Err(Fail::from("memory"));
+    };
+    let mut calls = Calls::new(alloc, signer);
+    let polls = three_polls(alloc, &mut calls)?;
+    assert_eq!(rt;
+        polls.as_str(),
+        "out of memory, out of memory, done with load 1"
+    );
+    Ok(())
+}
+
+/// What the first three polls of a call answer.
+fn three_polls(alloc: Global, calls: &mut Calls<Source, Stamp>) -> Result<String, Fail> {
+    let now = Timestamp::from_second(alloc, 5)?;
     let mut req = request(alloc)?;
     let call = calls.begin(alloc, 0, &req, None)?;
-    for _ in 0..2 {
-        let polled = calls.poll(call, &mut req, now).ok_or("the call is there")?;
-        assert!(rt; matches!(polled.answer, CallAnswer::OutOfMemory));
-        assert_eq!(rt; text_of(alloc, &req)?.as_str(), UNSIGNED);
+    let mut text = String::new(alloc);
+    for _ in 0..3 {
+        match calls.poll(call, &mut req, now) {
+            Some(CallPoll { answer, .. }) => text.push_str(word_of(answer))?,
+            None => return Err(Fail::from("the call is there")),
+        }
     }
-    let polled = calls.poll(call, &mut req, now).ok_or("the call is there")?;
-    assert!(rt; matches!(polled.answer, CallAnswer::Done));
-    assert_eq!(rt; load_of(alloc, &req)?.as_str(), "1");
-    Ok(())
+    text.push_str(load_of(alloc, &req)?.as_str())?;
+    Ok(text)
+}
+
+fn word_of(answer: CallAnswer) -> &'static str {
+    match answer {
+        CallAnswer::Pending => "pending, ",
+        CallAnswer::Done => "done with load ",
+        CallAnswer::Refused(_) => "refused, ",
+        CallAnswer::OutOfMemory => "out of memory, ",
+    }
 }
 
 /// The number of the load whose key signed the request.
@@ -168,42 +218,61 @@ fn eight_calls_sign_with_one_load(rt: HostRuntime) -> Result<(), Fail> {
             None,
             "0:refused 1:2 2:2 3:2 4:2 5:2 6:2 7:2 ",
         ),
+        (
+            Source::Fails,
+            Some(3),
+            "0:refused 1:refused 2:refused 4:refused 5:refused 6:refused 7:refused ",
+        ),
     ] {
-        assert_eq!(rt;
-            served_calls(rt.alloc(), source, given_up)?.as_str(),
-            served
-        );
+        let single = Providers::Single(source);
+        let Some(signer) = signer_of(rt.alloc(), single, Stamp::Header) else {
+            return Err(Fail::from("memory"));
+        };
+        let mut calls = Calls::new(rt.alloc(), signer);
+        let text = served_calls(rt.alloc(), &mut calls, given_up)?;
+        assert_eq!(rt; text.as_str(), served);
     }
     Ok(())
 }
 
 /// Begins eight calls and polls each once, gives one up, and polls the others when it is their turn. Tells
 /// for each, in the order in which they end, the load whose key signed it.
-fn served_calls(alloc: Global, source: Source, given_up: Option<usize>) -> Result<String, Fail> {
+fn served_calls(
+    alloc: Global,
+    calls: &mut Calls<Source, Stamp>,
+    given_up: Option<usize>,
+) -> Result<String, Fail> {
     let now = Timestamp::from_second(alloc, 5)?;
-    let mut calls = calls_of(alloc, Providers::Single(source), Stamp::Header)?;
-    let mut reqs = begun_requests(alloc, &mut calls, now)?;
+    let mut reqs = begun_requests(alloc, calls, now)?;
     let mut turn = Some(0);
     if let Some(call) = given_up {
         let woken = calls.cancel(call);
-        turn = turn.filter(|first| *first != call).or(number_of(woken));
+        if call == 0 {
+            turn = woken;
+        }
     }
     let mut text = String::new(alloc);
-    for _ in 0..16 {
+    for _ in 0..8 {
         let Some(call) = turn else {
             return Ok(text);
         };
         let req = reqs.get_mut(call).ok_or("a request for each call")?;
-        let CallPoll { answer, wake } = calls.poll(call, req, now).ok_or("the call is there")?;
-        let told = match answer {
-            CallAnswer::Done => load_of(alloc, req)?,
-            CallAnswer::Refused(_) => String::from_str(alloc, "refused")?,
-            _ => continue,
+        let Some(CallPoll { answer, wake }) = calls.finish(call, req, now) else {
+            return Err(Fail::from("the call ends"));
         };
+        let told = end_of(alloc, answer, req)?;
         write!(text, "{call}:{told} ")?;
-        turn = number_of(wake);
+        turn = wake;
     }
-    Err(Fail::from("each call ends"))
+    Ok(text)
+}
+
+/// The load whose key signed the request of a call that is over, or that the call was refused.
+fn end_of(alloc: Global, answer: CallAnswer, req: &Parts) -> Result<String, Fail> {
+    match answer {
+        CallAnswer::Done => load_of(alloc, req),
+        _ => Ok(String::from_str(alloc, "refused")?),
+    }
 }
 
 /// Begins eight calls and polls each once, which finds that it has to wait.
@@ -216,60 +285,12 @@ fn begun_requests(
     for _ in 0..8 {
         let mut req = request(alloc)?;
         let call = calls.begin(alloc, 0, &req, None)?;
-        match calls.poll(call, &mut req, now) {
-            Some(
-                CallPoll {
-                    answer: CallAnswer::Pending,
-                    wake: None,
-                },
-            ) => reqs.push(req)?,
-            _ => return Err(Fail::from("the call waits")),
+        if !calls.waits(call, &mut req, now) {
+            return Err(Fail::from("the call waits"));
         }
+        reqs.push(req)?;
     }
     Ok(reqs)
-}
-
-fn number_of(call: Option<CallId>) -> Option<usize> {
-    call.map(|call| call.number as usize)
-}
-
-/// A provider that fails refuses each call with its own error, and a chain that finds none with the
-/// signer's.
-#[test]
-fn refusals_become_errors(rt: HostRuntime) -> Result<(), Fail> {
-    let alloc = rt.alloc();
-    let mut providers = Vec::with_capacity(alloc, 2)?;
-    providers.push_reserved(Source::Fails);
-    providers.push_reserved(Source::FindsNone);
-    let chain = Providers::Chain(ProvideCredentialChain::from_vec(providers));
-    assert_eq!(rt;
-        error_text(alloc, calls_of(alloc, chain, Stamp::Header)?)?.as_str(),
-        "CredentialInvalid failed to load signing credential [\"credential_type: Key\"]"
-    );
-    let single = Providers::Single(Source::Fails);
-    assert_eq!(rt;
-        error_text(alloc, calls_of(alloc, single, Stamp::Header)?)?.as_str(),
-        "RateLimited injected refresh failure [\"refresh_generation: 1\"]"
-    );
-    Ok(())
-}
-
-/// The error of the second of two calls, each of which is refused.
-fn error_text(alloc: Global, mut calls: Calls<Source, Stamp>) -> Result<String, Fail> {
-    let now = Timestamp::from_second(alloc, 5)?;
-    let mut req = request(alloc)?;
-    let first = calls.begin(alloc, 0, &req, None)?;
-    let second = calls.begin(alloc, 0, &req, None)?;
-    let CallAnswer::Refused(_) = answer_of(&mut calls, first, &mut req, now)? else {
-        return Err(Fail::from("the first call is refused"));
-    };
-    let CallAnswer::Refused(why) = answer_of(&mut calls, second, &mut req, now)? else {
-        return Err(Fail::from("the second call is refused"));
-    };
-    let error = why.into_error(alloc, Key::NAME).map_err(|_| "memory")?;
-    let kind = error.kind();
-    let context = error.context();
-    Ok(format!(in alloc; "{kind:?} {error} {context:?}")?)
 }
 
 /// No debug form of a signer, of a call's state or of an answer shows a credential or a header, and no error
@@ -277,42 +298,102 @@ fn error_text(alloc: Global, mut calls: Calls<Source, Stamp>) -> Result<String, 
 #[test]
 fn no_text_shows_a_secret(rt: HostRuntime) -> Result<(), Fail> {
     let alloc = rt.alloc();
-    let now = Timestamp::from_second(alloc, 5)?;
+    let mut req = request(alloc)?;
     let single = Providers::Single(Source::Finds);
-    let Ok(mut signer) = Signer::new(alloc, Loads::new(), single, Stamp::HeaderLater) else {
+    let Some(signer) = signer_of(alloc, single, Stamp::HeaderLater) else {
         return Err(Fail::from("memory"));
     };
-    let mut req = request(alloc)?;
-    let sign = signer.sign(0, &req, None)?;
-    let SignPoll { answer, .. } = signer.poll(sign, &mut req, now);
-    let SignAnswer::Pending(loading) = answer else {
-        return Err(Fail::from("the provider is not ready"));
-    };
-    let signing = signer.poll(loading, &mut req, now);
-    assert!(rt; signer.desk().cached(0).is_some());
-    let shown = format!(in alloc; "{signer:?} {signing:?} {signing:#?}")?;
-    assert!(rt; hides_the_secret(shown.as_str()), "{shown}");
+    let shown = shown_signer(alloc, signer, &mut req);
+    let Shown {
+        poll,
+        signer,
+        has_credential,
+    } = shown;
+    let poll = poll?;
+    let signer = signer?;
+    assert!(rt;
+        has_credential && poll.as_str().contains("Pending"),
+        "{poll}"
+    );
+    assert!(rt; !poll.as_str().contains("5551234"), "{poll}");
+    assert!(rt; !signer.as_str().contains("5551234"), "{signer}");
     for stamp in [Stamp::SpaceInUri, Stamp::NewlineInHeader] {
-        let refused = refused_by(alloc, stamp)?;
-        assert!(rt; hides_the_secret(refused.as_str()), "{refused}");
+        let answer = answer_by(alloc, Providers::Single(Source::Finds), stamp, &mut req)?;
+        let shown = shown_refusal(alloc, answer)?;
+        assert!(rt; !shown.as_str().contains("5551234"), "{shown}");
     }
     Ok(())
 }
 
-fn hides_the_secret(text: &str) -> bool {
-    !text.contains("5551234")
+/// What shows the second poll of a call, and what shows the signer then.
+struct Shown {
+    poll: Result<String, Error>,
+    signer: Result<String, Error>,
+    has_credential: bool,
 }
 
-/// What shows the refusal of a call by this service.
-fn refused_by(alloc: Global, stamp: Stamp) -> Result<String, Fail> {
+fn shown_signer<P, S>(alloc: Global, mut signer: Signer<P, S>, req: &mut Parts) -> Shown
+where
+    P: ProvideCredential,
+    P::Credential: SigningCredential,
+    S: SignRequest<Credential = P::Credential, Ctx = P::Ctx>,
+{
+    Shown {
+        poll: shown_poll(alloc, &mut signer, req),
+        signer: debug_forms(alloc, &signer),
+        has_credential: signer.desk().cached(0).is_some(),
+    }
+}
+
+fn shown_poll<P, S>(
+    alloc: Global,
+    signer: &mut Signer<P, S>,
+    req: &mut Parts,
+) -> Result<String, Error>
+where
+    P: ProvideCredential,
+    P::Credential: SigningCredential,
+    S: SignRequest<Credential = P::Credential, Ctx = P::Ctx>,
+{
     let now = Timestamp::from_second(alloc, 5)?;
-    let mut calls = calls_of(alloc, Providers::Single(Source::Finds), stamp)?;
-    let mut req = request(alloc)?;
-    let call = calls.begin(alloc, 0, &req, None)?;
-    let CallAnswer::Refused(why) = answer_of(&mut calls, call, &mut req, now)? else {
-        return Err(Fail::from("the service is refused"));
-    };
-    let debug = format!(in alloc; "{why:?} {why:#?}")?;
-    let error = why.into_error(alloc, Key::NAME).map_err(|_| "memory")?;
-    Ok(format!(in alloc; "{debug} {error} {error:?}")?)
+    let polled = second_poll(alloc, signer, req, now)?;
+    debug_forms(alloc, &polled)
+}
+
+/// A debug form in one line and one in several.
+fn debug_forms<T: fmt::Debug>(alloc: Global, value: &T) -> Result<String, Error> {
+    match format!(in alloc; "{value:?} {value:#?}") {
+        Ok(text) => Ok(text),
+        Err(_) => Err(Error::out_of_memory()),
+    }
+}
+
+/// Begins a call and polls it twice.
+fn second_poll<P, S>(
+    alloc: Global,
+    signer: &mut Signer<P, S>,
+    req: &mut Parts,
+    now: Timestamp,
+) -> Result<SignPoll<P, S>, Error>
+where
+    P: ProvideCredential,
+    P::Credential: SigningCredential,
+    S: SignRequest<Credential = P::Credential, Ctx = P::Ctx>,
+{
+    if signer.desk().handles() == 0 {
+        return Err(Error::request_invalid(alloc, "no handle")?);
+    }
+    let sign = signer.sign(0, req, None)?;
+    let SignPoll { answer, wake } = signer.poll(sign, req, now);
+    match answer {
+        SignAnswer::Pending(loading) => Ok(signer.poll(loading, req, now)),
+        answer => Ok(SignPoll { answer, wake }),
+    }
+}
+
+/// What shows a refusal and its error.
+fn shown_refusal(alloc: Global, answer: CallAnswer) -> Result<String, Fail> {
+    let shown = format!(in alloc; "{answer:?} {answer:#?}")?;
+    let error = answer.into_error(alloc, Key::NAME).ok_or("an error")?;
+    Ok(format!(in alloc; "{shown} {error} {error:?}")?)
 }

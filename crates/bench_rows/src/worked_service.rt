@@ -5,7 +5,7 @@ ghost use Rattle.bench_rows.specs.Usable.{is_before};
 ghost use Rattle.credentials.specs.declared.polled.Polled.{Polled};
 ghost use Rattle.credentials.specs.Deadline.{operation_end};
 
-use crate::calls::{CallAnswer, CallPoll, Calls};
+use crate::calls::{CallAnswer, CallPoll, Calls, signed};
 use credentials::{
     Context, DeadlineRule, FileRead, NoopCommandExecute, NoopHttpSend, Polled, ProvideCredential,
     ProvideCredentialChain, Providers, SignRequest, SigningCredential, StaticEnv, operation_end,
@@ -383,14 +383,16 @@ fn key_context(alloc: Global) -> KeyContext {
     Context::new().with_env(env).with_file_read(file)
 }
 
-/// The calls of a signer with the chain and the service.
-fn key_calls(
+/// A signer with the chain and the service.
+fn key_signer(
     alloc: Global,
     path: &'static str,
-) -> Result<Calls<KeyProvider, HeaderHmac>, NoMemory<()>> {
+) -> Result<Signer<KeyProvider, HeaderHmac>, NoMemory<()>>
+    ensures { IfOk result (λ signer. signer.begun ≡ 0) }
+{
     let chain = Providers::Chain(environment_then_file(alloc, path)?);
     match Signer::new(alloc, key_context(alloc), chain, HeaderHmac) {
-        Ok(signer) => Ok(Calls::new(alloc, signer)),
+        Ok(signer) => Ok(signer),
         Err(_) => Err(NoMemory { back: () }),
     }
 }
@@ -453,34 +455,64 @@ fn the_chain_goes_on_to_the_file(rt: HostRuntime) -> Result<(), Fail> {
     Ok(())
 }
 
-/// Eight calls on an empty cache. The first asks the file, and the others wait for its load. Then one is
-/// given up, and each that is woken is polled.
+/// Eight calls on an empty cache. The first asks the file, and the others wait for its load. One is given
+/// up, and each that is woken is polled and is signed.
 #[test]
 fn eight_calls_wait_for_one_load(rt: HostRuntime) -> Result<(), Fail> {
     let alloc = rt.alloc();
+    let signer = key_signer(alloc, "/keys").map_err(|_| "memory")?;
+    let mut calls = Calls::new(alloc, signer);
+    serve_eight(alloc, &mut calls)
+}
+
+fn serve_eight(alloc: Global, calls: &mut Calls<KeyProvider, HeaderHmac>) -> Result<(), Fail> {
     let now = Timestamp::from_second(alloc, 5)?;
-    let mut calls = key_calls(alloc, "/keys").map_err(|_| "memory")?;
-    let mut reqs = Vec::new(alloc);
-    for _ in 0..8 {
-        let mut req = request(alloc)?;
-        let call = calls.begin(alloc, 0, &req, None)?;
-        let polled = calls.poll(call, &mut req, now).ok_or("a call")?;
-        assert!(rt; matches!(polled.answer, CallAnswer::Pending));
-        reqs.push(req)?;
+    let mut reqs = waiting_requests(alloc, calls, now)?;
+    if calls.cancel(3).is_some() {
+        return Err(Fail::from("nobody waits for a call that waits"));
     }
-    assert!(rt; calls.cancel(3).is_none());
     let mut turn = Some(0);
     for _ in 0..7 {
         let call = turn.ok_or("a call is woken")?;
         let req = reqs.get_mut(call).ok_or("a request for each call")?;
-        let CallPoll { answer, wake } = calls.poll(call, req, now).ok_or("a call")?;
-        assert!(rt; matches!(answer, CallAnswer::Done));
-        let signed = req.headers.get("authorization").ok_or("a header")?;
-        assert_eq!(rt; signed.as_bytes(), SIGNED_BY_ME.as_bytes());
-        turn = wake.map(|call| call.number as usize);
+        let Some(CallPoll { answer, wake }) = calls.poll(call, req, now) else {
+            return Err(Fail::from("the call is there"));
+        };
+        if !is_signed(answer, req) {
+            return Err(Fail::from("the request is signed"));
+        }
+        turn = wake;
     }
-    assert!(rt; turn.is_none());
-    Ok(())
+    match turn {
+        None => Ok(()),
+        Some(_) => Err(Fail::from("nobody is left")),
+    }
+}
+
+/// Begins eight calls and polls each once, which finds that it has to wait.
+fn waiting_requests(
+    alloc: Global,
+    calls: &mut Calls<KeyProvider, HeaderHmac>,
+    now: Timestamp,
+) -> Result<Vec<Parts>, Fail> {
+    let mut reqs = Vec::new(alloc);
+    for _ in 0..8 {
+        let mut req = request(alloc)?;
+        let call = calls.begin(alloc, 0, &req, None)?;
+        if !calls.waits(call, &mut req, now) {
+            return Err(Fail::from("the call waits"));
+        }
+        reqs.push(req)?;
+    }
+    Ok(reqs)
+}
+
+/// Whether the call is done, and the request has the header.
+fn is_signed(answer: CallAnswer, req: &Parts) -> bool {
+    match (answer, req.headers.get("authorization")) {
+        (CallAnswer::Done, Some(value)) => value.as_bytes() == SIGNED_BY_ME.as_bytes(),
+        _ => false,
+    }
 }
 
 /// Where no provider has a key, the call is refused, and the refusal becomes an error.
@@ -488,21 +520,11 @@ fn eight_calls_wait_for_one_load(rt: HostRuntime) -> Result<(), Fail> {
 fn a_refusal_becomes_an_error(rt: HostRuntime) -> Result<(), Fail> {
     let alloc = rt.alloc();
     let now = Timestamp::from_second(alloc, 5)?;
-    let mut calls = key_calls(alloc, "/no/keys").map_err(|_| "memory")?;
     let mut req = request(alloc)?;
-    let call = calls.begin(alloc, 0, &req, None)?;
-    let polled = calls.poll(call, &mut req, now).ok_or("a call")?;
-    assert!(rt; matches!(polled.answer, CallAnswer::Pending));
-    let polled = calls.poll(call, &mut req, now).ok_or("a call")?;
-    let CallAnswer::Refused(why) = polled.answer else {
-        return Err(Fail::from("there is no key"));
-    };
-    let error = why
-        .into_error(alloc, AccessKey::NAME)
-        .map_err(|_| "memory")?;
-    assert_eq!(rt;
-        format!(in alloc; "{error}")?.as_str(),
-        "failed to load signing credential"
-    );
+    let signer = key_signer(alloc, "/no/keys").map_err(|_| "memory")?;
+    let answer = signed(alloc, signer, &mut req, now).ok_or("the call ends")?;
+    let error = answer.into_error(alloc, AccessKey::NAME).ok_or("an error")?;
+    let text = format!(in alloc; "{error}")?;
+    assert_eq!(rt; text.as_str(), "failed to load signing credential");
     Ok(())
 }
