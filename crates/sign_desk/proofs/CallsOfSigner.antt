@@ -1,5 +1,5 @@
 -- Calls that are kept by their numbers stay those of their signer, whatever is done with one of them.
-use Rattle.std.proofs.Common.{◌≡◌, ◌<◌, ◌+◌, ◌⊎◌, ℕ, zero, suc, Bool, true, false, List, [], ◌∷◌, ◌++◌, length, Option, Some, None, slice_get, slice_set, ◌≢◌, inl, inr, refl, sym, ◌∙◌, ap, subst, arith}
+use Rattle.std.proofs.Common.{◌≡◌, ◌<◌, ◌+◌, ◌⊎◌, ℕ, zero, suc, true, false, List, [], ◌∷◌, ◌++◌, length, Option, Some, None, slice_get, slice_set, ◌≢◌, inl, inr, refl, sym, ◌∙◌, ap, subst, arith}
 use Rattle.std.proofs.Math.Dec.{eqb}
 use Rattle.std.proofs.lemmas.Bool.Decides.{eqb_tells}
 use Rattle.std.proofs.lemmas.List.{length-append, length-set}
@@ -50,10 +50,12 @@ module _ {P S K C L W : Type 0} (m : Meanings P S K C L W) where
           → (other.begun.id.number ≡ n) × IsMadeBy m new other
       by_place n other (inl h) =
           let was = all.at n other h in
-          let below : n < length calls = slice_get_within calls n (Some other) h in
-          (was.0, b.others other (λ same.
-              let e : n ≡ length calls = sym was.0 ∙ ap (λ (c : CallId). c.number) same ∙ b.number ∙ sym all.begun in
-              absurd (omega arith)) was.1)
+          let below : n < length calls = slice_get_within calls n (Some other) h in (
+            was.0,
+            b.others other (λ same.
+                let e : n ≡ length calls = sym was.0 ∙ ap (λ (c : CallId). c.number) same ∙ b.number ∙ sym all.begun in
+                absurd (omega arith)) was.1,
+          )
       by_place n other (inr h) =
           let same : sign ≡ other = cc in
           subst (λ (x : Sign P S K C L C W K). (x.begun.id.number ≡ n) × IsMadeBy m new x) same (b.number ∙ sym all.begun ∙ sym h.0, b.made)
