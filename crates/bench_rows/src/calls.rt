@@ -1,6 +1,6 @@
 //! A signer with the calls that it has begun. It keeps their states, so that a call is polled by its
 //! number, and whoever polls it has nothing to prove.
-ghost use Rattle.std.specs.Prelude.{◌≡◌, ◌<◌, ℕ, length, Some, None, IfSome, slice_get, slice_set};
+ghost use Rattle.std.specs.Prelude.{◌≡◌, ◌<◌, IfSome, slice_get, slice_set};
 ghost use Rattle.std.specs.Vec.{vec_len};
 ghost use Rattle.sign_desk.specs.CallsOf.{state_back};
 

@@ -2,7 +2,7 @@
 //!
 //! Two things are not tried, since no caller can bring them about. The state of a call that was cancelled
 //! cannot be polled: `cancel` takes it. And call numbers are used up after 2^64 - 1 calls only.
-ghost use Rattle.std.specs.Prelude.{◌≡◌, IfSome};
+ghost use Rattle.std.specs.Prelude.{◌≡◌, ◌<◌, length, IfSome, IsTrue};
 ghost use Rattle.sign_desk.specs.SignerInvariant.{AreFew};
 
 use crate::calls::{CallAnswer, CallPoll, Calls, signed};
@@ -11,7 +11,7 @@ use credentials::{
 };
 use http::request::Parts;
 use sign_base::{Error, ErrorKind, Field, Fields, Head, Octets, Timestamp, Version};
-use sign_desk::{Refusal, SignAnswer, SignPoll, Signer};
+use sign_desk::{AddError, AddRefused, Refusal, SignAnswer, SignPoll, Signer};
 use sign_request::parts_of;
 use std::alloc::Global;
 use std::fmt::{self, Write};
@@ -291,6 +291,93 @@ fn begun_requests(
         reqs.push(req)?;
     }
     Ok(reqs)
+}
+
+/// Handles are added until the first call is begun.
+#[test]
+fn handles_are_added_before_the_first_call(rt: HostRuntime) -> Result<(), Fail> {
+    let alloc = rt.alloc();
+    let req = request(alloc)?;
+    let Some(signer) = signer_of(alloc, Providers::Single(Source::Finds), Stamp::Header) else {
+        return Err(Fail::from("memory"));
+    };
+    let Added {
+        before,
+        is_begun,
+        after,
+    } = added_handles(signer, &req);
+    assert_eq!(rt; before, [Ok(1), Ok(2), Ok(3)]);
+    assert!(rt; is_begun);
+    assert_eq!(rt; after, [Err(AddError::Late); 3]);
+    Ok(())
+}
+
+/// What adding answers before a call is begun and after it.
+struct Added {
+    before: [Result<u32, AddError>; 3],
+    is_begun: bool,
+    after: [Result<u32, AddError>; 3],
+}
+
+fn added_handles(mut signer: Signer<Source, Stamp>, req: &Parts) -> Added {
+    Added {
+        before: add_each(&mut signer, Loads::new(), Stamp::Header, Source::Finds),
+        is_begun: is_begun(&mut signer, req),
+        after: add_each(&mut signer, Loads::new(), Stamp::Header, Source::Finds),
+    }
+}
+
+/// Adds a handle with another context, one with another service and one with another provider.
+fn add_each<P, S>(
+    signer: &mut Signer<P, S>,
+    ctx: P::Ctx,
+    service: S,
+    provider: P,
+) -> [Result<u32, AddError>; 3]
+where
+    P: ProvideCredential,
+    P::Credential: SigningCredential,
+    S: SignRequest<Credential = P::Credential, Ctx = P::Ctx>,
+{
+    let mut answers = [Err(AddError::OutOfMemory); 3];
+    if has_handle_and_room(signer) {
+        answers[0] = number_or_cause(signer.with_context(0, ctx));
+    }
+    if has_handle_and_room(signer) {
+        answers[1] = number_or_cause(signer.with_request_signer(0, service));
+    }
+    if has_handle_and_room(signer) {
+        let single = Providers::Single(provider);
+        answers[2] = number_or_cause(signer.with_credential_provider(0, single));
+    }
+    answers
+}
+
+fn has_handle_and_room<P, S>(signer: &Signer<P, S>) -> bool
+where
+    P: ProvideCredential,
+    P::Credential: SigningCredential,
+    S: SignRequest<Credential = P::Credential, Ctx = P::Ctx>,
+    ensures { IsTrue result → (0 < length signer.now.desk.handles) × (length signer.now.desk.handles < 4294967295) }
+{
+    let handles = signer.desk().handles();
+    0 < handles && handles < u32::MAX
+}
+
+fn number_or_cause<T: Drop>(added: Result<u32, AddRefused<T>>) -> Result<u32, AddError> {
+    match added {
+        Ok(number) => Ok(number),
+        Err(refused) => Err(refused.why),
+    }
+}
+
+fn is_begun<P, S>(signer: &mut Signer<P, S>, req: &Parts) -> bool
+where
+    P: ProvideCredential,
+    P::Credential: SigningCredential,
+    S: SignRequest<Credential = P::Credential, Ctx = P::Ctx>,
+{
+    has_handle_and_room(signer) && signer.sign(0, req, None).is_ok()
 }
 
 /// No debug form of a signer, of a call's state or of an answer shows a credential or a header, and no error
