@@ -147,17 +147,23 @@ where
         }
     }
 
-    /// Polls the call of this number until it is over, four times at the most.
+    /// Polls the call of this number until it is over, four times at the most. One of the polls may name the
+    /// call that has its turn, and it need not be the last.
     pub(crate) fn finish(
         &mut self,
         number: usize,
         req: &mut Parts,
         now: Timestamp,
     ) -> Option<CallPoll> {
+        let mut wake = None;
         for _ in 0..4 {
             let polled = self.poll(number, req, now)?;
+            wake = wake.or(polled.wake);
             if polled.is_over() {
-                return Some(polled);
+                return Some(CallPoll {
+                    answer: polled.answer,
+                    wake,
+                });
             }
         }
         None

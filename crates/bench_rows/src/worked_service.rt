@@ -475,8 +475,8 @@ fn serve_eight(alloc: Global, calls: &mut Calls<KeyProvider, HeaderHmac>) -> Res
     for _ in 0..7 {
         let call = turn.ok_or("a call is woken")?;
         let req = reqs.get_mut(call).ok_or("a request for each call")?;
-        let Some(CallPoll { answer, wake }) = calls.poll(call, req, now) else {
-            return Err(Fail::from("the call is there"));
+        let Some(CallPoll { answer, wake }) = calls.finish(call, req, now) else {
+            return Err(Fail::from("the call ends"));
         };
         if !is_signed(answer, req) {
             return Err(Fail::from("the request is signed"));
