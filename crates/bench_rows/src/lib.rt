@@ -2,19 +2,11 @@
 #![tactic(auto)]
 
 #[cfg(test)]
-mod base_tests;
-#[cfg(test)]
 mod calls;
-#[cfg(test)]
-mod credentials_tests;
 #[cfg(test)]
 mod desk_run;
 #[cfg(test)]
 mod one_signer;
-#[cfg(test)]
-mod program_tests;
-#[cfg(test)]
-mod request_tests;
 #[cfg(test)]
 mod signer_calls;
 #[cfg(test)]
