@@ -9,6 +9,7 @@ pub mod Run
 pub mod NewNumbers
 pub mod CallInvariant
 pub mod CallInvariantSteps
+pub mod BegunCalls
 pub mod CacheLaw
 pub mod CacheRows
 pub mod HandedOut

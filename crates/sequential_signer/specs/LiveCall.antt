@@ -1,8 +1,8 @@
 -- What a transcript says of the calls that are live, and of the numbers that were begun.
-use Rattle.std.specs.Prelude.{ℕ, List, [], ◌∷◌, Option, Some, None, if◌then◌else◌, length, max, Bool, true, nat_lt}
+use Rattle.std.specs.Prelude.{ℕ, List, [], ◌∷◌, Option, Some, None, if◌then◌else◌, length, max, Bool, true, nat_lt, filter, map}
 use Rattle.wake_lock.specs.declared.CallId.{CallId}
 use Rattle.sequential_signer.specs.Transcript.{call_of}
-use Rattle.sequential_signer.specs.Phase.{Phase, Unknown, Ended, phase_of, is_begin_under}
+use Rattle.sequential_signer.specs.Phase.{Phase, Unknown, Ended, phase_of, is_begun, is_begin_under, is_live}
 use Rattle.sequential_signer.specs.Hold.{BeginInput, begin_of, answers_of}
 use Rattle.sequential_signer.specs.declared.event.Entry.{Entry}
 
@@ -44,3 +44,11 @@ greatest_begun handle (e ∷ rest) =
 abbrev pub is_above : ℕ → Option ℕ → Bool
 is_above n None = true
 is_above n (Some m) = nat_lt m n
+
+-- the calls that were begun, in order
+unfoldable pub begun_calls : {K : Type 0} → List (Entry K) → List CallId
+begun_calls entries = map (λ e. call_of e.event) (filter (λ e. is_begun e.reply) entries)
+
+-- the calls that were begun and are not over
+abbrev pub live_calls : {K : Type 0} → List (Entry K) → List CallId
+live_calls entries = filter (λ call. is_live (phase_of entries call)) (begun_calls entries)

@@ -3,7 +3,6 @@ pub mod ChangedAt
 pub mod Leaves
 pub mod CallMap
 pub mod Views
-pub mod BegunCalls
 pub mod QueueLaw
 pub mod LoadsFew
 pub mod Refine

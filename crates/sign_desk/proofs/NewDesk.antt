@@ -12,7 +12,8 @@ use Rattle.sequential_signer.specs.Legal.{IsLegal}
 use Rattle.sequential_signer.specs.LiveCall.{live_call, greatest_begun}
 use Rattle.sequential_signer.specs.declared.event.Loader.{Loader}
 use Rattle.sign_desk.specs.Queue.{Queue}
-use Rattle.sign_desk.specs.TranscriptQueue.{begun_calls, live_calls, queue_of}
+use Rattle.sequential_signer.specs.LiveCall.{begun_calls, live_calls}
+use Rattle.sign_desk.specs.TranscriptQueue.{queue_of}
 use Rattle.sign_desk.specs.DeskState.{DeskState, setup_of, live_view, was_begun, Represents}
 use Rattle.sign_desk.specs.Adding.{with_cache, with_rule, with_handle}
 

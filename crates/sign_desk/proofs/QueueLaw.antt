@@ -20,7 +20,7 @@ use Rattle.sequential_signer.proofs.CacheLaw.{order_of_cache, list_all-member}
 use Rattle.sequential_signer.proofs.Queue.{queue-leaves, finished_same}
 use Rattle.sign_desk.specs.Queue.{Queue, with_last, without_room, without_call, with_room}
 use Rattle.sign_desk.specs.TranscriptQueue.{is_unpolled, unpolled_calls, queue_of}
-use Rattle.sign_desk.proofs.BegunCalls.{filter-agree, passing-same, passing-fewer, passing-more, passing-no_more}
+use Rattle.sequential_signer.proofs.BegunCalls.{filter-agree, begun_once, passing-same, passing-fewer, passing-more, passing-no_more}
 
 queue_is : (q : Queue) (line : List CallId) (unpolled : ℕ) → line ≡ q.line → unpolled ≡ q.unpolled → record { line = line; unpolled = unpolled } ≡ q
 queue_is q line unpolled h k = rw (h, k) refl
@@ -132,7 +132,7 @@ module _ {K D : Type 0} (policy : Policy K D) (setup : Setup D) (entries : List 
         → length (unpolled_calls setup (entries ++ e ∷ []) i) ≡ length (unpolled_calls setup entries i) - 1
     unpolled-fewer b there passes fails =
         let fewer : length (unpolled_calls setup entries i) ≡ length (unpolled_calls setup (entries ++ e ∷ []) i) + 1 =
-        passing-fewer policy setup (at_unpolled i) entries e run b there (rw (here, passes) refl) (ap (λ v. is_of_cache setup i (call_of e.event) && v) fails ∙ and_false (is_of_cache setup i (call_of e.event))) in
+        passing-fewer policy setup (at_unpolled i) entries e (begun_once policy setup entries run) b there (rw (here, passes) refl) (ap (λ v. is_of_cache setup i (call_of e.event) && v) fails ∙ and_false (is_of_cache setup i (call_of e.event))) in
         omega (arith, fewer)
 
     -- an entry by which the queue stays

@@ -31,13 +31,14 @@ use Rattle.sequential_signer.proofs.CallInvariant.{begin-own, refused_phase, ref
 use Rattle.sequential_signer.proofs.HandedOut.{cache_elsewhere}
 use Rattle.sequential_signer.proofs.FoundCredential.{is_refresh, found_is_handed_out, others_leave, signed_found_is_cached}
 use Rattle.sign_desk.specs.Queue.{Queue, with_changed}
-use Rattle.sign_desk.specs.TranscriptQueue.{live_calls, queue_of}
+use Rattle.sequential_signer.specs.LiveCall.{live_calls}
+use Rattle.sign_desk.specs.TranscriptQueue.{queue_of}
 use Rattle.sign_desk.specs.DeskState.{DeskState, setup_of, find_call, live_view, was_begun, Represents}
 use Rattle.sign_desk.specs.Change.{ChangesOnlyCall, UnchangedBy, one_if}
 use Rattle.sign_desk.specs.CachesAfter.{CachesAfter}
 use Rattle.sign_desk.specs.declared.calls.CallRecord.{CallRecord}
 use Rattle.sign_desk.proofs.ChangedAt.{changed-same, changed-other}
-use Rattle.sign_desk.proofs.BegunCalls.{passing-same, passing-fewer}
+use Rattle.sequential_signer.proofs.BegunCalls.{passing-same, passing-fewer, begun_once}
 use Rattle.sign_desk.proofs.QueueLaw.{queue-elsewhere, queue-not_now}
 use Rattle.sign_desk.proofs.ListPlaces.{place-there}
 
@@ -311,7 +312,7 @@ module _ {K D : Type 0} (policy : Policy K D) where
         → find_call (call_of e.event) old.calls ≡ Some r
         → length (live_calls before) + 0 ≡ length (live_calls (after e)) + one_if (find_call (call_of e.event) old.calls)
     live-ended e r b begun lives ended f =
-        let fewer : length (live_calls before) ≡ length (live_calls (after e)) + 1 = passing-fewer policy setup (λ _ p. is_live p) before e ran b begun lives ended in
+        let fewer : length (live_calls before) ≡ length (live_calls (after e)) + 1 = passing-fewer policy setup (λ _ p. is_live p) before e (begun_once policy setup before ran) b begun lives ended in
         rw f (omega (arith, fewer))
 
     -- an event that does not fit changes nothing

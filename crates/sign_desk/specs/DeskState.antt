@@ -12,7 +12,8 @@ use Rattle.sequential_signer.specs.SequentialCache.{sequential_cache}
 use Rattle.sequential_signer.specs.Legal.{IsLegal}
 use Rattle.std.specs.Duration.{as_nanos}
 use Rattle.sign_desk.specs.Queue.{Queue}
-use Rattle.sign_desk.specs.TranscriptQueue.{queue_of, live_calls}
+use Rattle.sign_desk.specs.TranscriptQueue.{queue_of}
+use Rattle.sequential_signer.specs.LiveCall.{live_calls}
 use Rattle.sign_desk.specs.declared.calls.CallRecord.{CallRecord}
 use Rattle.sign_desk.specs.declared.calls.Stage.{Stage}
 use Rattle.sign_desk.specs.declared.calls.Stage.TheVariants as stage

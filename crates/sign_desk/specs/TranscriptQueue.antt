@@ -1,20 +1,12 @@
--- The queue of a cache, and the live calls, read from a transcript.
-use Rattle.std.specs.Prelude.{ℕ, Bool, true, false, ◌&&◌, List, filter, map, length}
+-- The queue of a cache, read from a transcript.
+use Rattle.std.specs.Prelude.{ℕ, Bool, true, false, ◌&&◌, List, filter, length}
 use Rattle.wake_lock.specs.declared.CallId.{CallId}
-use Rattle.sequential_signer.specs.Transcript.{call_of}
 use Rattle.sequential_signer.specs.Setup.{Setup, is_of_cache}
-use Rattle.sequential_signer.specs.Phase.{Phase, Unpolled, phase_of, is_begun, is_live}
+use Rattle.sequential_signer.specs.Phase.{Phase, Unpolled, phase_of}
+use Rattle.sequential_signer.specs.LiveCall.{begun_calls}
 use Rattle.sequential_signer.specs.Turn.{open_calls}
 use Rattle.sequential_signer.specs.declared.event.Entry.{Entry}
 use Rattle.sign_desk.specs.Queue.{Queue}
-
--- the calls that were begun, in order
-unfoldable pub begun_calls : {K : Type 0} → List (Entry K) → List CallId
-begun_calls entries = map (λ e. call_of e.event) (filter (λ e. is_begun e.reply) entries)
-
--- the calls that were begun and are not over
-abbrev pub live_calls : {K : Type 0} → List (Entry K) → List CallId
-live_calls entries = filter (λ call. is_live (phase_of entries call)) (begun_calls entries)
 
 -- begun and not polled
 abbrev pub is_unpolled : Phase → Bool

@@ -24,7 +24,7 @@ use Rattle.sequential_signer.specs.SequentialCall.{Progress, Asking, Over}
 use Rattle.sequential_signer.specs.Lookup.{HandOut, Refuse}
 use Rattle.sequential_signer.specs.ExpectedReply.{progress_reply, with_wake}
 use Rattle.sequential_signer.proofs.CallInvariant.{phase-other}
-use Rattle.sign_desk.specs.TranscriptQueue.{begun_calls}
+use Rattle.sequential_signer.specs.LiveCall.{begun_calls}
 
 once-more : (call : CallId) (xs : List CallId) → IsOnce xs → list_any (same_call call) xs ≡ false → IsOnce (xs ++ call ∷ [])
 once-more call [] o h = (refl, tt)
@@ -186,12 +186,12 @@ module _ {K D : Type 0} (policy : Policy K D) (setup : Setup D) where
         agree call false s = ap (t call) (phase-other setup entries 0 e call s)
 
     -- one fewer, where the entry's call passed and does not any more
-    pub passing-fewer : IsRun policy setup entries → is_begun e.reply ≡ false → is_some (begin_of entries (call_of e.event)) ≡ true
+    pub passing-fewer : IsOnce (begun_calls entries) → is_begun e.reply ≡ false → is_some (begin_of entries (call_of e.event)) ≡ true
         → t (call_of e.event) (phase_of entries (call_of e.event)) ≡ true → t (call_of e.event) (phase_of (entries ++ e ∷ []) (call_of e.event)) ≡ false
         → length (passing entries) ≡ length (passing (entries ++ e ∷ [])) + 1
-    passing-fewer run b there passes misses =
+    passing-fewer once b there passes misses =
         rw (begun_calls-same entries e b)
-        (filter-drops (λ call. t call (phase_of entries call)) (λ call. t call (phase_of (entries ++ e ∷ []) call)) (call_of e.event) (begun_calls entries) (begun_once entries run) (begun_there (call_of e.event) entries there) passes misses
+        (filter-drops (λ call. t call (phase_of entries call)) (λ call. t call (phase_of (entries ++ e ∷ []) call)) (call_of e.event) (begun_calls entries) once (begun_there (call_of e.event) entries there) passes misses
         (λ call s. ap (t call) (sym (phase-other setup entries 0 e call s))))
 
     new_agree : is_new_number entries (call_of e.event) ≡ true → filter (λ call. t call (phase_of (entries ++ e ∷ []) call)) (begun_calls entries) ≡ passing entries
