@@ -26,7 +26,8 @@ use Rattle.sequential_signer.specs.ExpectedReply.{progress_reply, with_wake}
 use Rattle.sequential_signer.proofs.CallInvariant.{phase-other}
 use Rattle.sequential_signer.specs.LiveCall.{begun_calls}
 
-once-more : (call : CallId) (xs : List CallId) → IsOnce xs → list_any (same_call call) xs ≡ false → IsOnce (xs ++ call ∷ [])
+-- a call that is not among calls that each stand once can follow them
+pub once-more : (call : CallId) (xs : List CallId) → IsOnce xs → list_any (same_call call) xs ≡ false → IsOnce (xs ++ call ∷ [])
 once-more call [] o h = (refl, tt)
 once-more call (x ∷ xs) o h =
     let apart : same_call x call ≡ false = same_call-comm x call ∙ or_left _ _ h in

@@ -106,3 +106,19 @@ unfolding expected_grant_reply
 granter_is_handed_the_source K D policy setup entries event source i at h =
     by_fit policy setup entries i source event at (grant_event_fits setup entries event)
     (ap (λ (o : Option ℕ). grant_reply_at policy setup entries event o) (sym at) ∙ h)
+
+module _ {K D : Type 0} (policy : Policy K D) (setup : Setup D) (entries : List (GrantEntry K)) (call : CallId) (now : ℤ) (answer : Answer K) (source : K) where
+  found_by_fit : (i : ℕ) (v : Bool) → cond v (fitting_grant_reply policy setup entries i (Provided call now answer)) NotNow ≡ Grant source → answer ≡ Found source
+  found_by_fit i true h =
+      let g = hands_out (load_at policy setup entries i call (answer, now)) source h in
+      answer_hands_out policy source g.0 (slice_get setup.loaders i) (rule_of setup call) (begin_of (as_signer entries) call) (answers_of (as_signer entries) call) answer now g.1
+  found_by_fit i false h = absurd (cc)
+
+  found_by : (o : Option ℕ) → grant_reply_at policy setup entries (Provided call now answer) o ≡ Grant source → answer ≡ Found source
+  found_by None h = absurd (cc)
+  found_by (Some i) h = found_by_fit i (grant_event_fits setup entries (Provided call now answer)) h
+
+  -- where a provider's answer hands a source to the granter, that is what the provider found
+  pub found_grant_is_handed_out : expected_grant_reply policy setup entries (Provided call now answer) ≡ Grant source → answer ≡ Found source
+  unfolding expected_grant_reply
+  found_grant_is_handed_out h = found_by (cache_of setup call) h

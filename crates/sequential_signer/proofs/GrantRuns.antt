@@ -1,5 +1,5 @@
 -- Legal transcripts of a granter: at most one for events and a choice of those that run out of memory, and one without any.
-use Rattle.std.proofs.Common.{◌≡◌, false, not, List, [], ◌∷◌, ◌++◌, refl, ◌∙◌, ap, subst, inl, IsTrue}
+use Rattle.std.proofs.Common.{◌≡◌, true, false, not, List, [], ◌∷◌, ◌++◌, refl, ◌∙◌, ap, subst, inl, IsTrue}
 use Rattle.sequential_signer.specs.Policy.{Policy}
 use Rattle.sequential_signer.specs.Setup.{Setup}
 use Rattle.sequential_signer.specs.Transcript.{is_out_of_memory}
@@ -11,7 +11,7 @@ use Rattle.sequential_signer.specs.declared.grant_event.GrantEntry.{GrantEntry}
 use Rattle.sequential_signer.specs.declared.grant_event.GrantEvent.{GrantEvent}
 use Rattle.sequential_signer.specs.declared.grant_event.GrantReply.{GrantReply}
 use Rattle.sequential_signer.specs.declared.grant_event.GrantReply.TheVariants.{OutOfMemory}
-use Rattle.sequential_signer.proofs.Lists.{filter-more_yes}
+use Rattle.sequential_signer.proofs.Lists.{filter-more_yes, filter-more_no}
 use Rattle.sequential_signer.proofs.LegalAfter.{legal_reply-same, legal_after-same, IsNext, next_entries-legal}
 use Rattle.sequential_signer.proofs.GrantReplies.{expected_grant_in_memory}
 
@@ -20,6 +20,10 @@ module _ {K : Type 0} where
   pub committed_grants-more : (entries : List (GrantEntry K)) (e : GrantEntry K) → is_out_of_memory (as_reply e.reply) ≡ false → committed_grants (entries ++ e ∷ []) ≡ committed_grants entries ++ e ∷ []
   unfolding committed_grants
   committed_grants-more entries e h = filter-more_yes (λ (x : GrantEntry K). not (is_out_of_memory (as_reply x.reply))) entries e (ap not h)
+
+  pub committed_grants-lost : (entries : List (GrantEntry K)) (e : GrantEntry K) → is_out_of_memory (as_reply e.reply) ≡ true → committed_grants (entries ++ e ∷ []) ≡ committed_grants entries
+  unfolding committed_grants
+  committed_grants-lost entries e h = filter-more_no (λ (x : GrantEntry K). not (is_out_of_memory (as_reply x.reply))) entries e (ap not h)
 
   -- where there are no entries, none are committed
   pub committed_grants-none : committed_grants {K = K} [] ≡ []

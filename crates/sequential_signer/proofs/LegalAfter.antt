@@ -18,6 +18,12 @@ module _ {E : Type 0} (committed : List E → List E) (legal : List E → E → 
       let parts = legal_split (before ++ x ∷ []) xs ys l.1 in
       ((l.0, parts.0), subst (λ v. AreLegalAfter committed legal v ys) (append_assoc before (x ∷ []) xs) parts.1)
 
+  -- what stays with each legal entry stays with all of them
+  module _ (P : List E → Type 0) (keeps : (before : List E) (e : E) → P (committed before) → legal (committed before) e → P (committed (before ++ e ∷ []))) where
+    pub legal_after-keeps : (before entries : List E) → P (committed before) → AreLegalAfter committed legal before entries → P (committed (before ++ entries))
+    legal_after-keeps before [] p l = rw (append-nil before) p
+    legal_after-keeps before (e ∷ rest) p l = rw (sym (append_assoc before (e ∷ []) rest)) (legal_after-keeps (before ++ e ∷ []) rest (keeps before e p l.0) l.1)
+
 -- an event that runs out of memory in both or in neither has one legal reply
 pub legal_reply-same : {R : Type 0} (lost : R → Bool) (expected out : R) (allocates : Type 0) → lost expected ≡ false → lost out ≡ true → (r s : R) → lost r ≡ lost s
     → (r ≡ expected) ⊎ ((r ≡ out) × allocates) → (s ≡ expected) ⊎ ((s ≡ out) × allocates) → r ≡ s

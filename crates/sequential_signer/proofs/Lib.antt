@@ -38,3 +38,10 @@ pub mod GrantSources
 pub mod GrantHandsOut
 pub mod GrantReplies
 pub mod GrantRuns
+pub mod GrantEntries
+pub mod GrantSteps
+pub mod GrantCalls
+pub mod GrantBegun
+pub mod GrantRows
+pub mod ExpectedGrants
+pub mod StoredGrantDurations

@@ -1,6 +1,5 @@
 -- A transcript as a run: one legal step after another.
 use Rattle.std.proofs.Common.{◌≡◌, true, false, not, List, [], ◌∷◌, ◌++◌, Option, refl, sym, ◌∙◌, ap, subst, inl, inr}
-use Rattle.std.proofs.lemmas.List.{append-nil, append_assoc}
 use Rattle.wake_lock.specs.declared.CallId.{CallId}
 use Rattle.sequential_signer.specs.Lookup.{HandOut, Refuse}
 use Rattle.sequential_signer.specs.Policy.{Policy}
@@ -14,7 +13,7 @@ use Rattle.sequential_signer.specs.declared.event.Event.{Event}
 use Rattle.sequential_signer.specs.declared.event.Reply.{Reply}
 use Rattle.sequential_signer.specs.declared.event.Reply.TheVariants.{Begun, Pending, NotNow, OutOfMemory, Ask, Sign, Refused, Done, Cancelled}
 use Rattle.sequential_signer.proofs.Lists.{filter-more_yes, filter-more_no}
-use Rattle.sequential_signer.proofs.LegalAfter.{legal_after-more}
+use Rattle.sequential_signer.proofs.LegalAfter.{legal_after-more, legal_after-keeps}
 use Rattle.sequential_signer.proofs.LegalStep.{LegalStep, not_now, begins, waits, pending, looks, takes_effect, accepts, fails, cancels, expected_step}
 
 module _ {K D : Type 0} where
@@ -85,8 +84,7 @@ module _ {K D : Type 0} (policy : Policy K D) (setup : Setup D) where
 
     -- what stays with each expected entry stays with each legal one
     pub after_keeps : (before rest : List (Entry K)) → P (committed_entries before) → IsLegalAfter policy setup before rest → P (committed_entries (before ++ rest))
-    after_keeps before [] p l = rw (append-nil before) p
-    after_keeps before (e ∷ rest) p l = rw (sym (append_assoc before (e ∷ []) rest)) (after_keeps (before ++ e ∷ []) rest (entry_keeps before e p l.0) l.1)
+    after_keeps before rest p l = legal_after-keeps committed_entries (IsLegalEntry policy setup) P entry_keeps before rest p l
 
     -- what holds at the start, and stays with each entry that has the expected reply, holds of the committed entries of each legal transcript
     pub legal_keeps : P [] → (entries : List (Entry K)) → IsLegal policy setup entries → P (committed_entries entries)

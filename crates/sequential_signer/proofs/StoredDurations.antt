@@ -98,7 +98,7 @@ module _ {K : Type 0} {a b : List (Entry K)} (alike : AlikeTranscripts a b) (cal
   unfolding is_served
   is_served-alike = list_any-pairwise (λ (e : Entry K). serves e.reply) (of_reply serves) entries_of-alike
 
-  phase_of-alike : phase_of a call ≡ phase_of b call
+  pub phase_of-alike : phase_of a call ≡ phase_of b call
   unfolding phase_of phase_in
   phase_of-alike =
       ap (λ waited. phase_at waited (last_of (filter (λ (e : Entry K). is_mark e.reply) (entries_of a call))))
@@ -106,19 +106,19 @@ module _ {K : Type 0} {a b : List (Entry K)} (alike : AlikeTranscripts a b) (cal
       ∙ last_of-pairwise (phase_at (list_any is_waiting_poll (entries_of b call))) (of_reply (phase_by (list_any is_waiting_poll (entries_of b call))))
       (filter-pairwise (λ (e : Entry K). is_mark e.reply) (of_reply is_mark) entries_of-alike)
 
-  is_new_number-alike : is_new_number a call ≡ is_new_number b call
+  pub is_new_number-alike : is_new_number a call ≡ is_new_number b call
   unfolding is_new_number
   is_new_number-alike =
       list_all-pairwise (λ (e : Entry K). not (is_begin_under call.handle e) || nat_lt (call_of e.event).number call.number)
       (λ x y h. rw (call_of-alike h.event, h.reply) refl) alike
 
-  begin_of-alike : begin_of a call ≡ begin_of b call
+  pub begin_of-alike : begin_of a call ≡ begin_of b call
   unfolding begin_in
   begin_of-alike =
       find-pairwise (λ (e : Entry K). is_begun e.reply) (of_reply is_begun) (option_and_then (λ (e : Entry K). begun_with e.event))
       (λ x y h. begun_with-alike h.event) entries_of-alike
 
-  answers_of-alike : answers_of a call ≡ answers_of b call
+  pub answers_of-alike : answers_of a call ≡ answers_of b call
   unfolding answers_in
   answers_of-alike =
       filter_map-pairwise (λ (e : Entry K). answer_in e.event) (λ x y h. answer_in-alike h.event)

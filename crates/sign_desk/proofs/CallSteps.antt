@@ -17,25 +17,29 @@ use Rattle.sequential_signer.specs.declared.event.Reply.TheVariants.{Refused, Ca
 use Rattle.sequential_signer.specs.declared.event.Verdict.TheVariants as verdict
 use Rattle.sequential_signer.specs.declared.event.Why.{Why}
 use Rattle.sequential_signer.specs.declared.event.Why.TheVariants as why
-use Rattle.sign_desk.specs.Queue.{line_at, is_held_line}
+use Rattle.desk_parts.specs.Queue.{line_at, is_held_line}
 use Rattle.wake_lock.specs.Calls.{is_first}
-use Rattle.sign_desk.specs.DeskState.{DeskState, find_call}
-use Rattle.sign_desk.specs.Change.{ChangesOnlyCall}
-use Rattle.sign_desk.specs.LiveCallView.{stored_view, find_view}
-use Rattle.sign_desk.specs.StepPrecondition.{StepPrecondition, HasPlaces, provider_count}
-use Rattle.sign_desk.specs.Action.{Action, Performs, as_viewed}
+use Rattle.sign_desk.specs.DeskState.{DeskState}
+use Rattle.desk_parts.specs.Tables.{find_call}
+use Rattle.desk_parts.specs.Change.{ChangesOnlyCall}
+use Rattle.desk_parts.specs.LiveCallView.{stored_view, find_view}
+use Rattle.sign_desk.specs.StepPrecondition.{StepPrecondition}
+use Rattle.desk_parts.specs.Places.{HasPlaces, provider_count}
+use Rattle.sign_desk.specs.Action.{Action, Performs}
+use Rattle.desk_parts.specs.Action.{as_viewed}
 use Rattle.sign_desk.specs.HoldAction.{Hold, first_hold, waited_hold, loading_hold, hold_action}
-use Rattle.sign_desk.specs.HoldProgress.{desk_lookup, desk_load, next_load, desk_look_input}
-use Rattle.sign_desk.specs.Transition.{Transition, poll_action, first_poll_action, later_poll_action, load_action, provided_action, with_answer, signed_action, accept_action, cancel_action, live_action}
-use Rattle.sign_desk.specs.CallAt.{record_of, IsAt, IsWaiting, IsSigning, IsAsking, HasProvider, LeavesOthers}
+use Rattle.desk_parts.specs.HoldProgress.{desk_lookup, desk_load, next_load, desk_look_input}
+use Rattle.sign_desk.specs.Transition.{Transition, poll_action, first_poll_action, later_poll_action, load_action, provided_action, signed_action, accept_action, cancel_action, live_action}
+use Rattle.desk_parts.specs.HoldProgress.{with_answer}
+use Rattle.desk_parts.specs.CallAt.{record_of, IsAt, IsWaiting, IsSigning, IsAsking, HasProvider, LeavesOthers}
 use Rattle.sign_desk.specs.CallStep.{AfterPoll, AfterFound, AfterNone, AfterAccepted, is_of_look, is_of_check}
-use Rattle.sign_desk.specs.declared.calls.CallRecord.{CallRecord}
-use Rattle.sign_desk.specs.declared.calls.Stage.{Stage}
-use Rattle.sign_desk.specs.declared.calls.Stage.TheVariants as stage
-use Rattle.sign_desk.specs.declared.sign.BegunCall.{BegunCall}
-use Rattle.sign_desk.specs.declared.state.LiveCallView.{LiveCallView}
-use Rattle.sign_desk.proofs.ListPlaces.{place-there}
-use Rattle.sign_desk.proofs.Views.{find_view-is}
+use Rattle.sign_desk.specs.Records.{CallRecord}
+use Rattle.desk_parts.specs.declared.call_record.Stage.{Stage}
+use Rattle.desk_parts.specs.declared.call_record.Stage.TheVariants as stage
+use Rattle.sign_desk.specs.Records.{BegunCall}
+use Rattle.desk_parts.specs.declared.tables.LiveCallView.{LiveCallView}
+use Rattle.desk_parts.proofs.ListPlaces.{place-there}
+use Rattle.desk_parts.proofs.Views.{find_view-is}
 
 -- a desk that differs in its caches and queues alone
 record SameCalls {K D : Type 0} (old base : DeskState K D) : Type 0 where

@@ -13,20 +13,25 @@ use Rattle.sequential_signer.specs.declared.event.Reply.{Reply}
 use Rattle.sequential_signer.specs.declared.event.Reply.TheVariants.{Begun, NotNow, OutOfMemory}
 use Rattle.sequential_signer.specs.declared.event.Verdict.{Verdict}
 use Rattle.sequential_signer.specs.declared.event.Verdict.TheVariants.{Accepted, Failed}
-use Rattle.sign_desk.specs.Queue.{is_held_line, line_at}
-use Rattle.sign_desk.specs.DeskState.{DeskState, find_call}
-use Rattle.sign_desk.specs.LiveCallView.{stored_view, find_view}
-use Rattle.sign_desk.specs.Action.{Action, Leaves, Does, Allocates, Performs}
-use Rattle.sign_desk.specs.BeginAction.{can_begin, with_begin, new_record}
-use Rattle.sign_desk.specs.HoldProgress.{desk_lookup, desk_load}
+use Rattle.desk_parts.specs.Queue.{is_held_line, line_at}
+use Rattle.sign_desk.specs.DeskState.{DeskState}
+use Rattle.desk_parts.specs.Tables.{find_call}
+use Rattle.desk_parts.specs.LiveCallView.{stored_view, find_view}
+use Rattle.sign_desk.specs.Action.{Action, Performs}
+use Rattle.desk_parts.specs.Action.{Leaves, Does, Allocates}
+use Rattle.desk_parts.specs.Begin.{can_begin, new_record}
+use Rattle.desk_parts.specs.Begin.{with_begin}
+use Rattle.desk_parts.specs.HoldProgress.{desk_lookup, desk_load}
 use Rattle.sign_desk.specs.HoldAction.{Hold, first_hold, waited_hold, loading_hold, hold_action}
-use Rattle.sign_desk.specs.Transition.{first_poll_action, later_poll_action, poll_action, load_action, provided_action, accept_action, signed_action, cancel_action, live_action, action_of, with_answer, Transition}
-use Rattle.sign_desk.specs.Cause.{Cause, DoesNotFit, MustWait, Proceeds, TakesMemory, progress_cause, poll_cause, provided_cause, signed_cause, live_cause, cause_of, IsCaused}
-use Rattle.sign_desk.specs.declared.calls.CallRecord.{CallRecord}
-use Rattle.sign_desk.specs.declared.calls.Stage.{Stage}
-use Rattle.sign_desk.specs.declared.calls.Stage.TheVariants as stage
-use Rattle.sign_desk.specs.declared.state.LiveCallView.{LiveCallView}
-use Rattle.sign_desk.proofs.Views.{find_view-no_record, find_view-no_handle, find_view-is}
+use Rattle.sign_desk.specs.Transition.{first_poll_action, later_poll_action, poll_action, load_action, provided_action, accept_action, signed_action, cancel_action, live_action, action_of, Transition}
+use Rattle.desk_parts.specs.HoldProgress.{with_answer}
+use Rattle.sign_desk.specs.Cause.{Cause, progress_cause, poll_cause, provided_cause, signed_cause, cause_of, IsCaused}
+use Rattle.desk_parts.specs.Cause.{DoesNotFit, MustWait, Proceeds, TakesMemory, live_cause}
+use Rattle.sign_desk.specs.Records.{CallRecord}
+use Rattle.desk_parts.specs.declared.call_record.Stage.{Stage}
+use Rattle.desk_parts.specs.declared.call_record.Stage.TheVariants as stage
+use Rattle.desk_parts.specs.declared.tables.LiveCallView.{LiveCallView}
+use Rattle.desk_parts.proofs.Views.{find_view-no_record, find_view-no_handle, find_view-is}
 
 module _ {K D : Type 0} where
   -- what is done has this cause: each reply that it may give

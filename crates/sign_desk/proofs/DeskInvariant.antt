@@ -15,11 +15,14 @@ use Rattle.sequential_signer.specs.declared.event.Reply.TheVariants.{Begun, Pend
 use Rattle.sequential_signer.proofs.Lists.{list_any-more, or_false}
 use Rattle.wake_lock.proofs.Truth.{or_left, or_right}
 use Rattle.sequential_signer.proofs.Run.{committed_entries-more}
-use Rattle.sign_desk.specs.DeskState.{DeskState, setup_of, was_begun, Represents}
-use Rattle.sign_desk.specs.Adding.{with_cache, with_rule, with_handle}
-use Rattle.sign_desk.specs.IsDesk.{IsSetUp, IsDesk}
+use Rattle.sign_desk.specs.DeskState.{DeskState, Represents}
+use Rattle.desk_parts.specs.Tables.{setup_of, was_begun}
+use Rattle.sign_desk.specs.DeskState.{with_cache}
+use Rattle.desk_parts.specs.Adding.{with_rule, with_handle}
+use Rattle.desk_parts.specs.SetUp.{IsSetUp}
+use Rattle.sign_desk.specs.IsDesk.{IsDesk}
 use Rattle.sign_desk.specs.Change.{UnchangedBy}
-use Rattle.sign_desk.proofs.IsSetUp.{set_up-cache, set_up-rule, set_up-handle}
+use Rattle.desk_parts.proofs.IsSetUp.{set_up-cache, set_up-rule, set_up-handle}
 use Rattle.sign_desk.proofs.NewDesk.{empty, represents-empty, represents-with_cache, represents-with_rule, represents-with_handle}
 
 module _ {K D : Type 0} (policy : Policy K D) where

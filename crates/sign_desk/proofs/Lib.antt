@@ -1,8 +1,3 @@
-pub mod ListPlaces
-pub mod ChangedAt
-pub mod Leaves
-pub mod CallMap
-pub mod Views
 pub mod QueueLaw
 pub mod LoadsFew
 pub mod Refine
@@ -14,9 +9,7 @@ pub mod RefineLoad
 pub mod RefineEnd
 pub mod RefineStep
 pub mod StepPreconditionLemmas
-pub mod BeginLemmas
 pub mod Caused
-pub mod IsSetUp
 pub mod NewDesk
 pub mod DeskInvariant
 pub mod RunLemmas

@@ -10,38 +10,22 @@ use Rattle.sequential_signer.specs.Phase.{Phase, Unknown, Unpolled, Queued, Load
 use Rattle.sequential_signer.specs.Hold.{BeginInput, begin_of, answers_of}
 use Rattle.sequential_signer.specs.SequentialCache.{sequential_cache}
 use Rattle.sequential_signer.specs.ExpectedReply.{expected_reply}
-use Rattle.sequential_signer.specs.LiveCall.{LiveCall, live_call, live_by}
+use Rattle.sequential_signer.specs.LiveCall.{live_call, live_by}
 use Rattle.sequential_signer.specs.declared.event.Entry.{Entry}
 use Rattle.sequential_signer.specs.declared.event.Event.{Event}
-use Rattle.sequential_signer.specs.declared.event.Loader.{Loader}
 use Rattle.sequential_signer.specs.declared.event.Reply.TheVariants.{NotNow}
 use Rattle.wake_lock.proofs.Calls.{same_call-refl}
 use Rattle.wake_lock.proofs.Truth.{number_refl}
 use Rattle.sequential_signer.proofs.CallInvariant.{CallInvariant, unpolled_call, queued_call, loading_call, signing_call, begin-own}
 use Rattle.sequential_signer.proofs.CallInvariantSteps.{stands}
 use Rattle.sequential_signer.proofs.Queue.{after_first}
-use Rattle.sign_desk.specs.Queue.{next_holder, queue_line, line_at}
+use Rattle.desk_parts.specs.Queue.{next_holder, queue_line, line_at}
 use Rattle.sign_desk.specs.TranscriptQueue.{queue_of}
-use Rattle.sign_desk.specs.DeskState.{DeskState, setup_of, find_call, live_view, phase_of_stage, Represents}
-use Rattle.sign_desk.specs.declared.calls.CallRecord.{CallRecord}
+use Rattle.sign_desk.specs.DeskState.{DeskState, live_view, Represents}
+use Rattle.desk_parts.specs.Tables.{setup_of, find_call, phase_of_stage}
+use Rattle.sign_desk.specs.Records.{CallRecord}
+use Rattle.desk_parts.proofs.LiveRecord.{RecordSays, record_says, Lives}
 use Rattle.sign_desk.proofs.Refine.{ran}
-
--- what the transcript says of a call is what its record says: this phase, this number of answers, and this begin
-pub record RecordSays (l : LiveCall) (p : Phase) (n : ℕ) (b : Option BeginInput) : Type 0 where
-  pub phase : p ≡ l.phase
-  pub answers : n ≡ l.answers
-  pub begin : b ≡ Some l.begin
-  pub live : is_live p ≡ true
-
--- a record that is what the transcript says of a live call
-pub record_says : (l : LiveCall) (p : Phase) (n : ℕ) (b : Option BeginInput) → Some l ≡ live_by p n b → RecordSays l p n b
-record_says l p n None h = absurd (cc)
-record_says l Unknown n (Some b) h = absurd (cc)
-record_says l Ended n (Some b) h = absurd (cc)
-record_says l Unpolled n (Some b) h = let e : l ≡ record { phase = Unpolled; begin = b; answers = n } = cc in record { phase = ap (λ (x : LiveCall). x.phase) (sym e); answers = ap (λ (x : LiveCall). x.answers) (sym e); begin = ap (λ (x : LiveCall). Some x.begin) (sym e); live = refl }
-record_says l Queued n (Some b) h = let e : l ≡ record { phase = Queued; begin = b; answers = n } = cc in record { phase = ap (λ (x : LiveCall). x.phase) (sym e); answers = ap (λ (x : LiveCall). x.answers) (sym e); begin = ap (λ (x : LiveCall). Some x.begin) (sym e); live = refl }
-record_says l Loading n (Some b) h = let e : l ≡ record { phase = Loading; begin = b; answers = n } = cc in record { phase = ap (λ (x : LiveCall). x.phase) (sym e); answers = ap (λ (x : LiveCall). x.answers) (sym e); begin = ap (λ (x : LiveCall). Some x.begin) (sym e); live = refl }
-record_says l Signing n (Some b) h = let e : l ≡ record { phase = Signing; begin = b; answers = n } = cc in record { phase = ap (λ (x : LiveCall). x.phase) (sym e); answers = ap (λ (x : LiveCall). x.answers) (sym e); begin = ap (λ (x : LiveCall). Some x.begin) (sym e); live = refl }
 
 begun_live : (p : Phase) (n : ℕ) (o : Option BeginInput) → is_some o ≡ true → is_live p ≡ true → live_by p n o ≡ None → ⊥
 begun_live p n None s l h = cc
@@ -56,15 +40,6 @@ begun_live Ended n (Some b) s l h = cc
 pub next_holder-is : (call : CallId) (xs : List CallId) → first_of (after_first call xs) ≡ next_holder call xs
 next_holder-is call [] = refl
 next_holder-is call (x ∷ rest) = elim (same_call call x) as (λ v. first_of (cond v rest []) ≡ cond v (first_of rest) None) [ true ↦ refl | false ↦ refl ]
-
--- a live call with its places, its loader and its rule
-pub record Lives {K D : Type 0} (old : DeskState K D) (call : CallId) (h : Handle) (r : CallRecord) : Type 0 where
-  pub under : slice_get old.handles call.handle ≡ Some h
-  pub found : find_call call old.calls ≡ Some r
-  pub loader : Loader
-  pub loads : slice_get old.loaders h.cache ≡ Some loader
-  pub rule : D
-  pub ruled : slice_get old.rules h.rule ≡ Some rule
 
 module _ {K D : Type 0} (policy : Policy K D) (old : DeskState K D) (entries : List (Entry K)) (stood : Represents policy old entries) where
   -- a call without a record is not live

@@ -31,7 +31,7 @@ use Rattle.sequential_signer.proofs.CallInvariantSteps.{stands, waiting_waits, p
 use Rattle.sequential_signer.proofs.LegalStep.{LegalStep, not_now, begins, waits, pending, looks, takes_effect, accepts, fails, cancels}
 use Rattle.sequential_signer.proofs.Run.{start, more}
 use Rattle.sequential_signer.proofs.CallInvariant.{phase-other, answers-other}
-use Rattle.sign_desk.specs.StepPrecondition.{provider_count}
+use Rattle.desk_parts.specs.Places.{provider_count}
 
 loads_to_queued : (p : Phase) → is_loading (to_queued p) ≡ true → is_loading p ≡ true
 loads_to_queued Loading h = refl

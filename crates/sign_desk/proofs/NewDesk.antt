@@ -1,5 +1,5 @@
 -- A desk where no call was begun represents the empty transcript, also with more places.
-use Rattle.std.proofs.Common.{◌≡◌, ℕ, zero, suc, false, List, [], ◌∷◌, ◌++◌, None, option_map, slice_get, length, refl, ◌∙◌, ap}
+use Rattle.std.proofs.Common.{◌≡◌, ℕ, false, [], None, option_map, slice_get, length, refl, ◌∙◌, ap}
 use Rattle.wake_lock.specs.declared.CallId.{CallId}
 use Rattle.sequential_signer.specs.Policy.{Policy}
 use Rattle.sequential_signer.specs.Setup.{Setup, Handle}
@@ -11,20 +11,14 @@ use Rattle.sequential_signer.specs.SequentialCache.{sequential_cache}
 use Rattle.sequential_signer.specs.Legal.{IsLegal}
 use Rattle.sequential_signer.specs.LiveCall.{live_call, greatest_begun}
 use Rattle.sequential_signer.specs.declared.event.Loader.{Loader}
-use Rattle.sign_desk.specs.Queue.{Queue}
+use Rattle.desk_parts.specs.Queue.{Queue}
 use Rattle.sequential_signer.specs.LiveCall.{begun_calls, live_calls}
 use Rattle.sign_desk.specs.TranscriptQueue.{queue_of}
-use Rattle.sign_desk.specs.DeskState.{DeskState, setup_of, live_view, was_begun, Represents}
-use Rattle.sign_desk.specs.Adding.{with_cache, with_rule, with_handle}
-
--- one more place in each of two lists
-both-more : {X Y : Type 0} (c : X) (xs : List X) (ys : List Y) (y : Y) → ((i : ℕ) → slice_get xs i ≡ option_map (λ _. c) (slice_get ys i)) → (i : ℕ) → slice_get (xs ++ c ∷ []) i ≡ option_map (λ _. c) (slice_get (ys ++ y ∷ []) i)
-both-more c [] [] y h zero = refl
-both-more c [] [] y h (suc i) = refl
-both-more c [] (z ∷ ys) y h i = let e = h zero in absurd (cc)
-both-more c (x ∷ xs) [] y h i = let e = h zero in absurd (cc)
-both-more c (x ∷ xs) (z ∷ ys) y h zero = h zero
-both-more c (x ∷ xs) (z ∷ ys) y h (suc i) = both-more c xs ys y (λ k. h (suc k)) i
+use Rattle.desk_parts.proofs.ListPlaces.{both-more}
+use Rattle.sign_desk.specs.DeskState.{DeskState, live_view, Represents}
+use Rattle.desk_parts.specs.Tables.{setup_of, was_begun}
+use Rattle.sign_desk.specs.DeskState.{with_cache}
+use Rattle.desk_parts.specs.Adding.{with_rule, with_handle}
 
 module _ {K D : Type 0} (policy : Policy K D) where
   -- a desk with nothing in it

@@ -6,19 +6,19 @@ use Rattle.credentials.specs.declared.providers.Providers.{Providers}
 use Rattle.credentials.specs.declared.providers.Providers.TheVariants as providers
 use Rattle.sequential_signer.specs.declared.event.Loader.{Loader}
 use Rattle.sign_desk.specs.DeskState.{DeskState}
-use Rattle.sign_desk.specs.StepPrecondition.{provider_count}
-use Rattle.sign_desk.specs.CallAt.{HasProvider, loader_of}
+use Rattle.desk_parts.specs.Places.{provider_count}
+use Rattle.desk_parts.specs.CallAt.{HasProvider, loader_of}
 use Rattle.sign_desk.specs.MadeBy.{IsStateMade}
-use Rattle.sign_desk.specs.SignerInvariant.{loader_for}
-use Rattle.sign_desk.specs.SignerObjects.{provider_at}
+use Rattle.desk_parts.specs.ProviderList.{loader_for}
+use Rattle.desk_parts.specs.ProviderList.{provider_at}
 use Rattle.sign_desk.specs.Course.{PollEnd, Pends, Finishes, Refuses, RunsOut, PolledCall, IsDriven, IsEnd, IsAnswerMade, IsAnswerKept, state_behind}
 use Rattle.sign_desk.specs.PollStep.{StepChange, ComesLater, IsStepEnd, IsEndMade, IsEndKept, answer_by}
-use Rattle.sign_desk.specs.declared.sign.BegunCall.{BegunCall}
+use Rattle.sign_desk.specs.Records.{BegunCall}
 use Rattle.sign_desk.specs.declared.sign.SignState.{SignState}
 use Rattle.sign_desk.specs.declared.sign.SignState.TheVariants.{Waiting, Loading, Signing}
 use Rattle.sign_desk.specs.declared.went.StepEnd.{StepEnd}
 use Rattle.sign_desk.specs.declared.went.StepEnd.TheVariants.{Pending, Done, Refused, OutOfMemory}
-use Rattle.sign_desk.proofs.ListPlaces.{place-there}
+use Rattle.desk_parts.proofs.ListPlaces.{place-there}
 use Rattle.sign_desk.proofs.PollSteps.{CourseEnds}
 
 module _ (P S C : Type 0) {K L W : Type 0} (begun : BegunCall) where

@@ -8,7 +8,7 @@ use Rattle.sequential_signer.specs.declared.event.Event.{Event}
 use Rattle.sequential_signer.specs.declared.event.Reply.{Reply}
 use Rattle.sign_desk.specs.DeskState.{DeskState, Represents}
 use Rattle.sign_desk.specs.Steps.{IsStep}
-use Rattle.sign_desk.specs.CallAt.{LeavesOthers}
+use Rattle.desk_parts.specs.CallAt.{LeavesOthers}
 use Rattle.sign_desk.specs.MadeBy.{IsStateMade}
 use Rattle.sign_desk.specs.Course.{PollEnd, PollRun, PolledCall, IsGiven, IsCourse, stops, ends, goes_on, StopsAt, EndsBy, state_after, state_behind, wake_in, wakes_in}
 use Rattle.sign_desk.specs.PollStep.{StepChange, ComesLater, NamesNobody, IsStepEnd, IsEndMade, IsEndKept, GoesOn, Ends}

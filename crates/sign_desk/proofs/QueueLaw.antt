@@ -18,7 +18,7 @@ use Rattle.sequential_signer.proofs.PollOrder.{is_polled, OrderAfter, stays, gro
 use Rattle.sequential_signer.proofs.Run.{IsRun}
 use Rattle.sequential_signer.proofs.CacheLaw.{order_of_cache, list_all-member}
 use Rattle.sequential_signer.proofs.Queue.{queue-leaves, finished_same}
-use Rattle.sign_desk.specs.Queue.{Queue, with_last, without_room, without_call, with_room}
+use Rattle.desk_parts.specs.Queue.{Queue, with_last, without_room, without_call, with_room}
 use Rattle.sign_desk.specs.TranscriptQueue.{is_unpolled, unpolled_calls, queue_of}
 use Rattle.sequential_signer.proofs.BegunCalls.{filter-agree, begun_once, passing-same, passing-fewer, passing-more, passing-no_more}
 

@@ -30,17 +30,19 @@ use Rattle.sequential_signer.proofs.Run.{IsRun, committed_entries-more, committe
 use Rattle.sequential_signer.proofs.CallInvariant.{begin-own, refused_phase, refused_answers}
 use Rattle.sequential_signer.proofs.HandedOut.{cache_elsewhere}
 use Rattle.sequential_signer.proofs.FoundCredential.{is_refresh, found_is_handed_out, others_leave, signed_found_is_cached}
-use Rattle.sign_desk.specs.Queue.{Queue, with_changed}
+use Rattle.desk_parts.specs.Queue.{Queue, with_changed}
 use Rattle.sequential_signer.specs.LiveCall.{live_calls}
 use Rattle.sign_desk.specs.TranscriptQueue.{queue_of}
-use Rattle.sign_desk.specs.DeskState.{DeskState, setup_of, find_call, live_view, was_begun, Represents}
-use Rattle.sign_desk.specs.Change.{ChangesOnlyCall, UnchangedBy, one_if}
+use Rattle.sign_desk.specs.DeskState.{DeskState, live_view, Represents}
+use Rattle.desk_parts.specs.Tables.{setup_of, find_call, was_begun}
+use Rattle.desk_parts.specs.Change.{ChangesOnlyCall, one_if}
+use Rattle.sign_desk.specs.Change.{UnchangedBy}
 use Rattle.sign_desk.specs.CachesAfter.{CachesAfter}
-use Rattle.sign_desk.specs.declared.calls.CallRecord.{CallRecord}
-use Rattle.sign_desk.proofs.ChangedAt.{changed-same, changed-other}
+use Rattle.sign_desk.specs.Records.{CallRecord}
+use Rattle.desk_parts.proofs.ChangedAt.{changed-same, changed-other}
 use Rattle.sequential_signer.proofs.BegunCalls.{passing-same, passing-fewer, begun_once}
 use Rattle.sign_desk.proofs.QueueLaw.{queue-elsewhere, queue-not_now}
-use Rattle.sign_desk.proofs.ListPlaces.{place-there}
+use Rattle.desk_parts.proofs.ListPlaces.{place-there}
 
 module _ {K D : Type 0} where
   -- a reply that took effect, or that waits, says nothing of what stays

@@ -27,14 +27,18 @@ use Rattle.sequential_signer.proofs.Run.{IsRun, legal_run}
 use Rattle.sequential_signer.proofs.NewNumbers.{new_is_unbegun}
 use Rattle.sequential_signer.proofs.CallInvariant.{IsBlank, phase-own_mark, answers-own_none}
 use Rattle.sequential_signer.proofs.CallInvariantSteps.{stands, unbegun, unbegun_blank}
-use Rattle.sign_desk.specs.Queue.{with_room}
+use Rattle.desk_parts.specs.Queue.{with_room}
 use Rattle.sign_desk.specs.TranscriptQueue.{is_unpolled}
 use Rattle.sequential_signer.specs.LiveCall.{live_calls}
-use Rattle.sign_desk.specs.DeskState.{DeskState, setup_of, find_call, live_view, was_begun, Represents}
-use Rattle.sign_desk.specs.Change.{ChangesOnlyCall, one_if}
-use Rattle.sign_desk.specs.Action.{Leaves, Allocates, Performs}
-use Rattle.sign_desk.specs.BeginAction.{can_begin, is_new_at, with_begin, cache_at, new_record, begin_action}
-use Rattle.sign_desk.specs.declared.calls.CallRecord.{CallRecord}
+use Rattle.sign_desk.specs.DeskState.{DeskState, live_view, Represents}
+use Rattle.desk_parts.specs.Tables.{setup_of, find_call, was_begun}
+use Rattle.desk_parts.specs.Change.{ChangesOnlyCall, one_if}
+use Rattle.desk_parts.specs.Action.{Leaves, Allocates}
+use Rattle.sign_desk.specs.Action.{Performs}
+use Rattle.desk_parts.specs.Begin.{can_begin, is_new_at, cache_at, new_record}
+use Rattle.desk_parts.specs.Begin.{with_begin}
+use Rattle.sign_desk.specs.BeginAction.{begin_action}
+use Rattle.sign_desk.specs.Records.{CallRecord}
 use Rattle.sequential_signer.proofs.BegunCalls.{passing-more}
 use Rattle.sign_desk.proofs.QueueLaw.{queue-with_room, queue-begun_elsewhere}
 use Rattle.sign_desk.proofs.Refine.{Follows, Refines, refines-more, refines-lost, refines-not_now, queues_changed}

@@ -24,22 +24,25 @@ use Rattle.wake_lock.proofs.Truth.{or_left}
 use Rattle.sequential_signer.proofs.Run.{IsRun, legal_run}
 use Rattle.sequential_signer.proofs.CallInvariant.{CallInvariant, IsServed, unpolled_call, signing_call, phase-own_mark}
 use Rattle.sequential_signer.proofs.WakeLaw.{wakes}
-use Rattle.sign_desk.specs.Queue.{next_holder, without_room}
+use Rattle.desk_parts.specs.Queue.{next_holder, without_room}
 use Rattle.sign_desk.specs.TranscriptQueue.{is_unpolled}
-use Rattle.sign_desk.specs.DeskState.{DeskState, setup_of, phase_of_stage, Represents}
-use Rattle.sign_desk.specs.Change.{with_queue}
-use Rattle.sign_desk.specs.Action.{Performs, TakesEffect, end_effect}
-use Rattle.sign_desk.specs.LiveCallView.{stored_view}
+use Rattle.sign_desk.specs.DeskState.{DeskState, Represents}
+use Rattle.desk_parts.specs.Tables.{setup_of, phase_of_stage}
+use Rattle.desk_parts.specs.Change.{with_queue}
+use Rattle.sign_desk.specs.Action.{Performs}
+use Rattle.desk_parts.specs.Action.{TakesEffect, end_effect}
+use Rattle.desk_parts.specs.LiveCallView.{stored_view}
 use Rattle.sign_desk.specs.HoldAction.{waited_hold}
 use Rattle.sign_desk.specs.Transition.{accept_action, signed_action, cancel_action}
-use Rattle.sign_desk.specs.declared.calls.CallRecord.{CallRecord}
-use Rattle.sign_desk.specs.declared.calls.Stage.{Stage}
-use Rattle.sign_desk.specs.declared.calls.Stage.TheVariants as stage
-use Rattle.sign_desk.specs.declared.state.LiveCallView.{LiveCallView}
+use Rattle.sign_desk.specs.Records.{CallRecord}
+use Rattle.desk_parts.specs.declared.call_record.Stage.{Stage}
+use Rattle.desk_parts.specs.declared.call_record.Stage.TheVariants as stage
+use Rattle.desk_parts.specs.declared.tables.LiveCallView.{LiveCallView}
 use Rattle.sign_desk.proofs.QueueLaw.{queue-stays, queue-unpolled, queue-gone, closed-absent, unpolled-absent, order-stays}
 use Rattle.sign_desk.proofs.Refine.{Refines, refines-lost, refines-not_now, follows-changed, follows-stays}
 use Rattle.sign_desk.proofs.RefineLive.{refines-end, waited_leaves, waited_wakes}
-use Rattle.sign_desk.proofs.LiveRecord.{Lives, next_holder-is, at, says, invariant, phase-is, misfit}
+use Rattle.desk_parts.proofs.LiveRecord.{Lives}
+use Rattle.sign_desk.proofs.LiveRecord.{next_holder-is, at, says, invariant, phase-is, misfit}
 
 module _ {K D : Type 0} (policy : Policy K D) (old : DeskState K D) (entries : List (Entry K)) (stood : Represents policy old entries)
     (call : CallId) (h : Handle) (r : CallRecord) (lives : Lives old call h r) where

@@ -24,27 +24,25 @@ use Rattle.wake_lock.proofs.Calls.{same_call-refl}
 use Rattle.sequential_signer.proofs.CallInvariant.{phase-own_mark}
 use Rattle.sequential_signer.proofs.Run.{IsRun, legal_run}
 use Rattle.sequential_signer.proofs.WakeLaw.{wakes}
-use Rattle.sign_desk.specs.DeskState.{DeskState, setup_of, find_call, live_view, phase_of_stage, Represents}
-use Rattle.sign_desk.specs.Change.{ChangesOnlyCall}
-use Rattle.sign_desk.specs.Action.{TakesEffect, as_viewed, live_effect, end_effect, Performs}
-use Rattle.sign_desk.specs.LiveCallView.{stored_view}
-use Rattle.sign_desk.specs.Queue.{next_holder, without_call, with_changed}
+use Rattle.sign_desk.specs.DeskState.{DeskState, live_view, Represents}
+use Rattle.desk_parts.specs.Tables.{setup_of, find_call, phase_of_stage}
+use Rattle.desk_parts.specs.Change.{ChangesOnlyCall}
+use Rattle.desk_parts.specs.Action.{TakesEffect, as_viewed, live_effect, end_effect}
+use Rattle.sign_desk.specs.Action.{Performs}
+use Rattle.desk_parts.specs.LiveCallView.{stored_view}
+use Rattle.desk_parts.specs.Queue.{next_holder, without_call, with_changed}
 use Rattle.sign_desk.specs.TranscriptQueue.{is_unpolled}
 use Rattle.sign_desk.specs.CachesAfter.{CachesAfter}
 use Rattle.sign_desk.specs.HoldAction.{Hold, waited_hold, hold_action}
-use Rattle.sign_desk.specs.declared.calls.CallRecord.{CallRecord}
-use Rattle.sign_desk.specs.declared.calls.Stage.{Stage}
-use Rattle.sign_desk.specs.declared.calls.Stage.TheVariants as stage
-use Rattle.sign_desk.specs.declared.state.LiveCallView.{LiveCallView}
+use Rattle.sign_desk.specs.Records.{CallRecord}
+use Rattle.desk_parts.specs.declared.call_record.Stage.{Stage}
+use Rattle.desk_parts.specs.declared.call_record.Stage.TheVariants as stage
+use Rattle.desk_parts.specs.declared.tables.LiveCallView.{LiveCallView}
+use Rattle.desk_parts.proofs.LiveRecord.{stage_lives}
 use Rattle.sign_desk.proofs.Refine.{Follows, Refines, refines-more, live-stays, live-ended, refines-lost, follows-stays, follows-changed}
-use Rattle.sign_desk.proofs.LiveRecord.{Lives, says, begun, own-begin, at, line-is, next_holder-is}
+use Rattle.desk_parts.proofs.LiveRecord.{Lives}
+use Rattle.sign_desk.proofs.LiveRecord.{says, begun, own-begin, at, line-is, next_holder-is}
 use Rattle.sign_desk.proofs.QueueLaw.{queue-stays, queue-without_call}
-
-stage_lives : (s : Stage) → is_live (phase_of_stage s) ≡ true
-stage_lives stage.Unpolled = refl
-stage_lives stage.Queued = refl
-stage_lives stage.Loading = refl
-stage_lives stage.Signing = refl
 
 -- the live call at another stage, with this number of answers
 abbrev pub viewed : CallId → Handle → CallRecord → Stage → ℕ → LiveCallView

@@ -32,23 +32,26 @@ use Rattle.sequential_signer.proofs.Run.{IsRun, legal_run, legal_entry_step}
 use Rattle.sequential_signer.proofs.CallInvariant.{CallInvariant, Loads, loading_call, phase-own_mark}
 use Rattle.sequential_signer.proofs.FoundCredential.{call_loads, found_is_handed_out}
 use Rattle.sequential_signer.proofs.LoadLaw.{LoadsOn, loads_on}
-use Rattle.sign_desk.specs.Queue.{next_holder, line_at}
+use Rattle.desk_parts.specs.Queue.{next_holder, line_at}
 use Rattle.sign_desk.specs.TranscriptQueue.{is_unpolled}
-use Rattle.sign_desk.specs.DeskState.{DeskState, setup_of, phase_of_stage, Represents}
+use Rattle.sign_desk.specs.DeskState.{DeskState, Represents}
+use Rattle.desk_parts.specs.Tables.{setup_of, phase_of_stage}
 use Rattle.sign_desk.specs.Action.{Action, Performs}
 use Rattle.sign_desk.specs.CachesAfter.{CachesAfter}
-use Rattle.sign_desk.specs.LiveCallView.{stored_view}
-use Rattle.sign_desk.specs.HoldProgress.{desk_load}
+use Rattle.desk_parts.specs.LiveCallView.{stored_view}
+use Rattle.desk_parts.specs.HoldProgress.{desk_load}
 use Rattle.sign_desk.specs.HoldAction.{Hold, loading_hold, hold_action}
-use Rattle.sign_desk.specs.Transition.{load_action, provided_action, with_answer}
-use Rattle.sign_desk.specs.declared.calls.CallRecord.{CallRecord}
-use Rattle.sign_desk.specs.declared.calls.Stage.{Stage}
-use Rattle.sign_desk.specs.declared.calls.Stage.TheVariants as stage
-use Rattle.sign_desk.specs.declared.state.LiveCallView.{LiveCallView}
+use Rattle.sign_desk.specs.Transition.{load_action, provided_action}
+use Rattle.desk_parts.specs.HoldProgress.{with_answer}
+use Rattle.sign_desk.specs.Records.{CallRecord}
+use Rattle.desk_parts.specs.declared.call_record.Stage.{Stage}
+use Rattle.desk_parts.specs.declared.call_record.Stage.TheVariants as stage
+use Rattle.desk_parts.specs.declared.tables.LiveCallView.{LiveCallView}
 use Rattle.sign_desk.proofs.QueueLaw.{order-stays}
 use Rattle.sign_desk.proofs.Refine.{Refines, refines-not_now, caches_after-same}
 use Rattle.sign_desk.proofs.RefineLive.{HoldLaw, refines-hold, waited_wakes, waited_asks, waited_leaves}
-use Rattle.sign_desk.proofs.LiveRecord.{Lives, at, rule-is, cached, says, invariant, phase-is, misfit}
+use Rattle.desk_parts.proofs.LiveRecord.{Lives}
+use Rattle.sign_desk.proofs.LiveRecord.{at, rule-is, cached, says, invariant, phase-is, misfit}
 
 -- the progress, but for the cache that it leaves
 abbrev forget : {K : Type 0} → Progress K → Progress K

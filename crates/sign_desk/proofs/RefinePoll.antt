@@ -27,23 +27,26 @@ use Rattle.sequential_signer.proofs.CallInvariant.{CallInvariant, Waits, unpolle
 use Rattle.sequential_signer.proofs.CallInvariantSteps.{pending_phase}
 use Rattle.sequential_signer.proofs.Queue.{has_nobody, has_turn-polled, has_turn-unpolled}
 use Rattle.sequential_signer.proofs.WakeLaw.{wakes-nobody}
-use Rattle.sign_desk.specs.Queue.{is_held_line, with_last, without_room, line_at}
+use Rattle.desk_parts.specs.Queue.{is_held_line, with_last, without_room, line_at}
 use Rattle.sign_desk.specs.TranscriptQueue.{is_unpolled}
-use Rattle.sign_desk.specs.DeskState.{DeskState, setup_of, live_view, phase_of_stage, Represents}
-use Rattle.sign_desk.specs.Change.{ChangesOnlyCall, with_queue}
+use Rattle.sign_desk.specs.DeskState.{DeskState, live_view, Represents}
+use Rattle.desk_parts.specs.Tables.{setup_of, phase_of_stage}
+use Rattle.desk_parts.specs.Change.{ChangesOnlyCall}
+use Rattle.desk_parts.specs.Change.{with_queue}
 use Rattle.sign_desk.specs.Action.{Performs}
-use Rattle.sign_desk.specs.LiveCallView.{stored_view}
-use Rattle.sign_desk.specs.HoldProgress.{desk_look_input, desk_lookup}
+use Rattle.desk_parts.specs.LiveCallView.{stored_view}
+use Rattle.desk_parts.specs.HoldProgress.{desk_look_input, desk_lookup}
 use Rattle.sign_desk.specs.HoldAction.{first_hold, waited_hold}
 use Rattle.sign_desk.specs.Transition.{first_poll_action, later_poll_action, poll_action}
-use Rattle.sign_desk.specs.declared.calls.CallRecord.{CallRecord}
-use Rattle.sign_desk.specs.declared.calls.Stage.{Stage}
-use Rattle.sign_desk.specs.declared.calls.Stage.TheVariants as stage
-use Rattle.sign_desk.specs.declared.state.LiveCallView.{LiveCallView}
+use Rattle.sign_desk.specs.Records.{CallRecord}
+use Rattle.desk_parts.specs.declared.call_record.Stage.{Stage}
+use Rattle.desk_parts.specs.declared.call_record.Stage.TheVariants as stage
+use Rattle.desk_parts.specs.declared.tables.LiveCallView.{LiveCallView}
 use Rattle.sign_desk.proofs.QueueLaw.{queue-stays, queue-with_last, queue-without_room, order-polled}
 use Rattle.sign_desk.proofs.Refine.{Follows, Refines, refines-more, follows-changed, follows-stays, keeps_old, live-stays}
 use Rattle.sign_desk.proofs.RefineLive.{refines-live, HoldLaw, refines-hold, waited_wakes, waited_asks, waited_leaves}
-use Rattle.sign_desk.proofs.LiveRecord.{Lives, at, rule-is, cached, line-is, says, invariant, phase-is, here, own-begin}
+use Rattle.desk_parts.proofs.LiveRecord.{Lives}
+use Rattle.sign_desk.proofs.LiveRecord.{at, rule-is, cached, line-is, says, invariant, phase-is, here, own-begin}
 
 held-nobody : (xs : List CallId) → is_held_line xs ≡ false → xs ≡ []
 held-nobody [] h = refl

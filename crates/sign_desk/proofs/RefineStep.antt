@@ -14,18 +14,20 @@ use Rattle.sequential_signer.specs.declared.event.Event.TheVariants.{Begin, Poll
 use Rattle.sequential_signer.specs.declared.event.Loader.{Loader}
 use Rattle.sequential_signer.specs.declared.event.Reply.{Reply}
 use Rattle.sequential_signer.specs.declared.event.Verdict.{Verdict}
-use Rattle.sign_desk.specs.DeskState.{DeskState, setup_of, find_call, Represents}
-use Rattle.sign_desk.specs.IsDesk.{IsSetUp}
-use Rattle.sign_desk.specs.LiveCallView.{stored_view, find_view}
+use Rattle.sign_desk.specs.DeskState.{DeskState, Represents}
+use Rattle.desk_parts.specs.Tables.{setup_of, find_call}
+use Rattle.desk_parts.specs.SetUp.{IsSetUp}
+use Rattle.desk_parts.specs.LiveCallView.{stored_view, find_view}
 use Rattle.sign_desk.specs.Action.{Action, Performs}
 use Rattle.sign_desk.specs.Transition.{poll_action, provided_action, load_action, signed_action, cancel_action, live_action, Transition}
-use Rattle.sign_desk.specs.declared.calls.CallRecord.{CallRecord}
-use Rattle.sign_desk.specs.declared.state.LiveCallView.{LiveCallView}
-use Rattle.sign_desk.proofs.ListPlaces.{place-there}
-use Rattle.sign_desk.proofs.Views.{find_view-no_record, find_view-no_handle, find_view-is}
+use Rattle.sign_desk.specs.Records.{CallRecord}
+use Rattle.desk_parts.specs.declared.tables.LiveCallView.{LiveCallView}
+use Rattle.desk_parts.proofs.ListPlaces.{place-there}
+use Rattle.desk_parts.proofs.Views.{find_view-no_record, find_view-no_handle, find_view-is}
 use Rattle.sign_desk.proofs.Refine.{Refines, refines-not_now}
 use Rattle.sign_desk.proofs.RefineBegin.{refines-begin}
-use Rattle.sign_desk.proofs.LiveRecord.{Lives, not_live, misfit, misfit_unset}
+use Rattle.desk_parts.proofs.LiveRecord.{Lives}
+use Rattle.sign_desk.proofs.LiveRecord.{not_live, misfit, misfit_unset}
 use Rattle.sign_desk.proofs.RefinePoll.{refines-poll}
 use Rattle.sign_desk.proofs.RefineLoad.{refines-provided}
 use Rattle.sign_desk.proofs.RefineEnd.{refines-signed, refines-cancel}

@@ -13,7 +13,7 @@ use Rattle.sign_desk.specs.MadeBy.{IsStateMade, IsMadeBy}
 use Rattle.sign_desk.specs.SignerCalls.{Begins}
 use Rattle.sign_desk.specs.SignerInvariant.{SignerState, IsSigner}
 use Rattle.sign_desk.specs.SignerObjects.{Meanings, Objects, call_meaning, objects_of}
-use Rattle.sign_desk.specs.declared.sign.BegunCall.{BegunCall}
+use Rattle.sign_desk.specs.Records.{BegunCall}
 use Rattle.sign_desk.specs.declared.sign.Sign.{Sign}
 use Rattle.sign_desk.specs.declared.sign.SignState.TheVariants.{Waiting}
 use Rattle.sign_desk.proofs.SignerOthers.{KeepsCall, differs, keeps-made}

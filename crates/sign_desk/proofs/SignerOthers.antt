@@ -4,9 +4,10 @@ use Rattle.wake_lock.specs.declared.CallId.{CallId}
 use Rattle.wake_lock.specs.Calls.{same_call}
 use Rattle.wake_lock.proofs.Calls.{same_call-eq}
 use Rattle.sequential_signer.specs.declared.event.Loader.{Loader}
-use Rattle.sign_desk.specs.DeskState.{DeskState, find_call}
-use Rattle.sign_desk.specs.StepPrecondition.{provider_count}
-use Rattle.sign_desk.specs.CallAt.{IsAt, IsLive, IsWaiting, HasProvider, loader_of, LeavesOthers}
+use Rattle.sign_desk.specs.DeskState.{DeskState}
+use Rattle.desk_parts.specs.Tables.{find_call}
+use Rattle.desk_parts.specs.Places.{provider_count}
+use Rattle.desk_parts.specs.CallAt.{IsAt, IsLive, IsWaiting, HasProvider, loader_of, LeavesOthers}
 use Rattle.sign_desk.specs.MadeBy.{IsStateMade, IsMadeBy}
 use Rattle.sign_desk.specs.SignerInvariant.{SignerState}
 use Rattle.sign_desk.specs.SignerObjects.{Meanings, Objects, CallMeaning, call_meaning, objects_of}
@@ -14,9 +15,9 @@ use Rattle.sign_desk.specs.SignerCalls.{KeepsOthers, IsAnswerMadeBy}
 use Rattle.sign_desk.specs.Course.{IsAnswerMade}
 use Rattle.sign_desk.specs.declared.sign_poll.SignAnswer.{SignAnswer}
 use Rattle.sign_desk.specs.declared.sign_poll.SignAnswer.TheVariants as answer
-use Rattle.sign_desk.specs.declared.calls.Stage.{Stage}
-use Rattle.sign_desk.specs.declared.calls.Stage.TheVariants as stage
-use Rattle.sign_desk.specs.declared.sign.BegunCall.{BegunCall}
+use Rattle.desk_parts.specs.declared.call_record.Stage.{Stage}
+use Rattle.desk_parts.specs.declared.call_record.Stage.TheVariants as stage
+use Rattle.sign_desk.specs.Records.{BegunCall}
 use Rattle.sign_desk.specs.declared.sign.Sign.{Sign}
 use Rattle.sign_desk.specs.declared.sign.SignState.{SignState}
 use Rattle.sign_desk.specs.declared.sign.SignState.TheVariants.{Waiting, Loading, Signing}

@@ -8,12 +8,15 @@ use Rattle.credentials.specs.declared.providers.Providers.{Providers}
 use Rattle.sequential_signer.specs.LiveCall.{is_above}
 use Rattle.sequential_signer.specs.Policy.{Policy}
 use Rattle.sequential_signer.specs.Setup.{Setup, Handle}
-use Rattle.sign_desk.specs.DeskState.{DeskState, setup_of, Represents}
-use Rattle.sign_desk.specs.Adding.{with_cache, with_rule, with_handle}
-use Rattle.sign_desk.specs.SignerInvariant.{SignerState, IsSigner, loader_for, is_above_all, with_context_handle, with_service_handle, with_cache_handle}
+use Rattle.sign_desk.specs.DeskState.{DeskState, Represents}
+use Rattle.desk_parts.specs.Tables.{setup_of}
+use Rattle.sign_desk.specs.DeskState.{with_cache}
+use Rattle.desk_parts.specs.Adding.{with_rule, with_handle}
+use Rattle.sign_desk.specs.SignerInvariant.{SignerState, IsSigner, is_above_all, with_context_handle, with_service_handle, with_cache_handle}
+use Rattle.desk_parts.specs.ProviderList.{loader_for}
 use Rattle.sign_desk.specs.SignerObjects.{Objects, objects_of}
 use Rattle.sign_desk.proofs.SignerObjectsAt.{index-is}
-use Rattle.sign_desk.proofs.IsSetUp.{longer, each-more, each-by, set_up-cache, set_up-rule, set_up-handle}
+use Rattle.desk_parts.proofs.IsSetUp.{longer, each-more, each-by, set_up-cache, set_up-rule, set_up-handle}
 
 and_both : (a b : Bool) → a ≡ true → b ≡ true → (a && b) ≡ true
 and_both a b h k = rw (h, k) refl

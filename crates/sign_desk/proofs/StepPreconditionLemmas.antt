@@ -19,23 +19,26 @@ use Rattle.sequential_signer.proofs.PollOrder.{is_polled}
 use Rattle.sequential_signer.proofs.Run.{IsRun, legal_run}
 use Rattle.sequential_signer.proofs.CallInvariant.{CallInvariant, unpolled_call}
 use Rattle.sequential_signer.proofs.CallInvariantSteps.{stands}
-use Rattle.sign_desk.specs.Queue.{Queue}
+use Rattle.desk_parts.specs.Queue.{Queue}
 use Rattle.sign_desk.specs.TranscriptQueue.{is_unpolled, queue_of}
 use Rattle.sequential_signer.specs.LiveCall.{live_calls}
-use Rattle.sign_desk.specs.DeskState.{DeskState, setup_of, find_call, live_view, phase_of_stage, Represents}
-use Rattle.sign_desk.specs.IsDesk.{IsSetUp}
-use Rattle.sign_desk.specs.declared.calls.CallRecord.{CallRecord}
-use Rattle.sign_desk.specs.declared.calls.Stage.TheVariants as stage
+use Rattle.sign_desk.specs.DeskState.{DeskState, live_view, Represents}
+use Rattle.desk_parts.specs.Tables.{setup_of, find_call, phase_of_stage}
+use Rattle.desk_parts.specs.SetUp.{IsSetUp}
+use Rattle.sign_desk.specs.Records.{CallRecord}
+use Rattle.desk_parts.specs.declared.call_record.Stage.TheVariants as stage
 use Rattle.sequential_signer.specs.LiveCall.{begun_calls}
 use Rattle.sign_desk.specs.TranscriptQueue.{unpolled_calls}
-use Rattle.sign_desk.specs.StepPrecondition.{HasPlaces, MayEnter, provider_count, IsPlaced, StepPrecondition}
-use Rattle.sign_desk.specs.LiveCallView.{stored_view, find_view}
-use Rattle.sign_desk.proofs.ListPlaces.{place-below, place-there}
-use Rattle.sign_desk.proofs.Views.{find_view-no_record, find_view-no_handle, find_view-is}
+use Rattle.desk_parts.specs.Places.{HasPlaces, provider_count}
+use Rattle.desk_parts.specs.Queue.{MayEnter}
+use Rattle.sign_desk.specs.StepPrecondition.{IsPlaced, StepPrecondition}
+use Rattle.desk_parts.specs.LiveCallView.{stored_view, find_view}
+use Rattle.desk_parts.proofs.ListPlaces.{place-below, place-there}
+use Rattle.desk_parts.proofs.Views.{find_view-no_record, find_view-no_handle, find_view-is}
 use Rattle.sign_desk.proofs.LoadsFew.{loads_few}
 use Rattle.sequential_signer.proofs.BegunCalls.{begun_there}
 use Rattle.sign_desk.proofs.QueueLaw.{unpolled-absent}
-use Rattle.sign_desk.proofs.LiveRecord.{RecordSays, record_says}
+use Rattle.desk_parts.proofs.LiveRecord.{RecordSays, record_says}
 
 some_map : {A B : Type 0} (b : B) (o : Option A) → is_some o ≡ true → is_some (option_map (λ _. b) o) ≡ true
 some_map b None h = cc

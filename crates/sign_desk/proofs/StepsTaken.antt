@@ -15,16 +15,17 @@ use Rattle.sequential_signer.specs.declared.event.Why.TheVariants as why
 use Rattle.sign_request.specs.PlainHead.{Commits, RefusesTarget}
 use Rattle.sign_request.specs.Refusal.{RefusedAs}
 use Rattle.sign_desk.specs.Steps.{IsStep}
-use Rattle.sign_desk.specs.CallAt.{IsWaiting, IsAsking, IsSigning, LeavesOthers}
+use Rattle.desk_parts.specs.CallAt.{IsWaiting, IsAsking, IsSigning, LeavesOthers}
 use Rattle.sign_desk.specs.CallStep.{AfterPoll, AfterFound, AfterNone, is_of_look, is_of_check}
-use Rattle.sign_desk.specs.ObjectAnswer.{IsLoadPending, IsWorkPending, KeepsLoad, KeepsWork, IsLoadOpen, IsWorkOpen}
+use Rattle.desk_parts.specs.LoadAnswer.{IsLoadPending, KeepsLoad, IsLoadOpen}
+use Rattle.sign_desk.specs.ObjectAnswer.{IsWorkPending, KeepsWork, IsWorkOpen}
 use Rattle.sign_desk.specs.MadeBy.{IsLoadMade, IsWorkMade}
 use Rattle.sign_desk.specs.Course.{PolledCall, Pends, Finishes, Refuses, RunsOut, IsAnswerGiven, IsVerdictGiven, IsRefusal, FailsWith}
 use Rattle.sign_desk.specs.PollStep.{StepChange, IsTaken, Ends}
 use Rattle.sign_desk.specs.StepReply.{plain_refusal, taken_after_poll, taken_after_found, taken_after_none}
 use Rattle.sign_desk.specs.declared.refusal.Refusal.TheVariants as refusal
-use Rattle.sign_desk.specs.declared.sign.LoadState.{LoadState}
-use Rattle.sign_desk.specs.declared.sign.LoadState.TheVariants as load
+use Rattle.desk_parts.specs.declared.load_state.LoadState.{LoadState}
+use Rattle.desk_parts.specs.declared.load_state.LoadState.TheVariants as load
 use Rattle.sign_desk.specs.declared.sign.WorkState.{WorkState}
 use Rattle.sign_desk.specs.declared.sign.WorkState.TheVariants as work
 use Rattle.sign_desk.specs.declared.sign.SignState.TheVariants.{Waiting, Loading, Signing}

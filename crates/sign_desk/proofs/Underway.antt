@@ -4,8 +4,8 @@ use Rattle.std.specs.Option.{option_or}
 use Rattle.http.specs.declared.request.Parts.{Parts}
 use Rattle.wake_lock.specs.declared.CallId.{CallId}
 use Rattle.sign_desk.specs.DeskState.{DeskState}
-use Rattle.sign_desk.specs.CallAt.{loader_of, LeavesOthers}
-use Rattle.sign_desk.specs.SignerInvariant.{loader_for}
+use Rattle.desk_parts.specs.CallAt.{loader_of, LeavesOthers}
+use Rattle.desk_parts.specs.ProviderList.{loader_for}
 use Rattle.sign_desk.specs.SignerObjects.{service_of}
 use Rattle.sign_desk.specs.Course.{IsDriven}
 use Rattle.sign_desk.specs.PollStep.{StepChange, Goes, GoesOn, Ends, answer_by}

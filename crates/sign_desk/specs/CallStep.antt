@@ -11,10 +11,11 @@ use Rattle.sequential_signer.specs.declared.event.Verdict.TheVariants as verdict
 use Rattle.sequential_signer.specs.declared.event.Why.{Why}
 use Rattle.sequential_signer.specs.declared.event.Why.TheVariants.{Missing, Short, Range}
 use Rattle.sign_base.specs.declared.head.Head.{Head}
-use Rattle.sign_desk.specs.DeskState.{DeskState, find_call}
-use Rattle.sign_desk.specs.CallAt.{IsAt, IsWaiting, IsSigning, IsAsking}
-use Rattle.sign_desk.specs.declared.calls.Stage.TheVariants.{Unpolled}
-use Rattle.sign_desk.specs.declared.sign.BegunCall.{BegunCall}
+use Rattle.sign_desk.specs.DeskState.{DeskState}
+use Rattle.desk_parts.specs.Tables.{find_call}
+use Rattle.desk_parts.specs.CallAt.{IsAt, IsWaiting, IsSigning, IsAsking}
+use Rattle.desk_parts.specs.declared.call_record.Stage.TheVariants.{Unpolled}
+use Rattle.sign_desk.specs.Records.{BegunCall}
 
 -- whether a look can refuse for this cause
 abbrev pub is_of_look : Why → Bool

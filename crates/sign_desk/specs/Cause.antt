@@ -13,27 +13,19 @@ use Rattle.sequential_signer.specs.declared.event.Verdict.{Verdict}
 use Rattle.sequential_signer.specs.declared.event.Verdict.TheVariants.{Accepted, Failed}
 use Rattle.sequential_signer.specs.declared.event.Why.{Why}
 use Rattle.sequential_signer.specs.declared.event.Why.TheVariants.{Service}
-use Rattle.sign_desk.specs.Queue.{is_held_line, line_at}
+use Rattle.desk_parts.specs.Queue.{is_held_line, line_at}
+use Rattle.desk_parts.specs.Cause.{CauseBy, DoesNotFit, MustWait, Proceeds, TakesMemory, MustRefuse, live_cause}
 use Rattle.sign_desk.specs.DeskState.{DeskState}
-use Rattle.sign_desk.specs.LiveCallView.{find_view}
-use Rattle.sign_desk.specs.BeginAction.{can_begin}
-use Rattle.sign_desk.specs.HoldProgress.{desk_lookup, desk_load}
-use Rattle.sign_desk.specs.declared.calls.Stage.{Stage}
-use Rattle.sign_desk.specs.declared.calls.Stage.TheVariants as stage
-use Rattle.sign_desk.specs.declared.state.LiveCallView.{LiveCallView}
+use Rattle.desk_parts.specs.LiveCallView.{find_view}
+use Rattle.desk_parts.specs.Begin.{can_begin}
+use Rattle.desk_parts.specs.HoldProgress.{desk_lookup, desk_load}
+use Rattle.desk_parts.specs.declared.call_record.Stage.{Stage}
+use Rattle.desk_parts.specs.declared.call_record.Stage.TheVariants as stage
+use Rattle.desk_parts.specs.declared.tables.LiveCallView.{LiveCallView}
 
 -- what an event calls for
-pub data Cause : Type 0 where
-  -- it does not fit how far its call is
-  DoesNotFit : Cause
-  -- its call waits: for a call ahead, or for its own load or signing
-  MustWait : Cause
-  -- its call goes on
-  Proceeds : Cause
-  -- its call goes on, and keeps or hands out a head or a credential, which takes memory
-  TakesMemory : Cause
-  -- its call is refused
-  MustRefuse : Why → Cause
+abbrev pub Cause : Type 0
+Cause = CauseBy Why
 
 -- of a look or a load, by how far the hold gets
 abbrev pub progress_cause : {K : Type 0} → Option (Progress K) → Cause
@@ -58,11 +50,6 @@ abbrev pub signed_cause : Verdict → Stage → Cause
 signed_cause (Accepted candidate) stage.Signing = TakesMemory
 signed_cause (Failed e) stage.Signing = MustRefuse (Service e)
 signed_cause answer _ = DoesNotFit
-
--- of an event at a live call
-abbrev pub live_cause : (LiveCallView → Cause) → Option LiveCallView → Cause
-live_cause cause None = DoesNotFit
-live_cause cause (Some view) = cause view
 
 -- of an event
 abbrev pub cause_of : {K D : Type 0} → Policy K D → DeskState K D → Event K → Cause

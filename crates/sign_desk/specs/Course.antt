@@ -24,15 +24,16 @@ use Rattle.sign_request.specs.PlainHead.{RefusesTarget, Commits}
 use Rattle.sign_request.specs.Refusal.{RefusedAs}
 use Rattle.sign_desk.specs.DeskState.{DeskState, Represents}
 use Rattle.sign_desk.specs.Steps.{IsStep}
-use Rattle.sign_desk.specs.ObjectAnswer.{IsLoadPending, IsWorkPending, KeepsLoad, KeepsWork}
-use Rattle.sign_desk.specs.CallAt.{LeavesOthers}
+use Rattle.desk_parts.specs.LoadAnswer.{IsLoadPending, KeepsLoad}
+use Rattle.sign_desk.specs.ObjectAnswer.{IsWorkPending, KeepsWork}
+use Rattle.desk_parts.specs.CallAt.{LeavesOthers}
 use Rattle.sign_desk.specs.MadeBy.{IsStateMade}
 use Rattle.sign_desk.specs.SignerObjects.{Meanings, Objects, CallMeaning, call_meaning}
 use Rattle.sign_desk.specs.declared.refusal.Refusal.{Refusal}
 use Rattle.sign_desk.specs.declared.refusal.Refusal.TheVariants as refusal
-use Rattle.sign_desk.specs.declared.sign.BegunCall.{BegunCall}
-use Rattle.sign_desk.specs.declared.sign.LoadState.{LoadState}
-use Rattle.sign_desk.specs.declared.sign.LoadState.TheVariants as load
+use Rattle.sign_desk.specs.Records.{BegunCall}
+use Rattle.desk_parts.specs.declared.load_state.LoadState.{LoadState}
+use Rattle.desk_parts.specs.declared.load_state.LoadState.TheVariants as load
 use Rattle.sign_desk.specs.declared.sign.WorkState.{WorkState}
 use Rattle.sign_desk.specs.declared.sign.WorkState.TheVariants as work
 use Rattle.sign_desk.specs.declared.sign.SignState.{SignState}

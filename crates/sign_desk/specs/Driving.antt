@@ -7,7 +7,7 @@ use Rattle.sign_desk.specs.SignerObjects.{Meanings, service_of, with_service, ca
 use Rattle.sign_desk.specs.Course.{PolledCall, polled_call, PollOutcome, IsDriven}
 use Rattle.sign_desk.specs.PollStep.{StepChange, IsTaken}
 use Rattle.sign_desk.specs.declared.call_objects.CallObjects.{CallObjects}
-use Rattle.sign_desk.specs.declared.sign.BegunCall.{BegunCall}
+use Rattle.sign_desk.specs.Records.{BegunCall}
 use Rattle.sign_desk.specs.declared.sign.SignState.{SignState}
 use Rattle.sign_desk.specs.declared.went.StepTaken.{StepTaken}
 

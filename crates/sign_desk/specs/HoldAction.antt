@@ -1,15 +1,16 @@
 -- What is done at a live call by how far its hold gets.
-use Rattle.std.specs.Prelude.{Option, Some, None, slice_set}
+use Rattle.std.specs.Prelude.{Option, Some, None}
 use Rattle.wake_lock.specs.declared.CallId.{CallId}
 use Rattle.sequential_signer.specs.Lookup.{HandOut, Refuse}
 use Rattle.sequential_signer.specs.SequentialCall.{Progress, Asking, Over}
 use Rattle.sequential_signer.specs.declared.event.Reply.TheVariants.{NotNow, Ask, Sign, Refused}
-use Rattle.sign_desk.specs.Queue.{next_holder, with_last, without_room, without_call, line_at}
+use Rattle.desk_parts.specs.Queue.{next_holder, with_last, without_room, without_call, line_at}
 use Rattle.sign_desk.specs.DeskState.{DeskState}
-use Rattle.sign_desk.specs.Change.{with_queue}
-use Rattle.sign_desk.specs.Action.{Action, Leaves, Does, Allocates, live_effect, end_effect}
-use Rattle.sign_desk.specs.declared.calls.Stage.TheVariants as stage
-use Rattle.sign_desk.specs.declared.state.LiveCallView.{LiveCallView}
+use Rattle.desk_parts.specs.Change.{with_queue, with_cached}
+use Rattle.sign_desk.specs.Action.{Action}
+use Rattle.desk_parts.specs.Action.{Leaves, Does, Allocates, live_effect, end_effect}
+use Rattle.desk_parts.specs.declared.call_record.Stage.TheVariants as stage
+use Rattle.desk_parts.specs.declared.tables.LiveCallView.{LiveCallView}
 
 -- what becomes of the desk but for the call: where it asks a provider, where it is handed a credential, and where its hold
 -- ends without one; and the call that is woken where the hold is over
@@ -36,10 +37,6 @@ waited_hold desk view = record {
   over = with_queue (without_call view.call) view.cache desk;
   wake = next_holder view.call (line_at view.cache desk.queues);
 }
-
--- the desk where this cache holds this credential
-abbrev pub with_cached : {K D : Type 0} → K → LiveCallView → DeskState K D → DeskState K D
-with_cached credential view desk = record desk { caches = slice_set desk.caches view.cache (Some credential) }
 
 -- the hold of a call that loads: as of one that waited, but a credential that is handed out is cached
 abbrev pub loading_hold : {K D : Type 0} → DeskState K D → LiveCallView → Hold K D

@@ -1,12 +1,13 @@
 -- The states of calls that a signer made.
 use Rattle.std.specs.Prelude.{ℕ, IsSomeAnd}
 use Rattle.sign_desk.specs.DeskState.{DeskState}
-use Rattle.sign_desk.specs.CallAt.{IsWaiting, IsAsking, IsSigning}
-use Rattle.sign_desk.specs.ObjectAnswer.{IsLoadKept, IsWorkKept}
+use Rattle.desk_parts.specs.CallAt.{IsWaiting, IsAsking, IsSigning}
+use Rattle.desk_parts.specs.LoadAnswer.{IsLoadKept}
+use Rattle.sign_desk.specs.ObjectAnswer.{IsWorkKept}
 use Rattle.sign_desk.specs.SignerInvariant.{SignerState}
 use Rattle.sign_desk.specs.SignerObjects.{Meanings, CallMeaning, call_meaning, objects_of}
-use Rattle.sign_desk.specs.declared.sign.BegunCall.{BegunCall}
-use Rattle.sign_desk.specs.declared.sign.LoadState.{LoadState}
+use Rattle.sign_desk.specs.Records.{BegunCall}
+use Rattle.desk_parts.specs.declared.load_state.LoadState.{LoadState}
 use Rattle.sign_desk.specs.declared.sign.WorkState.{WorkState}
 use Rattle.sign_desk.specs.declared.sign.SignState.{SignState}
 use Rattle.sign_desk.specs.declared.sign.SignState.TheVariants.{Waiting, Loading, Signing}

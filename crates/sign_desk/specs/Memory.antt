@@ -6,10 +6,6 @@ use Rattle.sequential_signer.specs.declared.event.Reply.{Reply}
 use Rattle.sequential_signer.specs.declared.event.Reply.TheVariants.{OutOfMemory}
 use Rattle.sequential_signer.specs.declared.event.Verdict.TheVariants.{Accepted}
 
--- no clone of a credential takes memory
-abbrev pub ClonesAreFree : {K : Type 0} → (K → Type 0) → Type 0
-ClonesAreFree {K} free = (c : K) → free c
-
 -- the event carries a head, of which a copy is made
 abbrev pub CarriesHead : {K : Type 0} → Event K → Type 0
 CarriesHead (Begin call head expires_in) = Unit {0}

@@ -1,55 +1,12 @@
 -- What a provider or a service answered, and what is kept of its load or work.
-use Rattle.std.specs.Prelude.{◌≡◌, Option, Some, None}
+use Rattle.std.specs.Prelude.{◌≡◌}
 use Rattle.sign_base.specs.declared.head.Head.{Head}
-use Rattle.credentials.specs.declared.polled.Polled.{Polled}
 use Rattle.credentials.specs.declared.polled.Polled.TheVariants as polled
 use Rattle.credentials.specs.Operation.{SignOutcome, IsCandidate}
-use Rattle.sign_desk.specs.declared.object_answer.LoadAnswer.{LoadAnswer}
-use Rattle.sign_desk.specs.declared.object_answer.LoadAnswer.TheVariants.{Pending, OutOfMemory, Found, Missing, Failed}
 use Rattle.sign_desk.specs.declared.object_answer.WorkAnswer.{WorkAnswer}
 use Rattle.sign_desk.specs.declared.object_answer.WorkAnswer.TheVariants as work
-use Rattle.sign_desk.specs.declared.sign.LoadState.{LoadState}
-use Rattle.sign_desk.specs.declared.sign.LoadState.TheVariants as load_state
 use Rattle.sign_desk.specs.declared.sign.WorkState.{WorkState}
 use Rattle.sign_desk.specs.declared.sign.WorkState.TheVariants as work_state
-
-module _ {K L : Type 0} where
-  -- the load was started by the provider, or what is kept is an answer that it gives
-  abbrev pub IsLoadKept : (L → Type 0) → (Polled (Option K) → Type 0) → LoadState K L → Type 0
-  IsLoadKept started gives load_state.Unstarted = Unit {0}
-  IsLoadKept started gives (load_state.Started load) = started load
-  IsLoadKept started gives (load_state.Found credential) = gives (polled.Ready (Some credential))
-
-  -- the load was not ready, or one that was started now was not
-  abbrev pub IsLoadPending : (L → Type 0) → (L → Type 0) → LoadState K L → Type 0
-  IsLoadPending started ready load_state.Unstarted = (load : L) × started load × ¬ (ready load)
-  IsLoadPending started ready (load_state.Started load) = ¬ (ready load)
-  IsLoadPending started ready (load_state.Found credential) = ⊥
-
-  -- what is kept of a load afterwards: a credential that was found stays, and a load that was started is not started again
-  abbrev pub KeepsLoad : LoadState K L → LoadState K L → Type 0
-  KeepsLoad (load_state.Found credential) kept = kept ≡ load_state.Found credential
-  KeepsLoad (load_state.Started load) load_state.Unstarted = ⊥
-  KeepsLoad before kept = Unit {0}
-
-  -- no answer of the load is kept
-  abbrev pub IsLoadOpen : LoadState K L → Type 0
-  IsLoadOpen (load_state.Found credential) = ⊥
-  IsLoadOpen l = Unit {0}
-
--- what a provider means
-pub record ProviderMeaning (K L : Type 0) : Type 1 where
-  pub started : L → Type 0
-  pub ready : L → Type 0
-  pub gives : Polled (Option K) → Type 0
-
--- what the provider answered to a poll of what was kept of the load
-abbrev pub IsLoadAnswer : {K L : Type 0} → ProviderMeaning K L → LoadState K L → LoadAnswer K L → Type 0
-IsLoadAnswer m before (Pending load) = m.started load × IsLoadPending m.started m.ready before
-IsLoadAnswer m before (OutOfMemory kept) = IsLoadKept m.started m.gives kept × KeepsLoad before kept
-IsLoadAnswer m before (Found credential) = m.gives (polled.Ready (Some credential)) × KeepsLoad before (load_state.Found credential)
-IsLoadAnswer m before Missing = m.gives (polled.Ready None) × IsLoadOpen before
-IsLoadAnswer m before (Failed e) = m.gives (polled.Failed e) × IsLoadOpen before
 
 module _ {W : Type 0} where
   -- the work was started by the service and its candidate is one for the head, or what is kept is what the service gives

@@ -1,19 +1,14 @@
 -- The meanings of one provider and of one service, in a context.
 use Rattle.std.specs.Prelude.{option_map}
 use Rattle.std.specs.Duration.{as_nanos}
-use Rattle.credentials.specs.declared.provide.ProvideCredential as ProvideCredential
 use Rattle.credentials.specs.declared.sign.SignRequest as SignRequest
 use Rattle.credentials.specs.Operation.{Operation}
-use Rattle.sign_desk.specs.ObjectAnswer.{ProviderMeaning, ServiceMeaning}
-use Rattle.sign_desk.specs.declared.sign.BegunCall.{BegunCall}
+use Rattle.sign_desk.specs.ObjectAnswer.{ServiceMeaning}
+use Rattle.sign_desk.specs.Records.{BegunCall}
 
 -- what a service is asked for with this credential
 abbrev pub operation_of : {K : Type 0} → BegunCall → K → Operation K
 operation_of begun credential = record { credential = credential; expires_in = option_map as_nanos begun.expires_in }
-
--- what a provider means in a context
-abbrev pub provider_meaning : {P K C L : Type 0} → ProvideCredential.Ghosts P K C L → P → C → ProviderMeaning K L
-provider_meaning g provider ctx = record { started = g.started provider ctx; ready = g.ready provider ctx; gives = g.gives provider ctx }
 
 -- what a service means in a context, for a call with this credential
 abbrev pub service_meaning : {S C W K : Type 0} → SignRequest.Ghosts S C W K → S → C → BegunCall → K → ServiceMeaning W

@@ -7,10 +7,10 @@ use Rattle.sequential_signer.specs.declared.event.Reply.{Reply}
 use Rattle.sign_request.specs.PlainHead.{Commits}
 use Rattle.sign_desk.specs.DeskState.{DeskState}
 use Rattle.sign_desk.specs.Steps.{IsStep}
-use Rattle.sign_desk.specs.CallAt.{LeavesOthers}
+use Rattle.desk_parts.specs.CallAt.{LeavesOthers}
 use Rattle.sign_desk.specs.MadeBy.{IsStateMade}
 use Rattle.sign_desk.specs.Course.{PollEnd, Pends, Finishes, Refuses, RunsOut, PollRun, PolledCall, IsGiven, IsCourse, state_after, state_behind, KeepsState, wake_in, wakes_in}
-use Rattle.sign_desk.specs.declared.sign.BegunCall.{BegunCall}
+use Rattle.sign_desk.specs.Records.{BegunCall}
 use Rattle.sign_desk.specs.declared.sign.SignState.{SignState}
 use Rattle.sign_desk.specs.declared.sign.SignState.TheVariants.{Waiting, Loading, Signing}
 use Rattle.sign_desk.specs.declared.sign_poll.SignAnswer.{SignAnswer}

@@ -1,15 +1,15 @@
 -- What a signer keeps, and what holds of every signer.
 use Rattle.std.specs.Prelude.{◌≡◌, ℕ, ◌<◌, ◌≤◌, ◌++◌, List, [], ◌∷◌, Option, Bool, true, ◌&&◌, length, map, slice_get, IfSome}
 use Rattle.credentials.specs.declared.providers.Providers.{Providers}
-use Rattle.credentials.specs.declared.providers.Providers.TheVariants as providers
 use Rattle.sequential_signer.specs.LiveCall.{is_above}
 use Rattle.sequential_signer.specs.Setup.{Handle}
-use Rattle.sequential_signer.specs.declared.event.Loader.{Loader}
-use Rattle.sequential_signer.specs.declared.event.Loader.TheVariants.{Single, Chain}
 use Rattle.sequential_signer.specs.Policy.{Policy}
-use Rattle.sign_desk.specs.DeskState.{DeskState, setup_of, Represents}
-use Rattle.sign_desk.specs.Adding.{with_cache, with_rule, with_handle}
-use Rattle.sign_desk.specs.IsDesk.{IsSetUp}
+use Rattle.sign_desk.specs.DeskState.{DeskState, Represents}
+use Rattle.desk_parts.specs.Tables.{setup_of}
+use Rattle.sign_desk.specs.DeskState.{with_cache}
+use Rattle.desk_parts.specs.Adding.{with_rule, with_handle}
+use Rattle.desk_parts.specs.ProviderList.{loader_for}
+use Rattle.desk_parts.specs.SetUp.{IsSetUp}
 
 -- the desk, the providers of each cache, the contexts, the place of each handle's context, and the number of calls begun
 pub record SignerState (P S K C : Type 0) : Type 0 where
@@ -18,16 +18,6 @@ pub record SignerState (P S K C : Type 0) : Type 0 where
   pub contexts : List C
   pub context_places : List ℕ
   pub begun : ℕ
-
--- how a desk loads a cache with these providers
-abbrev pub loader_for : {P : Type 0} → Providers P → Loader
-loader_for (providers.Single provider) = Single
-loader_for (providers.Chain chain) = Chain (length chain)
-
--- a desk can number the providers
-abbrev pub AreFew : {P : Type 0} → Providers P → Type 0
-AreFew (providers.Single provider) = Unit {0}
-AreFew (providers.Chain chain) = length chain ≤ 4294967295
 
 -- whether the number is above each of these, where there is one
 abbrev pub is_above_all : ℕ → List (Option ℕ) → Bool

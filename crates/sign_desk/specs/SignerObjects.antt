@@ -1,15 +1,15 @@
 -- The objects of a signer: what its providers and services mean, and which of them a call works with.
-use Rattle.std.specs.Prelude.{ℕ, zero, suc, Option, Some, None, IsSomeAnd, option_and_then, slice_get}
+use Rattle.std.specs.Prelude.{ℕ, Option, Some, None, IsSomeAnd, option_and_then, slice_get}
 use Rattle.sign_base.specs.declared.head.Head.{Head}
 use Rattle.credentials.specs.declared.polled.Polled.{Polled}
 use Rattle.credentials.specs.declared.provide.ProvideCredential as ProvideCredential
 use Rattle.credentials.specs.declared.providers.Providers.{Providers}
-use Rattle.credentials.specs.declared.providers.Providers.TheVariants.{Single, Chain}
 use Rattle.credentials.specs.declared.sign.SignRequest as SignRequest
 use Rattle.credentials.specs.Operation.{Operation, SignOutcome}
+use Rattle.desk_parts.specs.ProviderList.{provider_at}
 use Rattle.sign_desk.specs.DeskState.{DeskState}
 use Rattle.sign_desk.specs.ObjectPoll.{operation_of}
-use Rattle.sign_desk.specs.declared.sign.BegunCall.{BegunCall}
+use Rattle.sign_desk.specs.Records.{BegunCall}
 use Rattle.sign_desk.specs.declared.call_objects.CallObjects.{CallObjects}
 use Rattle.sign_desk.specs.SignerInvariant.{SignerState}
 
@@ -55,12 +55,6 @@ objects_of signer handle =
     (option_and_then (λ h. slice_get signer.providers h.cache) (slice_get signer.desk.handles handle))
     (option_and_then (λ place. slice_get signer.contexts place) (slice_get signer.context_places handle))
     (service_of signer.desk handle)
-
--- the provider with this number
-abbrev pub provider_at : {P : Type 0} → Providers P → ℕ → Option P
-provider_at (Single provider) zero = Some provider
-provider_at (Single provider) (suc n) = None
-provider_at (Chain providers) n = slice_get providers n
 
 -- what the objects of a call mean for it: loads by the number of their provider, works by their credential
 pub record CallMeaning (K L W : Type 0) : Type 1 where

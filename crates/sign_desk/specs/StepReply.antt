@@ -6,7 +6,7 @@ use Rattle.sequential_signer.specs.declared.event.Why.{Why}
 use Rattle.sequential_signer.specs.declared.event.Why.TheVariants as why
 use Rattle.sign_desk.specs.declared.refusal.Refusal.{Refusal}
 use Rattle.sign_desk.specs.declared.refusal.Refusal.TheVariants as refusal
-use Rattle.sign_desk.specs.declared.sign.LoadState.TheVariants as load
+use Rattle.desk_parts.specs.declared.load_state.LoadState.TheVariants as load
 use Rattle.sign_desk.specs.declared.sign.WorkState.TheVariants as work
 use Rattle.sign_desk.specs.declared.sign.SignState.TheVariants.{Waiting, Loading, Signing}
 use Rattle.sign_desk.specs.declared.went.StepEnd.TheVariants as end

@@ -6,7 +6,8 @@ use Rattle.sequential_signer.specs.Legal.{IsLegalEntry}
 use Rattle.sequential_signer.specs.declared.event.Entry.{Entry}
 use Rattle.sequential_signer.specs.declared.event.Event.{Event}
 use Rattle.sequential_signer.specs.declared.event.Reply.{Reply}
-use Rattle.sign_desk.specs.DeskState.{DeskState, setup_of, Represents}
+use Rattle.sign_desk.specs.DeskState.{DeskState, Represents}
+use Rattle.desk_parts.specs.Tables.{setup_of}
 use Rattle.sign_desk.specs.Change.{UnchangedBy}
 use Rattle.sign_desk.specs.Cause.{cause_of, IsCaused}
 use Rattle.sign_desk.specs.CachesAfter.{CachesAfter}

@@ -6,7 +6,7 @@ use Rattle.sequential_signer.specs.Phase.{Phase, Unpolled, phase_of}
 use Rattle.sequential_signer.specs.LiveCall.{begun_calls}
 use Rattle.sequential_signer.specs.Turn.{open_calls}
 use Rattle.sequential_signer.specs.declared.event.Entry.{Entry}
-use Rattle.sign_desk.specs.Queue.{Queue}
+use Rattle.desk_parts.specs.Queue.{Queue}
 
 -- begun and not polled
 abbrev pub is_unpolled : Phase → Bool

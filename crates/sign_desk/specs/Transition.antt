@@ -1,5 +1,5 @@
 -- What a desk does at an event, on what it keeps.
-use Rattle.std.specs.Prelude.{ℤ, ◌+◌, Bool, true, false, Option, Some, None}
+use Rattle.std.specs.Prelude.{ℤ, Bool, true, false, Option, Some, None}
 use Rattle.sign_base.specs.declared.head.Head.{Head}
 use Rattle.wake_lock.specs.Calls.{is_first}
 use Rattle.sequential_signer.specs.Policy.{Policy}
@@ -14,18 +14,21 @@ use Rattle.sequential_signer.specs.declared.event.Reply.TheVariants.{Pending, No
 use Rattle.sequential_signer.specs.declared.event.Verdict.{Verdict}
 use Rattle.sequential_signer.specs.declared.event.Verdict.TheVariants.{Accepted, Failed}
 use Rattle.sequential_signer.specs.declared.event.Why.TheVariants.{Service}
-use Rattle.sign_desk.specs.Queue.{with_last, without_room, line_at, is_held_line}
-use Rattle.sign_desk.specs.DeskState.{DeskState, find_call, live_view}
-use Rattle.sign_desk.specs.LiveCallView.{find_view}
-use Rattle.sign_desk.specs.Change.{with_queue}
-use Rattle.sign_desk.specs.Action.{Action, Leaves, Does, Allocates, live_effect, end_effect, Performs}
-use Rattle.sign_desk.specs.BeginAction.{new_record, begin_action}
-use Rattle.sign_desk.specs.HoldProgress.{desk_lookup, desk_load}
+use Rattle.desk_parts.specs.Queue.{with_last, without_room, line_at, is_held_line}
+use Rattle.sign_desk.specs.DeskState.{DeskState, live_view}
+use Rattle.desk_parts.specs.Tables.{find_call}
+use Rattle.desk_parts.specs.LiveCallView.{find_view}
+use Rattle.desk_parts.specs.Change.{with_queue}
+use Rattle.sign_desk.specs.Action.{Action, Performs}
+use Rattle.desk_parts.specs.Action.{Leaves, Does, Allocates, live_effect, end_effect}
+use Rattle.desk_parts.specs.Begin.{new_record}
+use Rattle.sign_desk.specs.BeginAction.{begin_action}
+use Rattle.desk_parts.specs.HoldProgress.{desk_lookup, desk_load, with_answer}
 use Rattle.sign_desk.specs.HoldAction.{first_hold, waited_hold, loading_hold, hold_action}
-use Rattle.sign_desk.specs.declared.calls.CallRecord.{CallRecord}
-use Rattle.sign_desk.specs.declared.calls.Stage.{Stage}
-use Rattle.sign_desk.specs.declared.calls.Stage.TheVariants as stage
-use Rattle.sign_desk.specs.declared.state.LiveCallView.{LiveCallView}
+use Rattle.sign_desk.specs.Records.{CallRecord}
+use Rattle.desk_parts.specs.declared.call_record.Stage.{Stage}
+use Rattle.desk_parts.specs.declared.call_record.Stage.TheVariants as stage
+use Rattle.desk_parts.specs.declared.tables.LiveCallView.{LiveCallView}
 
 -- a first poll, by whether the lock of its cache is held: the call waits behind all others, or holds at once
 abbrev pub first_poll_action : {K D : Type 0} → DeskState K D → LiveCallView → Bool → Option (Progress K) → Action K D
@@ -42,10 +45,6 @@ abbrev pub poll_action : {K D : Type 0} → Policy K D → DeskState K D → ℤ
 poll_action policy desk now view stage.Unpolled = first_poll_action desk view (is_held_line (line_at view.cache desk.queues)) (desk_lookup policy desk now view)
 poll_action policy desk now view stage.Queued = later_poll_action desk view (is_first view.call (line_at view.cache desk.queues)) (desk_lookup policy desk now view)
 poll_action policy desk now view _ = Leaves Pending
-
--- the view with one more answer
-abbrev pub with_answer : LiveCallView → LiveCallView
-with_answer view = record view { answers = view.answers + 1 }
 
 -- a provider's answer to a call that loads
 abbrev pub load_action : {K D : Type 0} → Policy K D → DeskState K D → ℤ → Answer K → LiveCallView → Action K D

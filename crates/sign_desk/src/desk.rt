@@ -12,10 +12,9 @@
 //! replies by `Represents`: the desk replies what a signer would that serves one call at a time.
 ghost use Rattle.std.specs.Prelude.{◌≡◌, ◌<◌, ◌++◌, ◌∷◌, [], ℕ, List, IsOk, IsSome, true, not, OnOk, OnErr, IfOk, IfErr, length, option_map, option_and_then, option_copied, slice_get};
 
-use crate::adding::{AddError, AddRefused};
-use crate::run_error::RunError;
-use crate::state::{HandleRecord, State};
+use crate::state::State;
 use credentials::{DeadlineRule, SigningCredential};
+use desk_parts::{AddError, AddRefused, HandleRecord, RunError};
 use sequential_signer::{Event, Loader, Reply};
 use std::alloc::Global;
 use std::marker::Model;
@@ -40,17 +39,20 @@ impl<K: SigningCredential, D: DeadlineRule<Credential = K>> Model for Desk<K, D>
 }
 
 impl<K: SigningCredential, D: DeadlineRule<Credential = K>> Desk<K, D> {
-    ghost use Rattle.sign_desk.specs.DeskState.{Represents, setup_of, was_begun};
-    ghost use Rattle.sign_desk.specs.Adding.{late_refusal, handle_refusal, AddAnswer, AddAnswerBack, with_cache, with_rule, with_handle};
+    ghost use Rattle.sign_desk.specs.DeskState.{Represents};
+    ghost use Rattle.desk_parts.specs.Tables.{setup_of, was_begun};
+    ghost use Rattle.desk_parts.specs.Adding.{late_refusal, handle_refusal, AddAnswer, AddAnswerBack, with_rule, with_handle};
+    ghost use Rattle.sign_desk.specs.DeskState.{with_cache};
     ghost use Rattle.sign_desk.specs.Change.{UnchangedBy};
     ghost use Rattle.sign_desk.specs.Cause.{cause_of, IsCaused};
     ghost use Rattle.sign_desk.specs.CachesAfter.{CachesAfter};
-    ghost use Rattle.sign_desk.specs.Memory.{ClonesAreFree, RunsOutAtHeads};
+    ghost use Rattle.desk_parts.specs.Memory.{ClonesAreFree};
+    ghost use Rattle.sign_desk.specs.Memory.{RunsOutAtHeads};
     ghost use Rattle.sign_desk.specs.Steps.{IsStep, AreSteps};
     ghost use Rattle.sign_desk.specs.StepPrecondition.{StepPrecondition};
     ghost use Rattle.sign_desk.specs.Transition.{Transition};
     ghost use Rattle.sign_desk.specs.PairedEntries.{paired_entries};
-    ghost use Rattle.sign_desk.specs.StateView.{handle_view};
+    ghost use Rattle.desk_parts.specs.TablesView.{handle_view};
     ghost use Rattle.sequential_signer.specs.declared.event.Entry.{Entry};
     ghost use Rattle.sequential_signer.specs.Policy.{policy_of};
     ghost use Rattle.sequential_signer.specs.Transcript.{committed_entries};
@@ -76,7 +78,7 @@ impl<K: SigningCredential, D: DeadlineRule<Credential = K>> Desk<K, D> {
         ensures fresh { OnOk result (Represents (policy_of K.valid K.valid_at D.deadline) self.new []) }
         ensures unchanged { OnErr result (self.new ≡ self.old) }
     {
-        if self.state.started {
+        if self.state.is_started() {
             return Err(AddError::Late);
         }
         let number = self.caches();
@@ -95,7 +97,7 @@ impl<K: SigningCredential, D: DeadlineRule<Credential = K>> Desk<K, D> {
         ensures fresh { OnOk result (Represents (policy_of K.valid K.valid_at D.deadline) self.new []) }
         ensures unchanged { IfErr result (λ refused. (refused.back ≡ rule) × (self.new ≡ self.old)) }
     {
-        if self.state.started {
+        if self.state.is_started() {
             return Err(AddRefused {
                 why: AddError::Late,
                 back: rule,
@@ -122,7 +124,7 @@ impl<K: SigningCredential, D: DeadlineRule<Credential = K>> Desk<K, D> {
         ensures fresh { OnOk result (Represents (policy_of K.valid K.valid_at D.deadline) self.new []) }
         ensures unchanged { OnErr result (self.new ≡ self.old) }
     {
-        if self.state.started {
+        if self.state.is_started() {
             return Err(AddError::Late);
         }
         if cache >= self.caches() {
@@ -148,7 +150,7 @@ impl<K: SigningCredential, D: DeadlineRule<Credential = K>> Desk<K, D> {
         ensures fresh { OnOk result (Represents (policy_of K.valid K.valid_at D.deadline) self.new []) }
         ensures unchanged { IfErr result (λ refused. (refused.back ≡ rule) × (self.new ≡ self.old)) }
     {
-        if self.state.started {
+        if self.state.is_started() {
             return Err(AddRefused {
                 why: AddError::Late,
                 back: rule,
@@ -181,7 +183,7 @@ impl<K: SigningCredential, D: DeadlineRule<Credential = K>> Desk<K, D> {
         ensures fresh { OnOk result (Represents (policy_of K.valid K.valid_at D.deadline) self.new []) }
         ensures unchanged { OnErr result (self.new ≡ self.old) }
     {
-        if self.state.started {
+        if self.state.is_started() {
             return Err(AddError::Late);
         }
         let number = self.handles();
@@ -193,14 +195,14 @@ impl<K: SigningCredential, D: DeadlineRule<Credential = K>> Desk<K, D> {
     pub(crate) fn handle_at(&self, handle: u32) -> Option<HandleRecord>
         ensures { option_map handle_view result ≡ slice_get self.now.handles handle }
     {
-        self.state.handle_at(handle)
+        self.state.tables.handle_at(handle)
     }
 
     /// The credential that the cache holds, if there is such a cache and it holds one.
     pub fn cached(&self, cache: u32) -> Option<&K>
         ensures { option_copied result ≡ option_and_then (λ held. held) (slice_get self.now.caches cache) }
     {
-        self.state.caches.get(cache as usize)?.as_ref()
+        self.state.tables.cached(cache)
     }
 
     /// The rule of the handle, if there is such a handle.
@@ -208,15 +210,14 @@ impl<K: SigningCredential, D: DeadlineRule<Credential = K>> Desk<K, D> {
         ensures { option_copied result
             ≡ option_and_then (λ h. slice_get self.now.rules h.rule) (slice_get self.now.handles handle) }
     {
-        let found = self.state.handle_at(handle)?;
-        self.state.rules.get(found.rule as usize)
+        self.state.tables.rule_of(handle)
     }
 
     /// The cache of the handle, if there is such a handle.
     pub fn cache_of(&self, handle: u32) -> Option<u32>
         ensures { result ≡ option_map (λ h. h.cache) (slice_get self.now.handles handle) }
     {
-        let found = self.state.handle_at(handle)?;
+        let found = self.state.tables.handle_at(handle)?;
         Some(found.cache)
     }
 
@@ -224,28 +225,28 @@ impl<K: SigningCredential, D: DeadlineRule<Credential = K>> Desk<K, D> {
     pub fn caches(&self) -> u32
         ensures { result ≡ length self.now.loaders }
     {
-        self.state.loaders.len() as u32
+        self.state.tables.cache_count() as u32
     }
 
     /// The number of rules.
     pub fn rules(&self) -> u32
         ensures { result ≡ length self.now.rules }
     {
-        self.state.rules.len() as u32
+        self.state.tables.rule_count() as u32
     }
 
     /// The number of handles.
     pub fn handles(&self) -> u32
         ensures { result ≡ length self.now.handles }
     {
-        self.state.handles.len() as u32
+        self.state.tables.handle_count() as u32
     }
 
     /// The number of calls that were begun and are not over.
     pub fn live(&self) -> usize
         ensures { result ≡ length self.now.calls }
     {
-        self.state.calls.len()
+        self.state.tables.live_count()
     }
 
     /// Whether no call was begun. Such a desk represents the empty transcript.
@@ -255,7 +256,7 @@ impl<K: SigningCredential, D: DeadlineRule<Credential = K>> Desk<K, D> {
         ensures begins { (entries : List (Entry K)) → Represents (policy_of K.valid K.valid_at D.deadline) self.now entries
             → result ≡ not (was_begun (committed_entries entries)) }
     {
-        !self.state.started
+        !self.state.is_started()
     }
 
     /// One event, applied whole: whatever transcript the desk represents, it then represents that
@@ -306,9 +307,9 @@ impl<K: SigningCredential, D: DeadlineRule<Credential = K>> Desk<K, D> {
         ensures none { events.now ≡ [] → IsOk result }
     {
         if events.is_empty() {
-            return Ok(Vec::new(self.state.alloc));
+            return Ok(Vec::new(self.state.tables.alloc()));
         }
-        let mut replies = Vec::with_capacity(self.state.alloc, events.len())?;
+        let mut replies = Vec::with_capacity(self.state.tables.alloc(), events.len())?;
         for event in events {
             let reply = self.step(event);
             replies.push_reserved(reply);

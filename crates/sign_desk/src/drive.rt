@@ -3,8 +3,8 @@ ghost use Rattle.std.specs.Prelude.{◌≡◌, IsSome, IfOk, IfSome, OnOk, OnErr
 ghost use Rattle.sign_desk.specs.CallStep.{begun_in_event, found_in_event, accepted_in_event};
 
 use crate::desk::Desk;
-use crate::sign::BegunCall;
 use credentials::{DeadlineRule, SigningCredential};
+use desk_parts::BegunCall;
 use sequential_signer::{Answer, Event, Reply, Verdict};
 use sign_base::{Head, NoMemory, Timestamp};
 use std::time::Duration;
@@ -21,7 +21,7 @@ impl<K: SigningCredential, D: DeadlineRule<Credential = K>> Desk<K, D> {
     ghost use Rattle.sequential_signer.specs.declared.event.Verdict.TheVariants as verdict;
     ghost use Rattle.sequential_signer.specs.declared.event.Why.TheVariants as why;
     ghost use Rattle.sign_desk.specs.Steps.{IsStep};
-    ghost use Rattle.sign_desk.specs.CallAt.{IsLive, IsWaiting, IsAsking, IsSigning, LeavesOthers};
+    ghost use Rattle.desk_parts.specs.CallAt.{IsLive, IsWaiting, IsAsking, IsSigning, LeavesOthers};
     ghost use Rattle.sign_desk.specs.CallStep.{IsBegun, AfterPoll, AfterFound, AfterNone, AfterAccepted};
     ghost use Rattle.sequential_signer.specs.LiveCall.{is_above};
 
@@ -53,7 +53,7 @@ impl<K: SigningCredential, D: DeadlineRule<Credential = K>> Desk<K, D> {
     }
 
     /// Cancels a live call, and names the one that has its turn by this.
-    pub(crate) fn cancel_call(&mut self, begun: &BegunCall) -> Option<CallId>
+    pub(crate) fn cancel_call(&mut self, begun: &BegunCall<Head>) -> Option<CallId>
         requires there { IsSome (slice_get self.old.handles begun.now.id.handle) }
         requires live { IsLive begun.now self.old }
         ensures step { IsStep (policy_of K.valid K.valid_at D.deadline) (Cancel begun.now.id) self.old (Cancelled result) self.new }
@@ -67,7 +67,7 @@ impl<K: SigningCredential, D: DeadlineRule<Credential = K>> Desk<K, D> {
     }
 
     /// A poll of a call that waits.
-    pub(crate) fn poll_call(&mut self, begun: &BegunCall, now: Timestamp) -> Reply<K>
+    pub(crate) fn poll_call(&mut self, begun: &BegunCall<Head>, now: Timestamp) -> Reply<K>
         requires there { IsSome (slice_get self.old.handles begun.now.id.handle) }
         requires waiting { IsWaiting begun.now self.old }
         ensures step { IsStep (policy_of K.valid K.valid_at D.deadline) (Poll begun.now.id now) self.old result self.new }
@@ -84,7 +84,7 @@ impl<K: SigningCredential, D: DeadlineRule<Credential = K>> Desk<K, D> {
     /// A credential that the asked provider found, which is handed back beside the reply.
     pub(crate) fn give_found(
         &mut self,
-        begun: &BegunCall,
+        begun: &BegunCall<Head>,
         provider: u32,
         now: Timestamp,
         credential: K,
@@ -110,7 +110,7 @@ impl<K: SigningCredential, D: DeadlineRule<Credential = K>> Desk<K, D> {
     /// The asked provider has no credential.
     pub(crate) fn give_missing(
         &mut self,
-        begun: &BegunCall,
+        begun: &BegunCall<Head>,
         provider: u32,
         now: Timestamp,
     ) -> Reply<K>
@@ -132,7 +132,7 @@ impl<K: SigningCredential, D: DeadlineRule<Credential = K>> Desk<K, D> {
     /// The asked provider failed.
     pub(crate) fn give_failed(
         &mut self,
-        begun: &BegunCall,
+        begun: &BegunCall<Head>,
         provider: u32,
         now: Timestamp,
     ) -> Reply<K>
@@ -152,7 +152,11 @@ impl<K: SigningCredential, D: DeadlineRule<Credential = K>> Desk<K, D> {
     }
 
     /// The service signed this head, which is handed back beside the reply.
-    pub(crate) fn give_accepted(&mut self, begun: &BegunCall, candidate: Head) -> (Reply<K>, Head)
+    pub(crate) fn give_accepted(
+        &mut self,
+        begun: &BegunCall<Head>,
+        candidate: Head,
+    ) -> (Reply<K>, Head)
         requires there { IsSome (slice_get self.old.handles begun.now.id.handle) }
         requires signing { IsSigning begun.now self.old }
         ensures step { IsStep (policy_of K.valid K.valid_at D.deadline)
@@ -170,7 +174,7 @@ impl<K: SigningCredential, D: DeadlineRule<Credential = K>> Desk<K, D> {
     }
 
     /// The service failed.
-    pub(crate) fn give_rejected(&mut self, begun: &BegunCall)
+    pub(crate) fn give_rejected(&mut self, begun: &BegunCall<Head>)
         requires there { IsSome (slice_get self.old.handles begun.now.id.handle) }
         requires signing { IsSigning begun.now self.old }
         ensures step { IsStep (policy_of K.valid K.valid_at D.deadline)

@@ -1,21 +1,22 @@
 //! One poll of a call: steps, one after another, as far as its objects answer now.
 ghost use Rattle.std.specs.Prelude.{◌≡◌, Some, IsSome};
 ghost use Rattle.sequential_signer.specs.Policy.{policy_of};
-ghost use Rattle.sign_desk.specs.CallAt.{loader_of};
+ghost use Rattle.desk_parts.specs.CallAt.{loader_of};
 ghost use Rattle.sign_desk.specs.Driving.{IsMadeFor, IsDrivenFrom};
 ghost use Rattle.sign_desk.specs.PollStep.{answer_by};
-ghost use Rattle.sign_desk.specs.SignerInvariant.{loader_for};
+ghost use Rattle.desk_parts.specs.ProviderList.{loader_for};
 ghost use Rattle.sign_desk.specs.SignerObjects.{meanings_of, service_of};
 
 use crate::call_objects::CallObjects;
 use crate::desk::Desk;
-use crate::sign::{BegunCall, Sign, SignState};
+use crate::sign::{Sign, SignState};
 use crate::sign_poll::{SignAnswer, SignPoll};
 use crate::step_call::step;
 use crate::went::{StepEnd, Went};
 use credentials::{ProvideCredential, SignRequest, SigningCredential};
+use desk_parts::BegunCall;
 use http::request::Parts;
-use sign_base::Timestamp;
+use sign_base::{Head, Timestamp};
 
 /// Polls a call of a signer with these objects.
 pub(crate) fn drive<P, S>(
@@ -66,7 +67,7 @@ where
 
 /// The answer of a poll that ended so.
 fn answer_of<P, S>(
-    begun: BegunCall,
+    begun: BegunCall<Head>,
     end: StepEnd<P::Credential, P::Load, S::Work>,
 ) -> SignAnswer<P, S>
 where

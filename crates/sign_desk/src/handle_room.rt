@@ -1,12 +1,11 @@
 //! Room for a handle more in what a signer keeps, which is taken before anything is added.
 ghost use Rattle.std.specs.Prelude.{◌≡◌, ◌<◌, [], ◌∷◌, length, OnOk, IfOk};
 ghost use Rattle.std.specs.Vec.{vec_len, vec_capacity};
-ghost use Rattle.sign_desk.specs.Adding.{late_refusal, AddAnswer};
-ghost use Rattle.sign_desk.specs.SignerInvariant.{AreFew, loader_for};
+ghost use Rattle.desk_parts.specs.Adding.{late_refusal, AddAnswer};
 
-use crate::adding::AddError;
 use crate::desk::Desk;
 use credentials::{DeadlineRule, Providers, SigningCredential};
+use desk_parts::AddError;
 use sequential_signer::Loader;
 use std::alloc::Global;
 
@@ -29,7 +28,8 @@ where
     D: DeadlineRule<Credential = K>,
 {
     ghost use Rattle.sequential_signer.specs.Policy.{policy_of};
-    ghost use Rattle.sign_desk.specs.DeskState.{Represents, setup_of};
+    ghost use Rattle.sign_desk.specs.DeskState.{Represents};
+    ghost use Rattle.desk_parts.specs.Tables.{setup_of};
 
     pub(crate) fn new(alloc: Global, loader: Loader) -> Result<Self, AddError>
         ensures setup { IfOk result (λ room. setup_of room.desk ≡ record { loaders = loader ∷ []; rules = []; handles = [] }) }
@@ -76,15 +76,4 @@ where
     contexts.reserve(1)?;
     context_places.reserve(1)?;
     Ok(desk.handles())
-}
-
-/// How a desk loads a cache with these providers.
-pub(crate) fn loader_of<P>(providers: &Providers<P>) -> Loader
-    requires { AreFew providers.now }
-    ensures { result ≡ loader_for providers.now }
-{
-    match providers {
-        Providers::Single(_) => Loader::Single,
-        Providers::Chain(chain) => Loader::Chain(chain.len() as u32),
-    }
 }

@@ -1,24 +1,18 @@
 //! The core of the request signer: events in, one reply each.
 #![tactic(auto)]
 
-mod adding;
 mod call_objects;
-mod calls;
-mod changes;
 mod desk;
 mod drive;
 mod drive_call;
 mod handle_room;
 pub mod laws;
 mod load;
-mod lookup;
 mod object_answer;
 mod poll;
-mod queue;
 mod refusal;
 mod refusal_error;
 mod replies;
-mod run_error;
 mod sign;
 mod sign_poll;
 mod signer;
@@ -30,10 +24,9 @@ mod step_reply;
 mod target;
 mod went;
 
-pub use adding::{AddError, AddRefused};
 pub use desk::Desk;
+pub use desk_parts::{AddError, AddRefused, RunError};
 pub use refusal::Refusal;
-pub use run_error::RunError;
 pub use sequential_signer::{Answer, Entry, Event, Loader, Reply, Verdict, Why};
 pub use sign::Sign;
 pub use sign_poll::{SignAnswer, SignPoll};

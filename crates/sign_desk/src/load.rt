@@ -1,9 +1,9 @@
 //! The load of a call: what each answer of a provider does.
 ghost use Rattle.std.specs.Prelude.{◌≡◌, ◌≢◌, ◌<◌, IfSome, IsSome, length, slice_get};
 
-use crate::calls::Stage;
-use crate::state::{LiveCallView, State};
+use crate::state::State;
 use credentials::{DeadlineRule, SigningCredential};
+use desk_parts::{LiveCallView, Stage};
 use sequential_signer::{Answer, Loader, Reply, Why};
 use sign_base::Timestamp;
 use wake_lock::CallId;
@@ -12,16 +12,18 @@ impl<K: SigningCredential, D: DeadlineRule<Credential = K>> State<K, D> {
     ghost use Rattle.sequential_signer.specs.Policy.{policy_of};
     ghost use Rattle.sequential_signer.specs.declared.event.Event.TheVariants.{Provided};
     ghost use Rattle.sequential_signer.specs.declared.event.Answer.TheVariants.{Found};
-    ghost use Rattle.sign_desk.specs.DeskState.{find_call};
-    ghost use Rattle.sign_desk.specs.StepPrecondition.{StepPrecondition, IsPlaced, HasPlaces, provider_count};
-    ghost use Rattle.sign_desk.specs.declared.calls.Stage.TheVariants.{Loading};
+    ghost use Rattle.desk_parts.specs.Tables.{find_call};
+    ghost use Rattle.sign_desk.specs.StepPrecondition.{StepPrecondition, IsPlaced};
+    ghost use Rattle.desk_parts.specs.Places.{HasPlaces, provider_count};
+    ghost use Rattle.desk_parts.specs.declared.call_record.Stage.TheVariants.{Loading};
     ghost use Rattle.sign_desk.specs.Action.{Performs};
-    ghost use Rattle.sign_desk.specs.Memory.{ClonesAreFree};
+    ghost use Rattle.desk_parts.specs.Memory.{ClonesAreFree};
     ghost use Rattle.sequential_signer.specs.declared.event.Reply.TheVariants.{OutOfMemory};
-    ghost use Rattle.sign_desk.specs.HoldProgress.{desk_check, desk_load, next_load};
+    ghost use Rattle.desk_parts.specs.HoldProgress.{desk_check, desk_load, next_load};
     ghost use Rattle.sign_desk.specs.HoldAction.{hold_action, loading_hold};
-    ghost use Rattle.sign_desk.specs.Transition.{load_action, with_answer, Transition};
-    ghost use Rattle.sign_desk.specs.IsCheck.{IsCheck};
+    ghost use Rattle.sign_desk.specs.Transition.{load_action, Transition};
+    ghost use Rattle.desk_parts.specs.HoldProgress.{with_answer};
+    ghost use Rattle.desk_parts.specs.IsCheck.{IsCheck};
 
     /// A provider's answer.
     pub fn provided(&mut self, call: CallId, now: Timestamp, answer: &Answer<K>) -> Reply<K>
@@ -47,53 +49,12 @@ impl<K: SigningCredential, D: DeadlineRule<Credential = K>> State<K, D> {
             view.call self.old result self.new }
         ensures memory { ClonesAreFree K.clones_freely → result ≢ OutOfMemory }
     {
-        let view = self.with_answer(view);
+        let view = self.tables.with_answer(view);
         match answer {
             Answer::Found(found) => self.found(view, now, found),
             Answer::Missing => self.load_on(view, Why::Missing),
             Answer::Failed(e) => self.load_on(view, Why::Loader(*e)),
         }
-    }
-
-    /// The view with one more answer. A call that loads had fewer answers than there are providers.
-    fn with_answer(&self, view: LiveCallView) -> LiveCallView
-        requires placed { IsPlaced self.now view }
-        requires loading { view.stage ≡ Loading }
-        ensures { result ≡ with_answer view }
-    {
-        let provider_count = self.provider_count(view.cache);
-        prove!(view.answers < provider_count);
-        LiveCallView {
-            answers: view.answers + 1,
-            ..view
-        }
-    }
-
-    /// How many providers a cache asks at most.
-    fn provider_count(&self, cache: u32) -> u32
-        requires { cache < length self.now.loaders }
-        ensures { IfSome (slice_get self.now.loaders cache) (λ loader. result ≡ provider_count loader) }
-    {
-        match self.loaders[cache as usize] {
-            Loader::Single => 1,
-            Loader::Chain(n) => n,
-        }
-    }
-
-    /// What a credential that was found is good for. Whether it is fresh is not asked.
-    fn check(&self, view: LiveCallView, now: Timestamp, found: &K) -> Result<(), Why>
-        requires { view.rule < length self.now.rules }
-        ensures { IsCheck (desk_check (policy_of K.valid K.valid_at D.deadline) self.now now view found.now)
-            found.now result }
-    {
-        let rule = &self.rules[view.rule as usize];
-        let Some(deadline) = rule.required_valid_until(found, view.expires_in, now) else {
-            return Err(Why::Range);
-        };
-        if !found.is_valid_at(deadline, now) {
-            return Err(Why::Short(deadline));
-        }
-        Ok(())
     }
 
     /// A credential that was found: it is checked, and only one that is handed out is cached.
@@ -104,16 +65,16 @@ impl<K: SigningCredential, D: DeadlineRule<Credential = K>> State<K, D> {
             (desk_load (policy_of K.valid K.valid_at D.deadline) self.old now view (Found found.now))) view.call self.old result self.new }
         ensures memory { ClonesAreFree K.clones_freely → result ≢ OutOfMemory }
     {
-        if let Err(why) = self.check(view, now, found) {
+        if let Err(why) = self.tables.check(view, now, found) {
             return self.refuse_and_leave(view, why);
         }
-        let Ok(cached) = found.try_clone(self.alloc) else {
+        let Ok(cached) = found.try_clone(self.tables.alloc()) else {
             return Reply::OutOfMemory;
         };
-        let Ok(credential) = found.try_clone(self.alloc) else {
+        let Ok(credential) = found.try_clone(self.tables.alloc()) else {
             return Reply::OutOfMemory;
         };
-        self.store(view.cache, cached);
+        self.tables.store(view.cache, cached);
         self.sign_and_leave(view, credential)
     }
 
@@ -125,7 +86,7 @@ impl<K: SigningCredential, D: DeadlineRule<Credential = K>> State<K, D> {
             (next_load (slice_get self.old.loaders view.cache) view.answers single)) view.call self.old result self.new }
         ensures memory { ClonesAreFree K.clones_freely → result ≢ OutOfMemory }
     {
-        match self.loaders[view.cache as usize] {
+        match self.tables.loader_at(view.cache) {
             Loader::Single => self.refuse_and_leave(view, single),
             Loader::Chain(n) if view.answers < n => self.ask(view, view.answers),
             Loader::Chain(_) => self.refuse_and_leave(view, Why::Missing),

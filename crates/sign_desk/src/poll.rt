@@ -1,10 +1,9 @@
 //! The polls of a call: it takes its place at the first, and looks at its cache once it holds.
 ghost use Rattle.std.specs.Prelude.{◌≡◌, ◌≢◌};
 
-use crate::calls::Stage;
-use crate::lookup::Lookup;
-use crate::state::{LiveCallView, State};
+use crate::state::State;
 use credentials::{DeadlineRule, SigningCredential};
+use desk_parts::{LiveCallView, Lookup, Stage};
 use sequential_signer::Reply;
 use sign_base::Timestamp;
 use wake_lock::CallId;
@@ -13,13 +12,13 @@ impl<K: SigningCredential, D: DeadlineRule<Credential = K>> State<K, D> {
     ghost use Rattle.wake_lock.specs.Calls.{is_first};
     ghost use Rattle.sequential_signer.specs.Policy.{policy_of};
     ghost use Rattle.sequential_signer.specs.declared.event.Event.TheVariants.{Poll};
-    ghost use Rattle.sign_desk.specs.Queue.{is_held_line, line_at};
+    ghost use Rattle.desk_parts.specs.Queue.{is_held_line, line_at};
     ghost use Rattle.sign_desk.specs.StepPrecondition.{StepPrecondition, IsPlaced};
-    ghost use Rattle.sign_desk.specs.declared.calls.Stage.TheVariants.{Unpolled};
+    ghost use Rattle.desk_parts.specs.declared.call_record.Stage.TheVariants.{Unpolled};
     ghost use Rattle.sign_desk.specs.Action.{Performs};
-    ghost use Rattle.sign_desk.specs.Memory.{ClonesAreFree};
+    ghost use Rattle.desk_parts.specs.Memory.{ClonesAreFree};
     ghost use Rattle.sequential_signer.specs.declared.event.Reply.TheVariants.{OutOfMemory};
-    ghost use Rattle.sign_desk.specs.HoldProgress.{desk_lookup};
+    ghost use Rattle.desk_parts.specs.HoldProgress.{desk_lookup};
     ghost use Rattle.sign_desk.specs.Transition.{first_poll_action, later_poll_action, Transition};
 
     /// A poll.
@@ -46,22 +45,22 @@ impl<K: SigningCredential, D: DeadlineRule<Credential = K>> State<K, D> {
             (desk_lookup (policy_of K.valid K.valid_at D.deadline) self.old now view)) view.call self.old result self.new }
         ensures memory { ClonesAreFree K.clones_freely → result ≢ OutOfMemory }
     {
-        if self.is_held(view.cache) {
-            self.enter(view.cache, view.call);
+        if self.tables.is_held(view.cache) {
+            self.tables.enter(view.cache, view.call);
             return self.wait(view);
         }
-        match self.look(view, now) {
+        match self.tables.look(view, now) {
             Lookup::OutOfMemory => Reply::OutOfMemory,
             Lookup::Miss => {
-                self.enter(view.cache, view.call);
+                self.tables.enter(view.cache, view.call);
                 self.ask(view, 0)
             }
             Lookup::Hit(credential) => {
-                self.return_room(view.cache);
+                self.tables.return_room(view.cache);
                 self.sign(view, credential, None)
             }
             Lookup::Refused(why) => {
-                self.return_room(view.cache);
+                self.tables.return_room(view.cache);
                 self.refuse(view.call, why, None)
             }
         }
@@ -74,10 +73,10 @@ impl<K: SigningCredential, D: DeadlineRule<Credential = K>> State<K, D> {
             (desk_lookup (policy_of K.valid K.valid_at D.deadline) self.old now view)) view.call self.old result self.new }
         ensures memory { ClonesAreFree K.clones_freely → result ≢ OutOfMemory }
     {
-        if !self.is_held_by(view.cache, view.call) {
+        if !self.tables.is_held_by(view.cache, view.call) {
             return Reply::Pending;
         }
-        match self.look(view, now) {
+        match self.tables.look(view, now) {
             Lookup::OutOfMemory => Reply::OutOfMemory,
             Lookup::Miss => self.ask(view, 0),
             Lookup::Hit(credential) => self.sign_and_leave(view, credential),

@@ -1,25 +1,25 @@
 //! The replies to a live call. Each notes how far the call is from now on.
 ghost use Rattle.std.specs.Prelude.{◌≡◌, ◌<◌, IsSome, length};
 
-use crate::calls::Stage;
-use crate::state::{LiveCallView, State};
+use crate::state::State;
 use credentials::{DeadlineRule, SigningCredential};
+use desk_parts::{LiveCallView, Stage};
 use sequential_signer::{Reply, Why};
 use wake_lock::CallId;
 
 impl<K: SigningCredential, D: DeadlineRule<Credential = K>> State<K, D> {
     ghost use Rattle.sequential_signer.specs.declared.event.Reply.TheVariants.{Pending, Ask, Sign, Refused};
-    ghost use Rattle.sign_desk.specs.DeskState.{find_call};
-    ghost use Rattle.sign_desk.specs.Action.{TakesEffect, live_effect, end_effect};
+    ghost use Rattle.desk_parts.specs.Tables.{find_call};
+    ghost use Rattle.desk_parts.specs.Action.{TakesEffect, live_effect, end_effect};
     ghost use Rattle.sign_desk.specs.HoldAction.{waited_hold};
-    ghost use Rattle.sign_desk.specs.declared.calls.Stage.TheVariants.{Queued, Loading, Signing};
+    ghost use Rattle.desk_parts.specs.declared.call_record.Stage.TheVariants.{Queued, Loading, Signing};
 
     /// The call waits for its turn.
     pub fn wait(&mut self, view: LiveCallView) -> Reply<K>
         requires { IsSome (find_call view.call self.old.calls) }
         ensures { TakesEffect (live_effect self.old (record view { stage = Queued }) Pending) view.call result self.new }
     {
-        self.note_progress(LiveCallView {
+        self.tables.note_progress(LiveCallView {
             stage: Stage::Queued,
             ..view
         });
@@ -31,7 +31,7 @@ impl<K: SigningCredential, D: DeadlineRule<Credential = K>> State<K, D> {
         requires { IsSome (find_call view.call self.old.calls) }
         ensures { TakesEffect (live_effect self.old (record view { stage = Loading }) (Ask provider)) view.call result self.new }
     {
-        self.note_progress(LiveCallView {
+        self.tables.note_progress(LiveCallView {
             stage: Stage::Loading,
             ..view
         });
@@ -43,7 +43,7 @@ impl<K: SigningCredential, D: DeadlineRule<Credential = K>> State<K, D> {
         requires { IsSome (find_call view.call self.old.calls) }
         ensures { TakesEffect (live_effect self.old (record view { stage = Signing }) (Sign credential wake)) view.call result self.new }
     {
-        self.note_progress(LiveCallView {
+        self.tables.note_progress(LiveCallView {
             stage: Stage::Signing,
             ..view
         });
@@ -54,7 +54,7 @@ impl<K: SigningCredential, D: DeadlineRule<Credential = K>> State<K, D> {
     pub fn refuse(&mut self, call: CallId, why: Why, wake: Option<CallId>) -> Reply<K>
         ensures { TakesEffect (end_effect self.old (Refused why wake)) call result self.new }
     {
-        self.end_call(call);
+        self.tables.end_call(call);
         Reply::Refused { why, wake }
     }
 
@@ -65,7 +65,7 @@ impl<K: SigningCredential, D: DeadlineRule<Credential = K>> State<K, D> {
         ensures { TakesEffect (live_effect (waited_hold self.old view).over (record view { stage = Signing })
             (Sign credential (waited_hold self.old view).wake)) view.call result self.new }
     {
-        let wake = self.leave(view.cache, view.call);
+        let wake = self.tables.leave(view.cache, view.call);
         self.sign(view, credential, wake)
     }
 
@@ -75,7 +75,7 @@ impl<K: SigningCredential, D: DeadlineRule<Credential = K>> State<K, D> {
         ensures { TakesEffect (end_effect (waited_hold self.old view).over
             (Refused why (waited_hold self.old view).wake)) view.call result self.new }
     {
-        let wake = self.leave(view.cache, view.call);
+        let wake = self.tables.leave(view.cache, view.call);
         self.refuse(view.call, why, wake)
     }
 }

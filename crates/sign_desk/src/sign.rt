@@ -1,28 +1,9 @@
 //! What a signer keeps of a call between its polls. Its caller holds it, and hands it in at each poll.
 
 use credentials::{ProvideCredential, SignRequest};
+use desk_parts::{BegunCall, LoadState};
 use sign_base::Head;
 use std::fmt;
-use std::time::Duration;
-use wake_lock::CallId;
-
-/// What a call was begun with.
-#[derive(Drop)]
-pub(crate) struct BegunCall {
-    pub(crate) id: CallId,
-    pub(crate) head: Head,
-    pub(crate) expires_in: Option<Duration>,
-}
-
-/// The load of the provider that was asked last.
-#[derive(Drop)]
-pub(crate) enum LoadState<K, L> {
-    /// There was no memory yet to start it.
-    Unstarted,
-    Started(L),
-    /// What it found, which the desk had no memory to take.
-    Found(K),
-}
 
 /// The work of the service.
 #[derive(Drop)]
@@ -50,7 +31,7 @@ pub(crate) enum SignState<K, L, W> {
 /// `Signer::cancel`; where it is dropped before, the calls behind it wait for ever.
 #[derive(Drop)]
 pub struct Sign<P: ProvideCredential, S: SignRequest> {
-    pub(crate) begun: BegunCall,
+    pub(crate) begun: BegunCall<Head>,
     pub(crate) state: SignState<P::Credential, P::Load, S::Work>,
 }
 

@@ -1,61 +1,23 @@
-//! The polls of a provider's load and of a service's work. What there was no memory for is kept.
+//! The polls of a service's work. What there was no memory for is kept.
 ghost use Rattle.std.specs.Prelude.{◌≡◌, IfOk};
 ghost use Rattle.credentials.specs.Operation.{IsCandidate};
-ghost use Rattle.sign_desk.specs.ObjectAnswer.{IsLoadKept, IsLoadAnswer, IsWorkKept, IsWorkAnswer};
-ghost use Rattle.sign_desk.specs.ObjectPoll.{provider_meaning, service_meaning};
-ghost use Rattle.sign_desk.specs.declared.sign.LoadState.TheVariants as load_state;
+ghost use Rattle.sign_desk.specs.ObjectAnswer.{IsWorkKept, IsWorkAnswer};
+ghost use Rattle.sign_desk.specs.ObjectPoll.{service_meaning};
 ghost use Rattle.sign_desk.specs.declared.sign.WorkState.TheVariants as work_state;
 
-use crate::object_answer::{LoadAnswer, WorkAnswer};
-use crate::sign::{BegunCall, LoadState, WorkState};
-use credentials::{Polled, ProvideCredential, SignRequest};
+use crate::object_answer::WorkAnswer;
+use crate::sign::WorkState;
+use credentials::{Polled, SignRequest};
+use desk_parts::BegunCall;
 use sign_base::{Head, NoMemory};
 use std::alloc::Global;
-
-/// Polls a load. It is started first where it is not yet.
-pub(crate) fn poll_provider<P: ProvideCredential>(
-    alloc: Global,
-    provider: &P,
-    ctx: &P::Ctx,
-    load: LoadState<P::Credential, P::Load>,
-) -> LoadAnswer<P::Credential, P::Load>
-    requires { let m = provider_meaning P.ProvideCredential provider.now ctx.now in IsLoadKept m.started m.gives load }
-    ensures { IsLoadAnswer (provider_meaning P.ProvideCredential provider.now ctx.now) load result }
-{
-    match load {
-        LoadState::Started(load) => poll_load(alloc, provider, ctx, load),
-        LoadState::Found(credential) => LoadAnswer::Found(credential),
-        LoadState::Unstarted => match provider.provide_credential(alloc, ctx) {
-            Ok(load) => poll_load(alloc, provider, ctx, load),
-            Err(_) => LoadAnswer::OutOfMemory(LoadState::Unstarted),
-        },
-    }
-}
-
-fn poll_load<P: ProvideCredential>(
-    alloc: Global,
-    provider: &P,
-    ctx: &P::Ctx,
-    mut load: P::Load,
-) -> LoadAnswer<P::Credential, P::Load>
-    requires { P.started provider.now ctx.now load }
-    ensures { IsLoadAnswer (provider_meaning P.ProvideCredential provider.now ctx.now) (load_state.Started load) result }
-{
-    match provider.poll_load(alloc, ctx, &mut load) {
-        Polled::Pending => LoadAnswer::Pending(load),
-        Polled::Ready(Some(credential)) => LoadAnswer::Found(credential),
-        Polled::Ready(None) => LoadAnswer::Missing,
-        Polled::Failed(e) => LoadAnswer::Failed(e),
-        Polled::OutOfMemory => LoadAnswer::OutOfMemory(LoadState::Started(load)),
-    }
-}
 
 /// Polls a work. It is started first where it is not yet, on a copy of the begun head.
 pub(crate) fn poll_service<S: SignRequest>(
     alloc: Global,
     service: &S,
     ctx: &S::Ctx,
-    begun: &BegunCall,
+    begun: &BegunCall<Head>,
     credential: &S::Credential,
     work: WorkState<S::Work>,
 ) -> WorkAnswer<S::Work>
@@ -81,7 +43,7 @@ fn start_work<S: SignRequest>(
     alloc: Global,
     service: &S,
     ctx: &S::Ctx,
-    begun: &BegunCall,
+    begun: &BegunCall<Head>,
     credential: &S::Credential,
 ) -> Result<(S::Work, Head), NoMemory<()>>
     ensures work { IfOk result (λ r.
@@ -98,7 +60,7 @@ fn poll_work<S: SignRequest>(
     alloc: Global,
     service: &S,
     ctx: &S::Ctx,
-    _begun: &BegunCall,
+    _begun: &BegunCall<Head>,
     _credential: &S::Credential,
     mut work: S::Work,
     mut candidate: Head,

@@ -1,47 +1,19 @@
-//! What a desk keeps: a table for each kind of place, and the live calls by their names. A cache has its
-//! row in `loaders`, `caches` and `queues`, a handle in `handles` and `greatest`.
-ghost use Rattle.std.specs.Prelude.{◌≡◌, ◌<◌, [], false, length, option_map, option_copied, OnOk, OnErr, IfErr, IfSome, slice_get};
+//! What a signer's desk keeps: the tables of every desk, with a queue for each cache, and the begun head of
+//! each live call.
+ghost use Rattle.std.specs.Prelude.{◌≡◌, ◌<◌, [], false, length, OnOk, OnErr, IfErr, IfSome};
 
-use crate::calls::{CallRecord, Stage};
-use crate::queue::CallQueue;
 use credentials::{DeadlineRule, SigningCredential};
+use desk_parts::{CallQueue, LiveCallView, Tables};
 use sequential_signer::Loader;
+use sign_base::Head;
 use std::alloc::{AllocError, Global};
-use std::collections::BTreeMap;
 use std::marker::Model;
-use std::time::Duration;
 use wake_lock::CallId;
 
-/// A handle: its cache and its rule, by their places.
-#[derive(Clone, Copy, Debug)]
-pub struct HandleRecord {
-    pub cache: u32,
-    pub rule: u32,
-}
-
-/// A live call, as an event finds it: its places, and what is kept of it beside its head.
-#[derive(Clone, Copy, Debug)]
-pub struct LiveCallView {
-    pub call: CallId,
-    pub cache: u32,
-    pub rule: u32,
-    pub stage: Stage,
-    pub expires_in: Option<Duration>,
-    pub answers: u32,
-}
-
-/// What a desk keeps.
+/// What a signer's desk keeps.
 #[derive(Drop)]
 pub struct State<K, D> {
-    pub(crate) alloc: Global,
-    pub(crate) loaders: Vec<Loader>,
-    pub(crate) rules: Vec<D>,
-    pub(crate) handles: Vec<HandleRecord>,
-    pub(crate) caches: Vec<Option<K>>,
-    pub(crate) queues: Vec<CallQueue>,
-    pub(crate) greatest: Vec<Option<u64>>,
-    pub(crate) started: bool,
-    pub(crate) calls: BTreeMap<CallId, CallRecord>,
+    pub(crate) tables: Tables<K, D, CallQueue, Head>,
 }
 
 impl<K, D> Model for State<K, D> {
@@ -49,18 +21,14 @@ impl<K, D> Model for State<K, D> {
 
     ghost Value = { DeskState K D };
 
-    ghost use Rattle.sign_desk.specs.StateView.{state_view};
-
-    ghost view = { state_view };
+    ghost view = { λ state. state.tables };
 }
 
 impl<K: SigningCredential, D: DeadlineRule<Credential = K>> State<K, D> {
-    ghost use Rattle.sign_desk.specs.DeskState.{find_call};
-    ghost use Rattle.sign_desk.specs.StateView.{handle_view};
-    ghost use Rattle.sign_desk.specs.Adding.{with_cache, with_rule, with_handle};
-    ghost use Rattle.sign_desk.specs.LiveCallView.{find_view};
+    ghost use Rattle.desk_parts.specs.Adding.{with_handle, with_rule};
+    ghost use Rattle.sign_desk.specs.DeskState.{with_cache};
+    ghost use Rattle.desk_parts.specs.LiveCallView.{find_view};
     ghost use Rattle.sign_desk.specs.StepPrecondition.{StepPrecondition, IsPlaced};
-    ghost use Rattle.sign_desk.specs.BeginAction.{can_begin};
 
     /// No caches, rules, handles or calls.
     pub fn new(alloc: Global) -> State<K, D>
@@ -76,15 +44,7 @@ impl<K: SigningCredential, D: DeadlineRule<Credential = K>> State<K, D> {
         } }
     {
         State {
-            alloc,
-            loaders: Vec::new(alloc),
-            rules: Vec::new(alloc),
-            handles: Vec::new(alloc),
-            caches: Vec::new(alloc),
-            queues: Vec::new(alloc),
-            greatest: Vec::new(alloc),
-            started: false,
-            calls: BTreeMap::new(alloc),
+            tables: Tables::new(alloc),
         }
     }
 
@@ -93,13 +53,15 @@ impl<K: SigningCredential, D: DeadlineRule<Credential = K>> State<K, D> {
         ensures added { OnOk result (self.new ≡ with_cache loader self.old) }
         ensures unchanged { OnErr result (self.new ≡ self.old) }
     {
-        self.loaders.reserve(1)?;
-        self.caches.reserve(1)?;
-        self.queues.reserve(1)?;
-        self.loaders.push_reserved(loader);
-        self.caches.push_reserved(None);
-        self.queues.push_reserved(CallQueue::new(self.alloc));
-        Ok(())
+        let queue = CallQueue::new(self.tables.alloc());
+        self.tables.add_cache(loader, queue)
+    }
+
+    /// Whether a begin was accepted.
+    pub fn is_started(&self) -> bool
+        ensures { result ≡ self.now.started }
+    {
+        self.tables.is_started()
     }
 
     /// Adds a rule, or hands it back.
@@ -108,10 +70,7 @@ impl<K: SigningCredential, D: DeadlineRule<Credential = K>> State<K, D> {
         ensures unchanged { OnErr result (self.new ≡ self.old) }
         ensures back { IfErr result (λ back. back ≡ rule) }
     {
-        match self.rules.push(rule) {
-            Ok(()) => Ok(()),
-            Err(failed) => Err(failed.value),
-        }
+        self.tables.add_rule(rule)
     }
 
     /// Adds a handle, or changes nothing.
@@ -119,11 +78,7 @@ impl<K: SigningCredential, D: DeadlineRule<Credential = K>> State<K, D> {
         ensures added { OnOk result (self.new ≡ with_handle cache rule self.old) }
         ensures unchanged { OnErr result (self.new ≡ self.old) }
     {
-        self.handles.reserve(1)?;
-        self.greatest.reserve(1)?;
-        self.handles.push_reserved(HandleRecord { cache, rule });
-        self.greatest.push_reserved(None);
-        Ok(())
+        self.tables.add_handle(cache, rule)
     }
 
     /// Adds a rule and a handle with it, or hands the rule back.
@@ -133,23 +88,7 @@ impl<K: SigningCredential, D: DeadlineRule<Credential = K>> State<K, D> {
         ensures unchanged { OnErr result (self.new ≡ self.old) }
         ensures back { IfErr result (λ back. back ≡ rule) }
     {
-        let number = self.rules.len() as u32;
-        if self.rules.reserve(1).is_err() {
-            return Err(rule);
-        }
-        if self.handles.reserve(1).is_err() {
-            return Err(rule);
-        }
-        if self.greatest.reserve(1).is_err() {
-            return Err(rule);
-        }
-        self.rules.push_reserved(rule);
-        self.handles.push_reserved(HandleRecord {
-            cache,
-            rule: number,
-        });
-        self.greatest.push_reserved(None);
-        Ok(())
+        self.tables.add_handle_with_rule(cache, rule)
     }
 
     /// Adds an empty cache and a handle on it, or changes nothing.
@@ -158,49 +97,8 @@ impl<K: SigningCredential, D: DeadlineRule<Credential = K>> State<K, D> {
         ensures added { OnOk result (self.new ≡ with_handle (length self.old.loaders) rule (with_cache loader self.old)) }
         ensures unchanged { OnErr result (self.new ≡ self.old) }
     {
-        let number = self.loaders.len() as u32;
-        self.loaders.reserve(1)?;
-        self.caches.reserve(1)?;
-        self.queues.reserve(1)?;
-        self.handles.reserve(1)?;
-        self.greatest.reserve(1)?;
-        self.loaders.push_reserved(loader);
-        self.caches.push_reserved(None);
-        self.queues.push_reserved(CallQueue::new(self.alloc));
-        self.handles.push_reserved(HandleRecord {
-            cache: number,
-            rule,
-        });
-        self.greatest.push_reserved(None);
-        Ok(())
-    }
-
-    /// The handle at this place.
-    pub fn handle_at(&self, handle: u32) -> Option<HandleRecord>
-        ensures { option_map handle_view result ≡ slice_get self.now.handles handle }
-    {
-        self.handles.get(handle as usize).copied()
-    }
-
-    /// Whether a begin of the call fits.
-    pub fn begin_fits(&self, call: CallId) -> bool
-        ensures { result ≡ can_begin self.now call }
-    {
-        let place = call.handle as usize;
-        if place >= self.handles.len() || place >= self.greatest.len() {
-            return false;
-        }
-        match self.greatest[place] {
-            Some(greatest) => greatest < call.number,
-            None => true,
-        }
-    }
-
-    /// The record of a call.
-    pub fn record_of(&self, call: CallId) -> Option<&CallRecord>
-        ensures { option_copied result ≡ find_call call self.now.calls }
-    {
-        self.calls.get(&call)
+        let queue = CallQueue::new(self.tables.alloc());
+        self.tables.add_handle_with_cache(loader, queue, rule)
     }
 
     /// The live call of this name.
@@ -210,15 +108,6 @@ impl<K: SigningCredential, D: DeadlineRule<Credential = K>> State<K, D> {
         ensures named { IfSome result (λ view. view.call ≡ call) }
         ensures placed { IfSome result (IsPlaced self.now) }
     {
-        let live = self.record_of(call)?;
-        let handle = self.handle_at(call.handle)?;
-        Some(LiveCallView {
-            call,
-            cache: handle.cache,
-            rule: handle.rule,
-            stage: live.stage,
-            expires_in: live.expires_in,
-            answers: live.answers,
-        })
+        self.tables.find(call)
     }
 }

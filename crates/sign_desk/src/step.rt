@@ -2,9 +2,9 @@
 //! memory is taken before anything changes.
 ghost use Rattle.std.specs.Prelude.{◌≡◌, ◌≢◌, IsSome, IfOk};
 
-use crate::calls::{CallRecord, Stage};
 use crate::state::State;
 use credentials::{DeadlineRule, SigningCredential};
+use desk_parts::{CallRecord, Stage};
 use sequential_signer::{Event, Reply, Verdict, Why};
 use sign_base::{Head, NoMemory};
 use std::alloc::Global;
@@ -14,10 +14,11 @@ use wake_lock::CallId;
 impl<K: SigningCredential, D: DeadlineRule<Credential = K>> State<K, D> {
     ghost use Rattle.sequential_signer.specs.Policy.{policy_of};
     ghost use Rattle.sequential_signer.specs.declared.event.Event.TheVariants.{Begin, Signed, Cancel};
-    ghost use Rattle.sign_desk.specs.DeskState.{find_call};
+    ghost use Rattle.desk_parts.specs.Tables.{find_call};
     ghost use Rattle.sign_desk.specs.StepPrecondition.{StepPrecondition};
     ghost use Rattle.sign_desk.specs.Action.{Performs};
-    ghost use Rattle.sign_desk.specs.Memory.{ClonesAreFree, RunsOutAtHeads};
+    ghost use Rattle.desk_parts.specs.Memory.{ClonesAreFree};
+    ghost use Rattle.sign_desk.specs.Memory.{RunsOutAtHeads};
     ghost use Rattle.sequential_signer.specs.declared.event.Reply.TheVariants.{OutOfMemory};
     ghost use Rattle.sign_desk.specs.Transition.{accept_action, Transition};
 
@@ -46,10 +47,10 @@ impl<K: SigningCredential, D: DeadlineRule<Credential = K>> State<K, D> {
         ensures { Transition (policy_of K.valid K.valid_at D.deadline) (Begin call head.now expires_in)
             self.old result self.new }
     {
-        if !self.begin_fits(call) {
+        if !self.tables.begin_fits(call) {
             return Reply::NotNow;
         }
-        let Ok(head) = head.try_clone(self.alloc) else {
+        let Ok(head) = head.try_clone(self.tables.alloc()) else {
             return Reply::OutOfMemory;
         };
         let live = CallRecord {
@@ -58,7 +59,7 @@ impl<K: SigningCredential, D: DeadlineRule<Credential = K>> State<K, D> {
             expires_in,
             answers: 0,
         };
-        match self.insert_call(call, live) {
+        match self.tables.insert_call(call, live) {
             Ok(()) => Reply::Begun,
             Err(_) => Reply::OutOfMemory,
         }
@@ -87,12 +88,12 @@ impl<K: SigningCredential, D: DeadlineRule<Credential = K>> State<K, D> {
         ensures { Performs (accept_action self.old candidate.now (find_call call self.old.calls))
             call self.old result self.new }
     {
-        let alloc = self.alloc;
-        let live = self.record_of(call).unwrap();
+        let alloc = self.tables.alloc();
+        let live = self.tables.record_of(call).unwrap();
         let Ok(head) = done_head(alloc, &live.head, candidate) else {
             return Reply::OutOfMemory;
         };
-        self.end_call(call);
+        self.tables.end_call(call);
         Reply::Done { head }
     }
 
@@ -107,13 +108,13 @@ impl<K: SigningCredential, D: DeadlineRule<Credential = K>> State<K, D> {
         };
         let wake = match view.stage {
             Stage::Unpolled => {
-                self.return_room(view.cache);
+                self.tables.return_room(view.cache);
                 None
             }
-            Stage::Queued | Stage::Loading => self.leave(view.cache, call),
+            Stage::Queued | Stage::Loading => self.tables.leave(view.cache, call),
             Stage::Signing => None,
         };
-        self.end_call(call);
+        self.tables.end_call(call);
         Reply::Cancelled { wake }
     }
 }

@@ -1,12 +1,13 @@
 //! One step of a call: the desk is polled, or the object that was asked, whose answer goes to the desk.
-ghost use Rattle.std.specs.Prelude.{◌≡◌, None, Some, IsSome, option_copied};
-ghost use Rattle.sign_desk.specs.CallAt.{loader_of};
-ghost use Rattle.sign_desk.specs.SignerInvariant.{loader_for};
+ghost use Rattle.std.specs.Prelude.{◌≡◌, None, Some, IsSome};
+ghost use Rattle.desk_parts.specs.CallAt.{loader_of};
+ghost use Rattle.desk_parts.specs.ProviderList.{loader_for};
 ghost use Rattle.http.specs.declared.request.Parts.{Parts};
 ghost use Rattle.sequential_signer.specs.Policy.{policy_of};
 ghost use Rattle.sign_desk.specs.Driving.{IsMadeFor, IsStepTaken};
 ghost use Rattle.sign_desk.specs.ObjectAnswer.{KeepsWork};
-ghost use Rattle.sign_desk.specs.SignerObjects.{meanings_of, provider_at, service_of};
+ghost use Rattle.sign_desk.specs.SignerObjects.{meanings_of, service_of};
+ghost use Rattle.desk_parts.specs.ProviderList.{provider_at};
 ghost use Rattle.sign_desk.specs.declared.sign.SignState.TheVariants.{Loading, Signing};
 ghost use Rattle.sign_desk.specs.declared.sign.WorkState.{WorkState};
 ghost use Rattle.sign_desk.specs.declared.sign.WorkState.TheVariants as work_state;
@@ -15,14 +16,15 @@ ghost use Rattle.sign_desk.specs.declared.went.Went.TheVariants.{Over};
 
 use crate::call_objects::CallObjects;
 use crate::desk::Desk;
-use crate::object_answer::{LoadAnswer, WorkAnswer};
+use crate::object_answer::WorkAnswer;
 use crate::refusal::Refusal;
-use crate::sign::{BegunCall, LoadState, SignState, WorkState};
-use crate::signer_objects::{poll_provider, poll_service};
+use crate::sign::{SignState, WorkState};
+use crate::signer_objects::poll_service;
 use crate::step_reply::{after_found, after_none, after_poll};
 use crate::target::{hand_in, target_of};
 use crate::went::{StepEnd, StepTaken};
-use credentials::{ProvideCredential, Providers, SignRequest, SigningCredential};
+use credentials::{ProvideCredential, SignRequest, SigningCredential};
+use desk_parts::{BegunCall, LoadAnswer, LoadState, poll_provider, provider_at};
 use http::request::Parts;
 use sign_base::{ErrorKind, Head, Timestamp};
 
@@ -30,7 +32,7 @@ use sign_base::{ErrorKind, Head, Timestamp};
 pub(crate) fn step<P, S>(
     desk: &mut Desk<P::Credential, S>,
     objects: &CallObjects<'_, P, P::Ctx>,
-    begun: &BegunCall,
+    begun: &BegunCall<Head>,
     now: Timestamp,
     state: SignState<P::Credential, P::Load, S::Work>,
     req: &mut Parts,
@@ -72,7 +74,7 @@ where
 fn step_loading<P, S>(
     desk: &mut Desk<P::Credential, S>,
     objects: &CallObjects<'_, P, P::Ctx>,
-    begun: &BegunCall,
+    begun: &BegunCall<Head>,
     now: Timestamp,
     provider: u32,
     load: LoadState<P::Credential, P::Load>,
@@ -121,22 +123,11 @@ where
     }
 }
 
-/// The provider with this number.
-fn provider_at<P>(providers: &Providers<P>, number: u32) -> Option<&P>
-    ensures { option_copied result ≡ provider_at providers.now number }
-{
-    match providers {
-        Providers::Single(provider) if number == 0 => Some(provider),
-        Providers::Single(_) => None,
-        Providers::Chain(chain) => chain.provider(number as usize),
-    }
-}
-
 /// The service is polled.
 fn step_signing<P, S>(
     desk: &mut Desk<P::Credential, S>,
     objects: &CallObjects<'_, P, P::Ctx>,
-    begun: &BegunCall,
+    begun: &BegunCall<Head>,
     now: Timestamp,
     credential: P::Credential,
     work: WorkState<S::Work>,
@@ -193,7 +184,7 @@ where
 fn accept<P, S>(
     desk: &mut Desk<P::Credential, S>,
     objects: &CallObjects<'_, P, P::Ctx>,
-    begun: &BegunCall,
+    begun: &BegunCall<Head>,
     _now: Timestamp,
     credential: P::Credential,
     candidate: Head,

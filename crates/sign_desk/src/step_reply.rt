@@ -3,8 +3,9 @@ ghost use Rattle.std.specs.Prelude.{◌≡◌};
 ghost use Rattle.sign_desk.specs.StepReply.{plain_refusal, taken_after_poll, taken_after_found, taken_after_none};
 
 use crate::refusal::Refusal;
-use crate::sign::{LoadState, SignState, WorkState};
+use crate::sign::{SignState, WorkState};
 use crate::went::{StepEnd, StepTaken};
+use desk_parts::LoadState;
 use sequential_signer::{Reply, Why};
 
 /// A poll of a call that waits. The desk replies out of memory where it replies none of these.

@@ -3,12 +3,12 @@ ghost use Rattle.std.specs.Prelude.{◌≡◌, ◌⊎◌, None, Some, IfOk, IfEr
 ghost use Rattle.sequential_signer.specs.Policy.{policy_of};
 ghost use Rattle.sign_request.specs.PlainHead.{RefusesTarget};
 ghost use Rattle.sign_request.specs.Refusal.{IsOutOfMemory, RefusedAs};
-ghost use Rattle.sign_desk.specs.CallAt.{IsSigning, LeavesOthers};
+ghost use Rattle.desk_parts.specs.CallAt.{IsSigning, LeavesOthers};
 ghost use Rattle.sign_desk.specs.Target.{IsTargetOf, IsHandedIn, IsKept};
 
 use crate::desk::Desk;
-use crate::sign::BegunCall;
 use credentials::{DeadlineRule, SigningCredential};
+use desk_parts::BegunCall;
 use http::request::Parts;
 use sequential_signer::Reply;
 use sign_base::{Error, Head};
@@ -31,7 +31,7 @@ pub(crate) fn target_of(alloc: Global, candidate: &Head, keys: HeaderKeys) -> Re
 /// back where there was no memory.
 pub(crate) fn hand_in<K: SigningCredential, D: DeadlineRule<Credential = K>>(
     desk: &mut Desk<K, D>,
-    begun: &BegunCall,
+    begun: &BegunCall<Head>,
     candidate: Head,
     target: Parts,
     req: &mut Parts,

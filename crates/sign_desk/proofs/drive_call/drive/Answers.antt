@@ -1,5 +1,5 @@
 use Rattle.std.proofs.Common.{◌<◌, sym, subst, ap, ◌∙◌}
-use Rattle.sign_desk.specs.SignerInvariant.{loader_for}
+use Rattle.desk_parts.specs.ProviderList.{loader_for}
 use Rattle.sign_desk.proofs.PollEnds.{steps_left}
 use Rattle.sequential_signer.specs.Policy.{policy_of}
 use Rattle.sign_desk.specs.Driving.{Driving, IsDrivenFrom}

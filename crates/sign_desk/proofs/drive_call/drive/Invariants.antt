@@ -1,6 +1,6 @@
 use Rattle.sequential_signer.specs.Policy.{policy_of}
 use Rattle.sign_desk.specs.Driving.{Driving}
-use Rattle.sign_desk.specs.SignerInvariant.{loader_for}
+use Rattle.desk_parts.specs.ProviderList.{loader_for}
 use Rattle.sign_desk.specs.SignerObjects.{meanings_of}
 use Rattle.sign_desk.proofs.PollEnds.{steps_left}
 use Rattle.sign_desk.proofs.Underway.{Underway}

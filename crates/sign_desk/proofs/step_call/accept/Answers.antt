@@ -5,7 +5,7 @@ use Rattle.sign_base.specs.declared.error_kind.ErrorKind.TheVariants.{OutOfMemor
 use Rattle.sign_base.specs.declared.head.Head.{Head}
 use Rattle.sign_request.specs.Refusal.{IsOutOfMemory}
 use Rattle.credentials.specs.declared.polled.Polled.TheVariants as polled
-use Rattle.sign_desk.specs.CallAt.{IsSigning}
+use Rattle.desk_parts.specs.CallAt.{IsSigning}
 use Rattle.sign_desk.specs.Driving.{Driving, call_with}
 use Rattle.sign_desk.specs.ObjectAnswer.{KeepsWork}
 use Rattle.sign_desk.specs.PollStep.{StepChange, IsTaken}

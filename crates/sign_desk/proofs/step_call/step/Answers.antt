@@ -1,6 +1,6 @@
 use Rattle.std.proofs.Common.{refl, sym, subst, Option, Some, None, IsSome, slice_get, option_and_then}
 use Rattle.sequential_signer.specs.Policy.{policy_of}
-use Rattle.sign_desk.specs.CallAt.{IsWaiting}
+use Rattle.desk_parts.specs.CallAt.{IsWaiting}
 use Rattle.sign_desk.specs.Driving.{Driving, call_with, IsMadeFor}
 use Rattle.sign_desk.specs.PollStep.{StepChange, IsTaken}
 use Rattle.sign_desk.specs.SignerObjects.{meanings_of, service_of}

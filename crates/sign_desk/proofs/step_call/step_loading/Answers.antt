@@ -2,10 +2,11 @@ use Rattle.std.proofs.Common.{◌≡◌, refl, sym, subst, ap, ◌∙◌, Some}
 use Rattle.std.specs.Option.{option_copied}
 use Rattle.sequential_signer.specs.Policy.{policy_of}
 use Rattle.sign_desk.specs.Driving.{Driving, call_with}
-use Rattle.sign_desk.specs.ObjectAnswer.{IsLoadAnswer}
-use Rattle.sign_desk.specs.ObjectPoll.{provider_meaning}
+use Rattle.desk_parts.specs.LoadAnswer.{IsLoadAnswer}
+use Rattle.desk_parts.specs.LoadAnswer.{provider_meaning}
 use Rattle.sign_desk.specs.PollStep.{StepChange, IsTaken}
-use Rattle.sign_desk.specs.SignerObjects.{meanings_of, with_service, provider_at}
+use Rattle.sign_desk.specs.SignerObjects.{meanings_of, with_service}
+use Rattle.desk_parts.specs.ProviderList.{provider_at}
 use Rattle.sign_desk.specs.StepReply.{taken_after_found}
 use Rattle.sign_desk.specs.declared.sign.SignState.TheVariants.{Loading}
 use Rattle.sign_desk.proofs.ObjectMeanings.{load-started, load-pends, load-made, load-gives}

@@ -1,7 +1,6 @@
-use Rattle.std.proofs.Common.{◌≡◌, ◌∙◌, sym, ap, false, []}
+use Rattle.std.proofs.Common.{◌≡◌, ◌∙◌, sym, false, []}
 use Rattle.sequential_signer.specs.Policy.{policy_of}
 use Rattle.sign_desk.specs.DeskState.{Represents}
-use Rattle.sign_desk.specs.declared.desk.Desk.TheInside.{Inside}
 use Rattle.sign_desk.proofs.DeskInvariant.{desk-with_rule, not_started}
 use Rattle.sign_desk.proofs.NewDesk.{represents-with_rule}
 use Rattle.sign_desk.proofs.desk.Desk.add_rule.Goals as goal
@@ -9,12 +8,12 @@ use Rattle.sign_desk.proofs.desk.Desk.add_rule.Goals as goal
 pub invariant_of-self-2 : goal.invariant_of-self-2
 invariant_of-self-2 g c =
     let policy = policy_of g.K.SigningCredential.valid g.K.SigningCredential.valid_at g.D.DeadlineRule.deadline in
-    let unbegun : c.self.inside.state.started ≡ false = sym (ap (λ (k : Inside g.row.K.Denot g.row.D.Denot). k.state.started) c.self-inside.view_is) ∙ c.if-self.false in
+    let unbegun : c.self.inside.state.started ≡ false = sym c.is_started.ensures ∙ c.if-is_started.false in
     rw c.in_default.ensures.added (desk-with_rule policy c.self.inside.state c.self.invariant unbegun c.args.rule (rw c.self.view_is c.requires))
 
 pub returns-clause-fresh : goal.returns-clause-fresh
 returns-clause-fresh g c =
     let policy = policy_of g.K.SigningCredential.valid g.K.SigningCredential.valid_at g.D.DeadlineRule.deadline in
-    let unbegun : c.self.inside.state.started ≡ false = sym (ap (λ (k : Inside g.row.K.Denot g.row.D.Denot). k.state.started) c.self-inside.view_is) ∙ c.if-self.false in
+    let unbegun : c.self.inside.state.started ≡ false = sym c.is_started.ensures ∙ c.if-is_started.false in
     let stood : Represents policy c.self.inside.state [] = not_started policy c.self.inside.state c.self.invariant unbegun in
     rw c.in_default.ensures.added (represents-with_rule policy c.self.inside.state stood c.args.rule)

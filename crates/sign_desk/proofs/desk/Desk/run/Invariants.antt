@@ -1,7 +1,8 @@
 use Rattle.std.proofs.Common.{◌≡◌, ◌≤◌, ◌++◌, List, length, take, vec_capacity}
 use Rattle.sequential_signer.specs.Policy.{policy_of}
 use Rattle.sequential_signer.specs.declared.event.Entry.{Entry}
-use Rattle.sign_desk.specs.DeskState.{Represents, setup_of}
+use Rattle.sign_desk.specs.DeskState.{Represents}
+use Rattle.desk_parts.specs.Tables.{setup_of}
 use Rattle.sign_desk.specs.Steps.{AreSteps}
 use Rattle.sign_desk.specs.PairedEntries.{paired_entries}
 use Rattle.sign_desk.proofs.desk.Desk.run.Given as goal

@@ -1,5 +1,5 @@
 use Rattle.std.proofs.Common.{IsSome, slice_get, refl, sym, ◌∙◌, ap, subst}
-use Rattle.sign_desk.specs.CallAt.{IsLive}
+use Rattle.desk_parts.specs.CallAt.{IsLive}
 use Rattle.sign_desk.specs.MadeBy.{IsStateMade, IsMadeBy}
 use Rattle.sign_desk.specs.SignerInvariant.{SignerState, is_above_all}
 use Rattle.sign_desk.specs.SignerObjects.{call_meaning, meanings_of, objects_of}

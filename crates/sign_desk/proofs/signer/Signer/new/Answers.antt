@@ -1,8 +1,8 @@
 use Rattle.std.proofs.Common.{◌≡◌, ◌∷◌, [], ◌∙◌, ap}
 use Rattle.sequential_signer.specs.Policy.{policy_of}
 use Rattle.sequential_signer.specs.Setup.{Setup}
-use Rattle.sign_desk.specs.DeskState.{setup_of}
-use Rattle.sign_desk.specs.SignerInvariant.{loader_for}
+use Rattle.desk_parts.specs.Tables.{setup_of}
+use Rattle.desk_parts.specs.ProviderList.{loader_for}
 use Rattle.sign_desk.proofs.SignerSetup.{signer-new}
 use Rattle.sign_desk.proofs.signer.Signer.new.Goals as goal
 

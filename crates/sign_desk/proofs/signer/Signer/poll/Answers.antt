@@ -1,9 +1,10 @@
 use Rattle.std.proofs.Common.{◌≡◌, Option, Some, refl, sym, ◌∙◌, ap, subst}
 use Rattle.sequential_signer.specs.Policy.{policy_of}
-use Rattle.sign_desk.specs.CallAt.{loader_of}
+use Rattle.desk_parts.specs.CallAt.{loader_of}
 use Rattle.sign_desk.specs.Course.{PollOutcome, polled_call, IsDriven, IsPoll}
 use Rattle.sign_desk.specs.MadeBy.{IsStateMade, IsMadeBy}
-use Rattle.sign_desk.specs.SignerInvariant.{SignerState, IsSigner, loader_for, is_above_all}
+use Rattle.sign_desk.specs.SignerInvariant.{SignerState, IsSigner, is_above_all}
+use Rattle.desk_parts.specs.ProviderList.{loader_for}
 use Rattle.sign_desk.specs.SignerObjects.{Objects, call_meaning, meanings_of, objects_of}
 use Rattle.sign_desk.proofs.PollSteps.{course-represents}
 use Rattle.sign_desk.specs.SignerCalls.{IsAnswerMadeBy}

@@ -9,7 +9,7 @@ use Rattle.sign_desk.specs.Steps.{IsStep}
 use Rattle.sign_desk.specs.SignerCalls.{Begins}
 use Rattle.sign_desk.specs.SignerInvariant.{SignerState}
 use Rattle.sign_desk.specs.SignerObjects.{meanings_of}
-use Rattle.sign_desk.specs.declared.sign.BegunCall.{BegunCall}
+use Rattle.sign_desk.specs.Records.{BegunCall}
 use Rattle.sign_desk.specs.declared.sign.SignState.TheVariants.{Waiting}
 use Rattle.sign_desk.proofs.SignerSetup.{above-at}
 use Rattle.sign_desk.proofs.SignerBegins.{signer-begun, begins}

@@ -1,7 +1,7 @@
 use Rattle.std.proofs.Common.{◌≡◌, ◌<◌, Some, length, option_map, slice_get, sym, ◌∙◌, ap, subst}
 use Rattle.sequential_signer.specs.Setup.{Handle}
 use Rattle.sign_desk.specs.SignerInvariant.{SignerState}
-use Rattle.sign_desk.specs.StateView.{handle_view}
+use Rattle.desk_parts.specs.TablesView.{handle_view}
 use Rattle.sign_desk.proofs.SignerSetup.{context-read, signer-service}
 use Rattle.sign_desk.proofs.signer.Signer.with_request_signer.Goals as goal
 

@@ -1,31 +1,12 @@
-use Rattle.std.proofs.Common.{◌≡◌, ◌∙◌, sym, ap, subst, Option, Some, None, option_copied, option_map, slice_get, IfSome}
-use Rattle.sign_desk.specs.DeskState.{find_call}
+use Rattle.std.proofs.Common.{◌∙◌, sym, ap, subst, Option, IfSome}
+use Rattle.desk_parts.specs.LiveCallView.{find_view}
+use Rattle.desk_parts.specs.declared.tables.LiveCallView.{LiveCallView}
+use Rattle.sign_desk.specs.DeskState.{DeskState}
 use Rattle.sign_desk.specs.StepPrecondition.{IsPlaced}
-use Rattle.sign_desk.specs.StateView.{handle_view}
-use Rattle.sign_desk.specs.declared.state.LiveCallView.{LiveCallView}
-use Rattle.sign_desk.proofs.Views.{find_view-no_record, find_view-no_handle, find_view-is}
 use Rattle.sign_desk.proofs.state.State.find.Goals as goal
-
-pub returns-in_err-live-clause-view : goal.returns-in_err-live-clause-view
-returns-in_err-live-clause-view g c =
-    let none : find_call c.args.call c.args.self.now.calls ≡ None = sym c.record_of.ensures ∙ ap option_copied (c.in_err-live.was) in
-    c.from_residual.ensures ∙ sym (find_view-no_record c.args.self.now c.args.call none)
-
-pub returns-in_err-handle-clause-view : goal.returns-in_err-handle-clause-view
-returns-in_err-handle-clause-view g c =
-    let none : slice_get c.args.self.now.handles c.args.call.handle ≡ None = sym c.handle_at.ensures ∙ ap (option_map handle_view) (c.in_err-handle.was) in
-    c.from_residual-in_err-handle.ensures ∙ sym (find_view-no_handle c.args.self.now c.args.call none)
-
-pub returns-clause-view : goal.returns-clause-view
-returns-clause-view g c =
-    let handle : slice_get c.args.self.now.handles c.args.call.handle ≡ Some (handle_view c.in_ok-handle.handle) = sym c.handle_at.ensures ∙ ap (option_map handle_view) (c.in_ok-handle.was) in
-    let live : find_call c.args.call c.args.self.now.calls ≡ Some c.in_ok-live.live.now = sym c.record_of.ensures ∙ ap option_copied c.in_ok-live.was in
-    sym (find_view-is c.args.self.now c.args.call (handle_view c.in_ok-handle.handle) c.in_ok-live.live.now handle live)
 
 pub returns-clause-placed : goal.returns-clause-placed
 returns-clause-placed g c =
-    let handle : slice_get c.args.self.now.handles c.args.call.handle ≡ Some (handle_view c.in_ok-handle.handle) = sym c.handle_at.ensures ∙ ap (option_map handle_view) (c.in_ok-handle.was) in
-    let live : find_call c.args.call c.args.self.now.calls ≡ Some c.in_ok-live.live.now = sym c.record_of.ensures ∙ ap option_copied c.in_ok-live.was in
     subst (λ (o : Option LiveCallView). IfSome o (IsPlaced c.args.self.now))
-    (find_view-is c.args.self.now c.args.call (handle_view c.in_ok-handle.handle) c.in_ok-live.live.now handle live)
+    (sym (c.find.ensures.view ∙ ap (λ (k : DeskState g.row.K.Denot g.row.D.Denot). find_view k c.args.call) c.self.view_is))
     (c.requires.calls c.args.call)

@@ -1,0 +1,59 @@
+-- The queue of a cache: the calls that hold and wait, and the number of those that were begun and not polled.
+use Rattle.std.specs.Prelude.{◌≡◌, ◌<◌, ℕ, zero, suc, ◌+◌, ◌-◌, Bool, true, false, not, List, [], ◌∷◌, ◌++◌, Option, Some, None, filter, slice_get, if◌then◌else◌}
+use Rattle.wake_lock.specs.declared.CallId.{CallId}
+use Rattle.wake_lock.specs.Calls.{same_call, first_of, is_among}
+
+-- the call that holds, then the calls that wait; and how many calls may still come
+pub record Queue : Type 0 where
+  pub line : List CallId
+  pub unpolled : ℕ
+
+-- whether anybody is in the line
+abbrev pub is_held_line : List CallId → Bool
+is_held_line [] = false
+is_held_line (x ∷ rest) = true
+
+-- whether a call holds
+abbrev pub is_held : Queue → Bool
+is_held queue = is_held_line queue.line
+
+-- the call that gets its turn where this call leaves: the second of the line, where this one is the first
+abbrev pub next_holder : CallId → List CallId → Option CallId
+next_holder call [] = None
+next_holder call (x ∷ rest) = if same_call call x then first_of rest else None
+
+-- one more call may come
+abbrev pub with_room : Queue → Queue
+with_room queue = record queue { unpolled = queue.unpolled + 1 }
+
+-- the call came, and stands behind all others
+abbrev pub with_last : CallId → Queue → Queue
+with_last call queue = record { line = queue.line ++ call ∷ []; unpolled = queue.unpolled - 1 }
+
+-- a call came that takes no place
+abbrev pub without_room : Queue → Queue
+without_room queue = record queue { unpolled = queue.unpolled - 1 }
+
+-- the call is out of the line
+abbrev pub without_call : CallId → Queue → Queue
+without_call call queue = record queue { line = filter (λ other. not (same_call other call)) queue.line }
+
+-- a list where the item at this place changed
+abbrev pub with_changed : {A : Type 0} → (A → A) → ℕ → List A → List A
+with_changed change i [] = []
+with_changed change zero (x ∷ rest) = change x ∷ rest
+with_changed change (suc i) (x ∷ rest) = x ∷ with_changed change i rest
+
+-- the line of a queue, where there is one
+abbrev pub queue_line : Option Queue → List CallId
+queue_line None = []
+queue_line (Some queue) = queue.line
+
+-- the line of cache i
+abbrev pub line_at : ℕ → List Queue → List CallId
+line_at i queues = queue_line (slice_get queues i)
+
+-- a call that was not polled is not in the line, and its room is counted
+pub record MayEnter (call : CallId) (queue : Queue) : Type 0 where
+  pub outside : is_among call queue.line ≡ false
+  pub counted : 0 < queue.unpolled
