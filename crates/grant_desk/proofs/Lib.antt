@@ -1,0 +1,15 @@
+pub mod GrantEmpty
+pub mod GrantRefine
+pub mod GrantDeskInvariant
+pub mod GrantLive
+pub mod GrantRefineLive
+pub mod GrantRefineBegin
+pub mod GrantRefineLook
+pub mod GrantRefineLoad
+pub mod GrantRefineEnd
+pub mod GrantRefineStep
+pub mod GrantLoadsFew
+pub mod GrantPreconditionLemmas
+pub mod GrantCaused
+pub mod GrantRunLemmas
+pub mod GrantStepTaken

@@ -1,0 +1,18 @@
+use Rattle.std.proofs.Common.{◌≡◌, ◌≤◌, ◌++◌, List, length, take, vec_capacity}
+use Rattle.sequential_signer.specs.Policy.{policy_of}
+use Rattle.sequential_signer.specs.declared.grant_event.GrantEntry.{GrantEntry}
+use Rattle.grant_desk.specs.GrantDeskState.{GrantRepresents}
+use Rattle.desk_parts.specs.Tables.{setup_of}
+use Rattle.grant_desk.specs.GrantSteps.{AreGrantSteps, paired_grants}
+use Rattle.grant_desk.proofs.desk.GrantDesk.run.Given as goal
+
+-- so far the replies stand beside the events, and there is room for the rest
+abbrev pub invariant-loop-event : goal.invariant-loop-event
+invariant-loop-event g l = record {
+  count : length l.replies.items ≡ l.event-index;
+  room : length l.events ≤ vec_capacity l.replies;
+  steps : AreGrantSteps (policy_of g.K.SigningCredential.valid g.K.SigningCredential.valid_at g.D.DeadlineRule.deadline) (take l.event-index l.events) l.replies.items l.initial.self l.self;
+  setup : setup_of l.self ≡ setup_of l.initial.self;
+  represents : (entries : List (GrantEntry g.row.K.Denot)) → GrantRepresents (policy_of g.K.SigningCredential.valid g.K.SigningCredential.valid_at g.D.DeadlineRule.deadline) l.initial.self entries
+      → GrantRepresents (policy_of g.K.SigningCredential.valid g.K.SigningCredential.valid_at g.D.DeadlineRule.deadline) l.self (entries ++ paired_grants (take l.event-index l.events) l.replies.items);
+}
