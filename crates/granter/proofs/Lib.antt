@@ -1,0 +1,11 @@
+pub mod CallSteps
+pub mod PollSteps
+pub mod StepsTaken
+pub mod PollEnds
+pub mod ObjectMeanings
+pub mod Underway
+pub mod GranterObjectsAt
+pub mod GranterOthers
+pub mod GranterSetup
+pub mod GranterBegins
+pub mod CallsOfGranter

@@ -1,0 +1,257 @@
+-- What a step of a poll is, by the reply of the desk or by what an object answered.
+use Rattle.std.proofs.Common.{◌≡◌, ℕ, Option, Some, None, IsTrue, refl, ap}
+use Rattle.sign_base.specs.Error.{ErrorParts}
+use Rattle.credentials.specs.declared.polled.Polled.{Polled}
+use Rattle.credentials.specs.declared.polled.Polled.TheVariants as polled
+use Rattle.sequential_signer.specs.declared.event.Answer.TheVariants.{Found, Missing, Failed}
+use Rattle.sequential_signer.specs.declared.grant_event.GrantEvent.TheVariants.{Poll, Provided, Granted}
+use Rattle.sequential_signer.specs.declared.grant_event.GrantReply.{GrantReply}
+use Rattle.sequential_signer.specs.declared.grant_event.GrantReply.TheVariants as reply
+use Rattle.sequential_signer.specs.declared.grant_event.GrantWhy.{GrantWhy}
+use Rattle.sequential_signer.specs.declared.grant_event.GrantWhy.TheVariants as why
+use Rattle.sequential_signer.specs.declared.grant_event.Made.TheVariants as made
+use Rattle.desk_parts.specs.CallAt.{IsAsking, IsSigning, LeavesOthers}
+use Rattle.desk_parts.specs.LoadAnswer.{IsLoadPending, KeepsLoad, IsLoadOpen}
+use Rattle.desk_parts.specs.declared.load_state.LoadState.{LoadState}
+use Rattle.desk_parts.specs.declared.load_state.LoadState.TheVariants as load
+use Rattle.grant_desk.specs.GrantSteps.{IsGrantStep}
+use Rattle.granter.specs.CallStep.{IsUnpolled, AfterPoll, AfterFound, AfterNone, AfterMade, is_of_look, is_of_check}
+use Rattle.granter.specs.Course.{PolledCall, Pends, Gives, Refuses, RunsOut, IsAnswerGiven, IsMadeGiven, IsRefusal}
+use Rattle.granter.specs.MadeBy.{IsLoadMade, IsWorkMade}
+use Rattle.granter.specs.ObjectAnswer.{IsWorkPending, KeepsWork, IsWorkOpen}
+use Rattle.granter.specs.PollStep.{StepChange, IsTaken, Ends}
+use Rattle.granter.specs.StepReply.{plain_refusal, went_after_poll, went_after_found, went_after_none, went_after_made}
+use Rattle.granter.specs.declared.grant.CallState.TheVariants.{Waiting, Loading, Granting}
+use Rattle.granter.specs.declared.grant.WorkState.{WorkState}
+use Rattle.granter.specs.declared.grant.WorkState.TheVariants as work
+use Rattle.granter.specs.declared.refusal.GrantRefusal.TheVariants as refusal
+use Rattle.granter.specs.declared.went.StepEnd.TheVariants as end
+use Rattle.granter.proofs.PollSteps.{ends-without, ends-by}
+
+-- where the load is pending it is kept
+keeps-pending : {K L : Type 0} (started ready : L → Type 0) (l : LoadState K L) (x : L) → IsLoadPending started ready l → KeepsLoad l (load.Started x)
+keeps-pending started ready load.Unstarted x pending = tt
+keeps-pending started ready (load.Started y) x pending = tt
+keeps-pending started ready (load.Found source) x pending = absurd pending
+
+-- where the work is pending it is kept
+keeps-pending-work : {K W : Type 0} (started ready : W → Type 0) (w : WorkState K W) (x : W) → IsWorkPending started ready w → KeepsWork w (work.Started x)
+keeps-pending-work started ready work.Unstarted x pending = tt
+keeps-pending-work started ready (work.Started y) x pending = tt
+keeps-pending-work started ready (work.Made credential) x pending = absurd pending
+
+module _ {K L : Type 0} (gives : Polled (Option K) → Type 0) where
+  found-given : (l : LoadState K L) (found : K) → gives (polled.Ready (Some found)) → KeepsLoad l (load.Found found) → IsAnswerGiven gives l (Found found)
+  found-given load.Unstarted found h keeps = h
+  found-given (load.Started x) found h keeps = h
+  found-given (load.Found kept) found h keeps = let same : found ≡ kept = cc in ap Found same
+
+  missing-given : (l : LoadState K L) → gives (polled.Ready None) → IsLoadOpen l → IsAnswerGiven gives l Missing
+  missing-given load.Unstarted h unanswered = h
+  missing-given (load.Started x) h unanswered = h
+  missing-given (load.Found kept) h unanswered = absurd unanswered
+
+  failed-given : (l : LoadState K L) (n : ℕ) (e : ErrorParts) → gives (polled.Failed e) → IsLoadOpen l → IsAnswerGiven gives l (Failed n)
+  failed-given load.Unstarted n e h unanswered = (e, h)
+  failed-given (load.Started x) n e h unanswered = (e, h)
+  failed-given (load.Found kept) n e h unanswered = absurd unanswered
+
+module _ {K W : Type 0} (gives : Polled K → Type 0) where
+  made-given : (w : WorkState K W) (credential : K) → gives (polled.Ready credential) → KeepsWork w (work.Made credential) → IsMadeGiven gives w (made.Made credential)
+  made-given work.Unstarted credential h keeps = h
+  made-given (work.Started x) credential h keeps = h
+  made-given (work.Made kept) credential h keeps = let same : credential ≡ kept = cc in ap made.Made same
+
+  unmade-given : (w : WorkState K W) (n : ℕ) (e : ErrorParts) → gives (polled.Failed e) → IsWorkOpen w → IsMadeGiven gives w (made.Failed n)
+  unmade-given work.Unstarted n e h unanswered = (e, h)
+  unmade-given (work.Started x) n e h unanswered = (e, h)
+  unmade-given (work.Made kept) n e h unanswered = absurd unanswered
+
+module _ {K D L W : Type 0} (v : PolledCall K D L W) (change : StepChange K D) where
+  refuses-look : (cause : GrantWhy) → IsTrue (is_of_look cause) → IsRefusal v.meaning Waiting cause (plain_refusal cause)
+  refuses-look why.Missing h = tt
+  refuses-look why.Range h = tt
+  refuses-look (why.Short deadline) h = absurd (cc)
+  refuses-look (why.Loader n) h = absurd (cc)
+  refuses-look (why.Service n) h = absurd (cc)
+  refuses-look (why.Stale moment) h = absurd (cc)
+
+  pub poll-taken : (answered : GrantReply K) → IsUnpolled v.begun change.old → IsGrantStep v.policy (Poll v.begun.id v.now) change.old answered change.new
+      → AfterPoll v.begun answered change.new → LeavesOthers v.begun.id change.old change.new → IsTaken v Waiting change (went_after_poll answered)
+  poll-taken reply.OutOfMemory unpolled step after others =
+      ends-without v Waiting change.old change (end.OutOfMemory Waiting) RunsOut refl step.unchanged tt tt unpolled tt
+  poll-taken (reply.Ask provider) unpolled step after others = record {
+    event = Poll v.begun.id v.now;
+    answered = reply.Ask provider;
+    given = (refl, refl);
+    step = step;
+    after = refl;
+    later = tt;
+    made = (after.1, tt);
+    others = others;
+  }
+  poll-taken (reply.Grant source) unpolled step after others = record {
+    event = Poll v.begun.id v.now;
+    answered = reply.Grant source;
+    given = (refl, refl);
+    step = step;
+    after = refl;
+    later = tt;
+    made = (after, tt);
+    others = others;
+  }
+  poll-taken (reply.Refused cause) unpolled step after others =
+      ends-by v Waiting change (Poll v.begun.id v.now) (reply.Refused cause) (end.Refused (plain_refusal cause)) (Refuses (plain_refusal cause)) (refl, refl) step
+      (refuses-look cause after) refl tt tt others
+  poll-taken reply.Begun unpolled step after others = absurd after
+  poll-taken reply.Pending unpolled step after others = absurd after
+  poll-taken reply.NotNow unpolled step after others = absurd after
+  poll-taken (reply.Given credential) unpolled step after others = absurd after
+  poll-taken reply.Cancelled unpolled step after others = absurd after
+
+  module _ (provider : ℕ) (l : LoadState K L) where
+    refuses-check : (cause : GrantWhy) → IsTrue (is_of_check cause) → IsRefusal v.meaning (Loading provider l) cause (plain_refusal cause)
+    refuses-check why.Missing h = absurd (cc)
+    refuses-check why.Range h = tt
+    refuses-check (why.Short deadline) h = refl
+    refuses-check (why.Loader n) h = absurd (cc)
+    refuses-check (why.Service n) h = absurd (cc)
+    refuses-check (why.Stale moment) h = absurd (cc)
+
+    pub load-pending : (started : L) → change.new ≡ change.old → IsAsking v.begun provider change.old → v.meaning.load_started provider started
+        → IsLoadPending (v.meaning.load_started provider) (v.meaning.load_ready provider) l
+        → Ends v (Loading provider l) change (end.Pending (Loading provider (load.Started started)))
+    load-pending started still asking made pending =
+        ends-without v (Loading provider l) change.old change (end.Pending (Loading provider (load.Started started))) Pends refl still pending tt (asking, made) (refl, keeps-pending (v.meaning.load_started provider) (v.meaning.load_ready provider) l started pending)
+
+    pub load-without-memory : (kept : LoadState K L) → change.new ≡ change.old → IsAsking v.begun provider change.old → IsLoadMade v.meaning provider kept → KeepsLoad l kept
+        → Ends v (Loading provider l) change (end.OutOfMemory (Loading provider kept))
+    load-without-memory kept still asking made keeps =
+        ends-without v (Loading provider l) change.old change (end.OutOfMemory (Loading provider kept)) RunsOut refl still tt tt (asking, made) (refl, keeps)
+
+    pub found-taken : (found : K) (answered : GrantReply K) → IsAsking v.begun provider change.old → v.meaning.load_gives provider (polled.Ready (Some found)) → KeepsLoad l (load.Found found)
+        → IsGrantStep v.policy (Provided v.begun.id v.now (Found found)) change.old answered change.new → AfterFound v.begun provider answered change.new
+        → LeavesOthers v.begun.id change.old change.new → IsTaken v (Loading provider l) change (went_after_found provider found answered)
+    found-taken found (reply.Grant source) asking gives keeps step after others = record {
+      event = Provided v.begun.id v.now (Found found);
+      answered = reply.Grant source;
+      given = (refl, refl, found-given (v.meaning.load_gives provider) l found gives keeps);
+      step = step;
+      after = refl;
+      later = tt;
+      made = (after, tt);
+      others = others;
+    }
+    found-taken found (reply.Refused cause) asking gives keeps step after others =
+        ends-by v (Loading provider l) change (Provided v.begun.id v.now (Found found)) (reply.Refused cause) (end.Refused (plain_refusal cause)) (Refuses (plain_refusal cause))
+        (refl, refl, found-given (v.meaning.load_gives provider) l found gives keeps) step (refuses-check cause after) refl tt tt others
+    found-taken found reply.OutOfMemory asking gives keeps step after others =
+        ends-without v (Loading provider l) change.old change (end.OutOfMemory (Loading provider (load.Found found))) RunsOut refl step.unchanged tt tt (asking, gives) (refl, keeps)
+    found-taken found reply.Begun asking gives keeps step after others = absurd after
+    found-taken found reply.Pending asking gives keeps step after others = absurd after
+    found-taken found reply.NotNow asking gives keeps step after others = absurd after
+    found-taken found (reply.Ask next) asking gives keeps step after others = absurd after
+    found-taken found (reply.Given credential) asking gives keeps step after others = absurd after
+    found-taken found reply.Cancelled asking gives keeps step after others = absurd after
+
+    pub missing-taken : (answered : GrantReply K) → v.meaning.load_gives provider (polled.Ready None) → IsLoadOpen l
+        → IsGrantStep v.policy (Provided v.begun.id v.now Missing) change.old answered change.new → AfterNone v.begun provider why.Missing answered change.new
+        → LeavesOthers v.begun.id change.old change.new → IsTaken v (Loading provider l) change (went_after_none refusal.Missing answered)
+    missing-taken (reply.Ask next) gives unanswered step after others = record {
+      event = Provided v.begun.id v.now Missing;
+      answered = reply.Ask next;
+      given = (refl, refl, missing-given (v.meaning.load_gives provider) l gives unanswered);
+      step = step;
+      after = refl;
+      later = after.0;
+      made = (after.1, tt);
+      others = others;
+    }
+    missing-taken (reply.Refused why.Missing) gives unanswered step after others =
+        ends-by v (Loading provider l) change (Provided v.begun.id v.now Missing) (reply.Refused why.Missing) (end.Refused refusal.Missing) (Refuses refusal.Missing)
+        (refl, refl, missing-given (v.meaning.load_gives provider) l gives unanswered) step tt refl tt tt others
+    missing-taken (reply.Refused (why.Short d)) gives unanswered step after others = absurd (cc)
+    missing-taken (reply.Refused why.Range) gives unanswered step after others = absurd (cc)
+    missing-taken (reply.Refused (why.Loader n)) gives unanswered step after others = absurd (cc)
+    missing-taken (reply.Refused (why.Service n)) gives unanswered step after others = absurd (cc)
+    missing-taken (reply.Refused (why.Stale m)) gives unanswered step after others = absurd (cc)
+    missing-taken reply.OutOfMemory gives unanswered step after others = absurd after
+    missing-taken reply.Begun gives unanswered step after others = absurd after
+    missing-taken reply.Pending gives unanswered step after others = absurd after
+    missing-taken reply.NotNow gives unanswered step after others = absurd after
+    missing-taken (reply.Grant c) gives unanswered step after others = absurd after
+    missing-taken (reply.Given c) gives unanswered step after others = absurd after
+    missing-taken reply.Cancelled gives unanswered step after others = absurd after
+
+    pub failed-taken : (n : ℕ) (e : ErrorParts) (answered : GrantReply K) → v.meaning.load_gives provider (polled.Failed e) → IsLoadOpen l
+        → IsGrantStep v.policy (Provided v.begun.id v.now (Failed n)) change.old answered change.new → AfterNone v.begun provider (why.Loader n) answered change.new
+        → LeavesOthers v.begun.id change.old change.new → IsTaken v (Loading provider l) change (went_after_none (refusal.Loader e) answered)
+    failed-taken n e (reply.Ask next) gives unanswered step after others = record {
+      event = Provided v.begun.id v.now (Failed n);
+      answered = reply.Ask next;
+      given = (refl, refl, failed-given (v.meaning.load_gives provider) l n e gives unanswered);
+      step = step;
+      after = refl;
+      later = after.0;
+      made = (after.1, tt);
+      others = others;
+    }
+    failed-taken n e (reply.Refused why.Missing) gives unanswered step after others =
+        ends-by v (Loading provider l) change (Provided v.begun.id v.now (Failed n)) (reply.Refused why.Missing) (end.Refused refusal.Missing) (Refuses refusal.Missing)
+        (refl, refl, failed-given (v.meaning.load_gives provider) l n e gives unanswered) step tt refl tt tt others
+    failed-taken n e (reply.Refused (why.Loader m)) gives unanswered step after others =
+        ends-by v (Loading provider l) change (Provided v.begun.id v.now (Failed n)) (reply.Refused (why.Loader m)) (end.Refused (refusal.Loader e)) (Refuses (refusal.Loader e))
+        (refl, refl, failed-given (v.meaning.load_gives provider) l n e gives unanswered) step gives refl tt tt others
+    failed-taken n e (reply.Refused (why.Short d)) gives unanswered step after others = absurd (cc)
+    failed-taken n e (reply.Refused why.Range) gives unanswered step after others = absurd (cc)
+    failed-taken n e (reply.Refused (why.Service m)) gives unanswered step after others = absurd (cc)
+    failed-taken n e (reply.Refused (why.Stale m)) gives unanswered step after others = absurd (cc)
+    failed-taken n e reply.OutOfMemory gives unanswered step after others = absurd after
+    failed-taken n e reply.Begun gives unanswered step after others = absurd after
+    failed-taken n e reply.Pending gives unanswered step after others = absurd after
+    failed-taken n e reply.NotNow gives unanswered step after others = absurd after
+    failed-taken n e (reply.Grant c) gives unanswered step after others = absurd after
+    failed-taken n e (reply.Given c) gives unanswered step after others = absurd after
+    failed-taken n e reply.Cancelled gives unanswered step after others = absurd after
+
+  module _ (source : K) (w : WorkState K W) where
+    pub work-pending : (started : W) → change.new ≡ change.old → IsSigning v.begun change.old
+        → v.meaning.work_started source started → IsWorkPending (v.meaning.work_started source) v.meaning.work_ready w
+        → Ends v (Granting source w) change (end.Pending (Granting source (work.Started started)))
+    work-pending started still granting made pending =
+        ends-without v (Granting source w) change.old change (end.Pending (Granting source (work.Started started))) Pends refl still pending tt (granting, made) (refl, keeps-pending-work (v.meaning.work_started source) v.meaning.work_ready w started pending)
+
+    pub work-without-memory : (kept : WorkState K W) → change.new ≡ change.old → IsSigning v.begun change.old → IsWorkMade v.meaning source kept → KeepsWork w kept
+        → Ends v (Granting source w) change (end.OutOfMemory (Granting source kept))
+    work-without-memory kept still granting made keeps =
+        ends-without v (Granting source w) change.old change (end.OutOfMemory (Granting source kept)) RunsOut refl still tt tt (granting, made) (refl, keeps)
+
+    pub unmade-taken : (n : ℕ) (e : ErrorParts) → v.meaning.work_gives source (polled.Failed e) → IsWorkOpen w
+        → IsGrantStep v.policy (Granted v.begun.id v.now (made.Failed n)) change.old (reply.Refused (why.Service n)) change.new → LeavesOthers v.begun.id change.old change.new
+        → Ends v (Granting source w) change (end.Refused (refusal.Service e))
+    unmade-taken n e gives unanswered step others =
+        ends-by v (Granting source w) change (Granted v.begun.id v.now (made.Failed n)) (reply.Refused (why.Service n)) (end.Refused (refusal.Service e)) (Refuses (refusal.Service e))
+        (refl, refl, unmade-given (v.meaning.work_gives source) w n e gives unanswered) step (gives, unanswered) refl tt tt others
+
+    pub made-taken : (credential : K) (answered : GrantReply K) → IsSigning v.begun change.old → v.meaning.work_gives source (polled.Ready credential) → KeepsWork w (work.Made credential)
+        → IsGrantStep v.policy (Granted v.begun.id v.now (made.Made credential)) change.old answered change.new → AfterMade v.begun v.now credential answered change.new
+        → LeavesOthers v.begun.id change.old change.new → IsTaken v (Granting source w) change (went_after_made source credential answered)
+    made-taken credential (reply.Given handed) granting gives keeps step after others =
+        ends-by v (Granting source w) change (Granted v.begun.id v.now (made.Made credential)) (reply.Given handed) (end.Given handed) (Gives credential)
+        (refl, refl, made-given (v.meaning.work_gives source) w credential gives keeps) step (after, refl) after tt tt others
+    made-taken credential (reply.Refused (why.Stale moment)) granting gives keeps step after others =
+        ends-by v (Granting source w) change (Granted v.begun.id v.now (made.Made credential)) (reply.Refused (why.Stale moment)) (end.Refused (refusal.Stale moment)) (Refuses (refusal.Stale moment))
+        (refl, refl, made-given (v.meaning.work_gives source) w credential gives keeps) step refl refl tt tt others
+    made-taken credential reply.OutOfMemory granting gives keeps step after others =
+        ends-without v (Granting source w) change.old change (end.OutOfMemory (Granting source (work.Made credential))) RunsOut refl step.unchanged tt tt (granting, gives) (refl, keeps)
+    made-taken credential (reply.Refused why.Missing) granting gives keeps step after others = absurd (cc)
+    made-taken credential (reply.Refused (why.Short d)) granting gives keeps step after others = absurd (cc)
+    made-taken credential (reply.Refused why.Range) granting gives keeps step after others = absurd (cc)
+    made-taken credential (reply.Refused (why.Loader n)) granting gives keeps step after others = absurd (cc)
+    made-taken credential (reply.Refused (why.Service n)) granting gives keeps step after others = absurd (cc)
+    made-taken credential reply.Begun granting gives keeps step after others = absurd after
+    made-taken credential reply.Pending granting gives keeps step after others = absurd after
+    made-taken credential reply.NotNow granting gives keeps step after others = absurd after
+    made-taken credential (reply.Ask next) granting gives keeps step after others = absurd after
+    made-taken credential (reply.Grant s) granting gives keeps step after others = absurd after
+    made-taken credential reply.Cancelled granting gives keeps step after others = absurd after

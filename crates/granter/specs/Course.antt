@@ -1,0 +1,174 @@
+-- What a poll of a granter does: events of its desk, one after another, by what the objects answer.
+use Rattle.std.specs.Prelude.{◌≡◌, ℤ, List, [], ◌∷◌, ◌++◌, Option, Some, None}
+use Rattle.std.specs.Option.{unwrap_or}
+use Rattle.sign_base.specs.Error.{ErrorParts}
+use Rattle.credentials.specs.declared.polled.Polled.{Polled}
+use Rattle.credentials.specs.declared.polled.Polled.TheVariants as polled
+use Rattle.sequential_signer.specs.Policy.{Policy}
+use Rattle.sequential_signer.specs.declared.event.Answer.{Answer}
+use Rattle.sequential_signer.specs.declared.event.Answer.TheVariants.{Found, Missing, Failed}
+use Rattle.sequential_signer.specs.declared.grant_event.GrantEntry.{GrantEntry}
+use Rattle.sequential_signer.specs.declared.grant_event.GrantEvent.{GrantEvent}
+use Rattle.sequential_signer.specs.declared.grant_event.GrantEvent.TheVariants.{Poll, Provided, Granted}
+use Rattle.sequential_signer.specs.declared.grant_event.GrantReply.{GrantReply}
+use Rattle.sequential_signer.specs.declared.grant_event.GrantReply.TheVariants as reply
+use Rattle.sequential_signer.specs.declared.grant_event.GrantWhy.{GrantWhy}
+use Rattle.sequential_signer.specs.declared.grant_event.GrantWhy.TheVariants as why
+use Rattle.sequential_signer.specs.declared.grant_event.Made.{Made}
+use Rattle.sequential_signer.specs.declared.grant_event.Made.TheVariants as made
+use Rattle.desk_parts.specs.CallAt.{LeavesOthers}
+use Rattle.desk_parts.specs.LoadAnswer.{IsLoadPending, KeepsLoad}
+use Rattle.desk_parts.specs.declared.load_state.LoadState.{LoadState}
+use Rattle.desk_parts.specs.declared.load_state.LoadState.TheVariants as load
+use Rattle.grant_desk.specs.GrantDeskState.{GrantState, GrantRepresents}
+use Rattle.grant_desk.specs.GrantSteps.{IsGrantStep}
+use Rattle.granter.specs.GranterObjects.{Meanings, Objects, CallMeaning, call_meaning}
+use Rattle.granter.specs.MadeBy.{IsStateMade}
+use Rattle.granter.specs.ObjectAnswer.{IsWorkPending, KeepsWork, IsWorkOpen}
+use Rattle.granter.specs.ObjectPoll.{BegunCall}
+use Rattle.granter.specs.declared.grant.CallState.{CallState}
+use Rattle.granter.specs.declared.grant.CallState.TheVariants.{Waiting, Loading, Granting}
+use Rattle.granter.specs.declared.grant.WorkState.{WorkState}
+use Rattle.granter.specs.declared.grant.WorkState.TheVariants as work
+use Rattle.granter.specs.declared.grant_poll.GrantPoll.{GrantPoll}
+use Rattle.granter.specs.declared.grant_poll.GrantPoll.TheVariants as answer
+use Rattle.granter.specs.declared.refusal.GrantRefusal.{GrantRefusal}
+use Rattle.granter.specs.declared.refusal.GrantRefusal.TheVariants as refusal
+
+-- how a poll ends
+pub data PollEnd (K : Type 0) : Type 0 where
+  -- an object that was asked is not ready
+  Pends : PollEnd K
+  -- this credential was granted
+  Gives : K → PollEnd K
+  -- the call is refused
+  Refuses : GrantRefusal → PollEnd K
+  -- an allocation failed
+  RunsOut : PollEnd K
+
+-- the events of a poll with their replies, and its end
+pub record PollRun (K : Type 0) : Type 0 where
+  pub entries : List (GrantEntry K)
+  pub end : PollEnd K
+
+-- a call that is polled: what its objects mean, what it was begun with, and the moment of the poll
+pub record PolledCall (K D L W : Type 0) : Type 1 where
+  pub policy : Policy K D
+  pub meaning : CallMeaning K L W
+  pub begun : BegunCall
+  pub now : ℤ
+
+-- the answer is the source that is kept, or one that the provider gives
+abbrev pub IsAnswerGiven : {K L : Type 0} → (Polled (Option K) → Type 0) → LoadState K L → Answer K → Type 0
+IsAnswerGiven gives (load.Found kept) given = given ≡ Found kept
+IsAnswerGiven gives l (Found source) = gives (polled.Ready (Some source))
+IsAnswerGiven gives l Missing = gives (polled.Ready None)
+IsAnswerGiven gives l (Failed n) = (e : ErrorParts) × gives (polled.Failed e)
+
+-- the answer is the credential that is kept, or one that the service gives
+abbrev pub IsMadeGiven : {K W : Type 0} → (Polled K → Type 0) → WorkState K W → Made K → Type 0
+IsMadeGiven gives (work.Made kept) given = given ≡ made.Made kept
+IsMadeGiven gives w (made.Made credential) = gives (polled.Ready credential)
+IsMadeGiven gives w (made.Failed n) = (e : ErrorParts) × gives (polled.Failed e)
+
+module _ {K L W : Type 0} where
+  -- where a call is by a reply after which it goes on
+  abbrev pub state_after : GrantReply K → Option (CallState K L W)
+  state_after (reply.Ask provider) = Some (Loading provider load.Unstarted)
+  state_after (reply.Grant source) = Some (Granting source work.Unstarted)
+  state_after _ = None
+
+  -- where a call is behind these replies
+  abbrev pub state_behind : CallState K L W → List (GrantEntry K) → CallState K L W
+  state_behind state [] = state
+  state_behind state (e ∷ rest) = state_behind (unwrap_or (state_after e.reply) state) rest
+
+  -- the call is where it was, and nothing of its load or work was dropped
+  abbrev pub KeepsState : CallState K L W → CallState K L W → Type 0
+  KeepsState Waiting Waiting = Unit {0}
+  KeepsState (Loading provider l) (Loading same kept) = (same ≡ provider) × KeepsLoad l kept
+  KeepsState (Granting source w) (Granting same kept) = (same ≡ source) × KeepsWork w kept
+  KeepsState state kept = ⊥
+
+  -- the refusal of a granter is that of its desk, with the error of the object
+  abbrev pub IsRefusal : CallMeaning K L W → CallState K L W → GrantWhy → GrantRefusal → Type 0
+  IsRefusal m state why.Missing refusal.Missing = Unit {0}
+  IsRefusal m state (why.Short deadline) (refusal.Short moment) = moment ≡ deadline
+  IsRefusal m state why.Range refusal.Range = Unit {0}
+  IsRefusal m (Loading provider l) (why.Loader n) (refusal.Loader e) = m.load_gives provider (polled.Failed e)
+  IsRefusal m (Granting source w) (why.Service n) (refusal.Service e) = m.work_gives source (polled.Failed e) × IsWorkOpen w
+  IsRefusal m state (why.Stale checked) (refusal.Stale moment) = moment ≡ checked
+  IsRefusal m state cause refused = ⊥
+
+  -- the poll ends by this reply
+  abbrev pub EndsBy : CallMeaning K L W → CallState K L W → GrantEvent K → GrantReply K → PollEnd K → Type 0
+  EndsBy m state (Granted call now (made.Made credential)) (reply.Given handed) (Gives given) = (handed ≡ credential) × (given ≡ credential)
+  EndsBy m state event (reply.Refused cause) (Refuses refused) = IsRefusal m state cause refused
+  EndsBy m state event answered end = ⊥
+
+  -- the poll ends without an event: an allocation failed, or the object that is asked is not ready
+  abbrev pub StopsAt : CallMeaning K L W → CallState K L W → PollEnd K → Type 0
+  StopsAt m state RunsOut = Unit {0}
+  StopsAt m (Loading provider l) Pends = IsLoadPending (m.load_started provider) (m.load_ready provider) l
+  StopsAt m (Granting source w) Pends = IsWorkPending (m.work_started source) m.work_ready w
+  StopsAt m state end = ⊥
+
+module _ {K D L W : Type 0} (v : PolledCall K D L W) where
+  -- the event is of the call, at the moment of the poll, and the object that is asked gives its answer
+  abbrev pub IsGiven : CallState K L W → GrantEvent K → Type 0
+  IsGiven Waiting (Poll call now) = (call ≡ v.begun.id) × (now ≡ v.now)
+  IsGiven (Loading provider l) (Provided call now given) = (call ≡ v.begun.id) × (now ≡ v.now) × IsAnswerGiven (v.meaning.load_gives provider) l given
+  IsGiven (Granting source w) (Granted call now given) = (call ≡ v.begun.id) × (now ≡ v.now) × IsMadeGiven (v.meaning.work_gives source) w given
+  IsGiven state event = ⊥
+
+  -- from a call in this state and this desk, the poll has this run, and leaves this desk
+  pub data IsCourse : CallState K L W → GrantState K D → PollRun K → GrantState K D → Type 0 where
+    stops : (state : CallState K L W) (desk : GrantState K D) (end : PollEnd K) → StopsAt v.meaning state end
+        → IsCourse state desk (record { entries = []; end = end }) desk
+    ends : (state : CallState K L W) (old new : GrantState K D) (event : GrantEvent K) (answered : GrantReply K) (end : PollEnd K)
+        → IsGiven state event → IsGrantStep v.policy event old answered new → EndsBy v.meaning state event answered end
+        → IsCourse state old (record { entries = record { event = event; reply = answered } ∷ []; end = end }) new
+    goes_on : (state next : CallState K L W) (old between new : GrantState K D) (event : GrantEvent K) (answered : GrantReply K) (run : PollRun K)
+        → IsGiven state event → IsGrantStep v.policy event old answered between → state_after answered ≡ Some next → IsCourse next between run new
+        → IsCourse state old (record { entries = record { event = event; reply = answered } ∷ run.entries; end = run.end }) new
+
+module _ {P G K C L W : Type 0} where
+  -- the answer is that of the end
+  abbrev pub IsEnd : GrantPoll P G K C L C W K → PollEnd K → Type 0
+  IsEnd (answer.Pending grant) Pends = Unit {0}
+  IsEnd (answer.Given credential) (Gives given) = credential ≡ given
+  IsEnd (answer.Refused refused) (Refuses cause) = refused ≡ cause
+  IsEnd (answer.OutOfMemory grant) RunsOut = Unit {0}
+  IsEnd given end = ⊥
+
+  -- a state that is handed back is one that was made for the call
+  abbrev pub IsAnswerMade : {D : Type 0} → CallMeaning K L W → BegunCall → GrantState K D → GrantPoll P G K C L C W K → Type 0
+  IsAnswerMade m begun desk (answer.Pending grant) = (grant.begun ≡ begun) × IsStateMade m begun desk grant.state
+  IsAnswerMade m begun desk (answer.OutOfMemory grant) = (grant.begun ≡ begun) × IsStateMade m begun desk grant.state
+  IsAnswerMade m begun desk (answer.Given credential) = Unit {0}
+  IsAnswerMade m begun desk (answer.Refused refused) = Unit {0}
+
+  -- a state that is handed back is where the call is, with all that was kept
+  abbrev pub IsAnswerKept : CallState K L W → GrantPoll P G K C L C W K → Type 0
+  IsAnswerKept state (answer.Pending grant) = KeepsState state grant.state
+  IsAnswerKept state (answer.OutOfMemory grant) = KeepsState state grant.state
+  IsAnswerKept state (answer.Given credential) = Unit {0}
+  IsAnswerKept state (answer.Refused refused) = Unit {0}
+
+-- a call in this state is driven by these events of the desk, and ends by them
+pub record IsDriven {P G K C D L W : Type 0} (v : PolledCall K D L W) (state : CallState K L W) (old new : GrantState K D) (poll : GrantPoll P G K C L C W K) : Type 0 where
+  pub run : PollRun K
+  pub course : IsCourse v state old run new
+  pub end : IsEnd poll run.end
+  pub made : IsAnswerMade v.meaning v.begun new poll
+  pub kept : IsAnswerKept (state_behind state run.entries) poll
+  pub others : LeavesOthers v.begun.id old new
+
+-- the poll of a call in this state: whatever transcript the desk represents, it then represents that with the events of the poll
+pub record IsGrantPoll {P G K C D L W : Type 0} (v : PolledCall K D L W) (state : CallState K L W) (old new : GrantState K D) (poll : GrantPoll P G K C L C W K) : Type 0 where
+  pub driven : IsDriven v state old new poll
+  pub represents : (entries : List (GrantEntry K)) → GrantRepresents v.policy old entries → GrantRepresents v.policy new (entries ++ driven.run.entries)
+
+-- the call that is polled, with these objects
+abbrev pub polled_call : {P G K C L W : Type 0} → Policy K G → Meanings P G K C L W → Objects P G C → BegunCall → ℤ → PolledCall K G L W
+polled_call policy m objects begun now = record { policy = policy; meaning = call_meaning m begun objects; begun = begun; now = now }

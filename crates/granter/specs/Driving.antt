@@ -1,0 +1,42 @@
+-- A call that is polled with the objects of a granter.
+use Rattle.std.specs.Prelude.{◌≡◌, ℤ, Some}
+use Rattle.sequential_signer.specs.Policy.{Policy}
+use Rattle.grant_desk.specs.GrantDeskState.{GrantState}
+use Rattle.granter.specs.Course.{PolledCall, polled_call, IsDriven}
+use Rattle.granter.specs.GranterObjects.{Meanings, service_of, with_service, call_meaning}
+use Rattle.granter.specs.MadeBy.{IsStateMade}
+use Rattle.granter.specs.ObjectPoll.{BegunCall}
+use Rattle.granter.specs.PollStep.{StepChange, IsTaken}
+use Rattle.granter.specs.declared.call_objects.CallObjects.{CallObjects}
+use Rattle.granter.specs.declared.grant.CallState.{CallState}
+use Rattle.granter.specs.declared.grant_poll.GrantPoll.{GrantPoll}
+use Rattle.granter.specs.declared.went.Went.{Went}
+
+-- what a poll of a call works with, beside the service, which is a rule of the desk
+pub record Driving (P G K C L W : Type 0) : Type 1 where
+  pub policy : Policy K G
+  pub meanings : Meanings P G K C L W
+  pub objects : CallObjects P C
+  pub begun : BegunCall
+  pub now : ℤ
+
+module _ {P G K C L W : Type 0} (d : Driving P G K C L W) where
+  -- the call with this service
+  abbrev pub call_with : G → PolledCall K G L W
+  call_with service = polled_call d.policy d.meanings (with_service d.objects service) d.begun d.now
+
+  -- this service is the call's
+  abbrev pub IsService : GrantState K G → G → Type 0
+  IsService desk service = service_of desk d.begun.id.handle ≡ Some service
+
+  -- the state was made for the call
+  abbrev pub IsMadeFor : GrantState K G → CallState K L W → Type 0
+  IsMadeFor desk state = (service : G) → IsService desk service → IsStateMade (call_meaning d.meanings d.begun (with_service d.objects service)) d.begun desk state
+
+  -- the step of the call in this state
+  abbrev pub IsStepTaken : CallState K L W → StepChange K G → Went K L W → Type 0
+  IsStepTaken state change went = (service : G) → IsService change.old service → IsTaken (call_with service) state change went
+
+  -- the call in this state is driven by events of the desk, and ends by them
+  abbrev pub IsDrivenFrom : CallState K L W → GrantState K G → GrantState K G → GrantPoll P G K C L C W K → Type 0
+  IsDrivenFrom state old new poll = (service : G) → IsService old service → IsDriven (call_with service) state old new poll

@@ -1,0 +1,48 @@
+-- What the calls of a granter do.
+use Rattle.std.specs.Prelude.{◌≡◌, ◌⊎◌, ℕ, List, [], ◌+◌, codes}
+use Rattle.sign_base.specs.Error.{ErrorParts, new_error}
+use Rattle.sign_base.specs.declared.error_kind.ErrorKind.TheVariants.{RequestInvalid, OutOfMemory}
+use Rattle.wake_lock.specs.declared.CallId.{CallId}
+use Rattle.sequential_signer.specs.Policy.{Policy}
+use Rattle.sequential_signer.specs.declared.grant_event.GrantEvent.TheVariants.{Begin}
+use Rattle.sequential_signer.specs.declared.grant_event.GrantReply.TheVariants.{Begun}
+use Rattle.grant_desk.specs.GrantSteps.{IsGrantStep}
+use Rattle.granter.specs.GranterInvariant.{GranterState}
+use Rattle.granter.specs.GranterObjects.{Meanings}
+use Rattle.granter.specs.MadeBy.{IsGrantMadeBy}
+use Rattle.granter.specs.declared.grant.Grant.{Grant}
+use Rattle.granter.specs.declared.grant_poll.GrantPoll.{GrantPoll}
+use Rattle.granter.specs.declared.grant_poll.GrantPoll.TheVariants as answer
+
+-- all call numbers are used up
+abbrev pub used_up : List ℕ
+used_up = codes "call numbers are used up"
+
+-- why no call is begun: an allocation failed, or there is no further number
+abbrev pub RefusesToBegin : ℕ → ErrorParts → Type 0
+RefusesToBegin begun e = (e ≡ new_error OutOfMemory []) ⊎ ((e ≡ new_error RequestInvalid used_up) × (begun ≡ 18446744073709551615))
+
+-- a granter before and after one of its calls
+pub record GranterChange (P G K C : Type 0) : Type 0 where
+  pub old : GranterState P G K C
+  pub new : GranterState P G K C
+
+module _ {P G K C L W : Type 0} (m : Meanings P G K C L W) where
+  -- every other state that the granter made is still one that it made
+  abbrev pub KeepsOthers : CallId → GranterChange P G K C → Type 0
+  KeepsOthers call change = (other : Grant P G K C L C W K) → (other.begun.id ≡ call → ⊥) → IsGrantMadeBy m change.old other → IsGrantMadeBy m change.new other
+
+  -- a state that a poll hands back is of the same call, and one that the granter made
+  abbrev pub IsAnswerMadeBy : GranterState P G K C → CallId → GrantPoll P G K C L C W K → Type 0
+  IsAnswerMadeBy granter call (answer.Pending grant) = (grant.begun.id ≡ call) × IsGrantMadeBy m granter grant
+  IsAnswerMadeBy granter call (answer.OutOfMemory grant) = (grant.begun.id ≡ call) × IsGrantMadeBy m granter grant
+  IsAnswerMadeBy granter call (answer.Given credential) = Unit {0}
+  IsAnswerMadeBy granter call (answer.Refused refused) = Unit {0}
+
+  -- a call that was begun: the next number, and the event of the desk
+  pub record Begins (policy : Policy K G) (change : GranterChange P G K C) (grant : Grant P G K C L C W K) : Type 0 where
+    pub number : grant.begun.id.number ≡ change.old.begun
+    pub step : IsGrantStep policy (Begin grant.begun.id grant.begun.expires_in) change.old.desk Begun change.new.desk
+    pub next : change.new ≡ record change.old { desk = change.new.desk; begun = change.old.begun + 1 }
+    pub made : IsGrantMadeBy m change.new grant
+    pub others : KeepsOthers grant.begun.id change

@@ -1,0 +1,14 @@
+pub mod CallStep
+pub mod GranterInvariant
+pub mod ObjectAnswer
+pub mod ObjectPoll
+pub mod GranterObjects
+pub mod MadeBy
+pub mod Course
+pub mod PollStep
+pub mod StepReply
+pub mod Driving
+pub mod GranterCalls
+pub mod CallsOf
+pub mod RefusalText
+pub mod RefusalError

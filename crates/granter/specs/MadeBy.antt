@@ -1,0 +1,35 @@
+-- The states of calls that a granter made.
+use Rattle.std.specs.Prelude.{ℕ, IsSomeAnd}
+use Rattle.desk_parts.specs.CallAt.{IsAsking, IsSigning}
+use Rattle.desk_parts.specs.LoadAnswer.{IsLoadKept}
+use Rattle.desk_parts.specs.declared.load_state.LoadState.{LoadState}
+use Rattle.grant_desk.specs.GrantDeskState.{GrantState}
+use Rattle.granter.specs.CallStep.{IsUnpolled}
+use Rattle.granter.specs.GranterInvariant.{GranterState}
+use Rattle.granter.specs.GranterObjects.{Meanings, CallMeaning, call_meaning, objects_of}
+use Rattle.granter.specs.ObjectAnswer.{IsWorkKept}
+use Rattle.granter.specs.ObjectPoll.{BegunCall}
+use Rattle.granter.specs.declared.grant.CallState.{CallState}
+use Rattle.granter.specs.declared.grant.CallState.TheVariants.{Waiting, Loading, Granting}
+use Rattle.granter.specs.declared.grant.Grant.{Grant}
+use Rattle.granter.specs.declared.grant.WorkState.{WorkState}
+
+module _ {K L W : Type 0} (m : CallMeaning K L W) where
+  -- the load was started by the provider last asked, and an answer that is kept is one that it gives
+  abbrev pub IsLoadMade : ℕ → LoadState K L → Type 0
+  IsLoadMade provider l = IsLoadKept (m.load_started provider) (m.load_gives provider) l
+
+  -- the work was started with the source, and an answer that is kept is one that the service gives
+  abbrev pub IsWorkMade : K → WorkState K W → Type 0
+  IsWorkMade source w = IsWorkKept (m.work_started source) (m.work_gives source) w
+
+  -- the desk has the call's record with the same state, and load or work were made for the call
+  abbrev pub IsStateMade : {D : Type 0} → BegunCall → GrantState K D → CallState K L W → Type 0
+  IsStateMade begun desk Waiting = IsUnpolled begun desk
+  IsStateMade begun desk (Loading provider l) = IsAsking begun provider desk × IsLoadMade provider l
+  IsStateMade begun desk (Granting source w) = IsSigning begun desk × IsWorkMade source w
+
+-- this granter made this state
+abbrev pub IsGrantMadeBy : {P G K C L W : Type 0} → Meanings P G K C L W → GranterState P G K C → Grant P G K C L C W K → Type 0
+IsGrantMadeBy m granter grant =
+    IsSomeAnd (objects_of granter grant.begun.id.handle) (λ o. IsStateMade (call_meaning m grant.begun o) grant.begun granter.desk grant.state)

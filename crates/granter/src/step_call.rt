@@ -1,0 +1,171 @@
+//! One step of a call: the desk is polled, or the object that was asked, whose answer goes to the desk.
+ghost use Rattle.std.specs.Prelude.{◌≡◌, Some, IsSome};
+ghost use Rattle.desk_parts.specs.CallAt.{loader_of};
+ghost use Rattle.desk_parts.specs.ProviderList.{loader_for};
+ghost use Rattle.sequential_signer.specs.Policy.{policy_of};
+ghost use Rattle.granter.specs.Driving.{IsMadeFor, IsStepTaken};
+ghost use Rattle.granter.specs.GranterObjects.{meanings_of, service_of};
+ghost use Rattle.granter.specs.declared.grant.CallState.TheVariants.{Loading, Granting};
+
+use crate::call_objects::CallObjects;
+use crate::drive::{give_failed, give_found, give_made, give_missing, give_unmade, poll_call};
+use crate::grant::{CallState, WorkState};
+use crate::granter_objects::poll_service;
+use crate::object_answer::WorkAnswer;
+use crate::refusal::GrantRefusal;
+use crate::step_reply::{after_found, after_made, after_none, after_poll};
+use crate::went::{StepEnd, Went};
+use credentials::{GrantCredential, ProvideCredential, SigningCredential};
+use desk_parts::{BegunCall, LoadAnswer, LoadState, poll_provider, provider_at};
+use grant_desk::GrantDesk;
+use sign_base::Timestamp;
+
+/// One step of a call in this state.
+pub(crate) fn step<P, G>(
+    desk: &mut GrantDesk<P::Credential, G>,
+    objects: &CallObjects<'_, P, P::Ctx>,
+    begun: &BegunCall<()>,
+    now: Timestamp,
+    state: CallState<P::Credential, P::Load, G::Work>,
+) -> Went<P::Credential, P::Load, G::Work>
+where
+    P: ProvideCredential,
+    P::Credential: SigningCredential,
+    G: GrantCredential<Credential = P::Credential, Ctx = P::Ctx>,
+    requires there { IsSome (service_of desk.old begun.now.id.handle) }
+    requires loads { loader_of desk.old begun.now.id.handle ≡ Some (loader_for objects.now.providers.now) }
+    requires made { IsMadeFor (record {
+      policy = policy_of P.Credential.valid P.Credential.valid_at G.deadline;
+      meanings = meanings_of P.ProvideCredential G.GrantCredential.own;
+      objects = objects.now;
+      begun = begun.now;
+      now = now;
+    }) desk.old state }
+    ensures { IsStepTaken (record {
+      policy = policy_of P.Credential.valid P.Credential.valid_at G.deadline;
+      meanings = meanings_of P.ProvideCredential G.GrantCredential.own;
+      objects = objects.now;
+      begun = begun.now;
+      now = now;
+    }) state
+        (record { old = desk.old; new = desk.new }) result }
+{
+    match state {
+        CallState::Waiting => after_poll(poll_call(desk, begun, now)),
+        CallState::Loading(provider, load) => {
+            step_loading(desk, objects, begun, now, provider, load)
+        }
+        CallState::Granting(source, work) => {
+            step_granting(desk, objects, begun, now, source, work)
+        }
+    }
+}
+
+/// The provider that was asked is polled.
+fn step_loading<P, G>(
+    desk: &mut GrantDesk<P::Credential, G>,
+    objects: &CallObjects<'_, P, P::Ctx>,
+    begun: &BegunCall<()>,
+    now: Timestamp,
+    provider: u32,
+    load: LoadState<P::Credential, P::Load>,
+) -> Went<P::Credential, P::Load, G::Work>
+where
+    P: ProvideCredential,
+    P::Credential: SigningCredential,
+    G: GrantCredential<Credential = P::Credential, Ctx = P::Ctx>,
+    requires there { IsSome (service_of desk.old begun.now.id.handle) }
+    requires loads { loader_of desk.old begun.now.id.handle ≡ Some (loader_for objects.now.providers.now) }
+    requires made { IsMadeFor (record {
+      policy = policy_of P.Credential.valid P.Credential.valid_at G.deadline;
+      meanings = meanings_of P.ProvideCredential G.GrantCredential.own;
+      objects = objects.now;
+      begun = begun.now;
+      now = now;
+    }) desk.old (Loading provider load) }
+    ensures { IsStepTaken (record {
+      policy = policy_of P.Credential.valid P.Credential.valid_at G.deadline;
+      meanings = meanings_of P.ProvideCredential G.GrantCredential.own;
+      objects = objects.now;
+      begun = begun.now;
+      now = now;
+    }) (Loading provider load)
+        (record { old = desk.old; new = desk.new }) result }
+{
+    let asked = provider_at(objects.providers, provider).unwrap();
+    match poll_provider(objects.alloc, asked, objects.ctx, load) {
+        LoadAnswer::Pending(load) => {
+            let state = CallState::Loading(provider, LoadState::Started(load));
+            Went::Over(StepEnd::Pending(state))
+        }
+        LoadAnswer::OutOfMemory(load) => {
+            Went::Over(StepEnd::OutOfMemory(CallState::Loading(provider, load)))
+        }
+        LoadAnswer::Found(source) => {
+            let (reply, found) = give_found(desk, begun, provider, now, source);
+            after_found(provider, found, reply)
+        }
+        LoadAnswer::Missing => {
+            after_none(
+                GrantRefusal::Missing,
+                give_missing(desk, begun, provider, now),
+            )
+        }
+        LoadAnswer::Failed(e) => {
+            after_none(
+                GrantRefusal::Loader(e),
+                give_failed(desk, begun, provider, now),
+            )
+        }
+    }
+}
+
+/// The service is polled.
+fn step_granting<P, G>(
+    desk: &mut GrantDesk<P::Credential, G>,
+    objects: &CallObjects<'_, P, P::Ctx>,
+    begun: &BegunCall<()>,
+    now: Timestamp,
+    source: P::Credential,
+    work: WorkState<P::Credential, G::Work>,
+) -> Went<P::Credential, P::Load, G::Work>
+where
+    P: ProvideCredential,
+    P::Credential: SigningCredential,
+    G: GrantCredential<Credential = P::Credential, Ctx = P::Ctx>,
+    requires there { IsSome (service_of desk.old begun.now.id.handle) }
+    requires made { IsMadeFor (record {
+      policy = policy_of P.Credential.valid P.Credential.valid_at G.deadline;
+      meanings = meanings_of P.ProvideCredential G.GrantCredential.own;
+      objects = objects.now;
+      begun = begun.now;
+      now = now;
+    }) desk.old (Granting source work) }
+    ensures { IsStepTaken (record {
+      policy = policy_of P.Credential.valid P.Credential.valid_at G.deadline;
+      meanings = meanings_of P.ProvideCredential G.GrantCredential.own;
+      objects = objects.now;
+      begun = begun.now;
+      now = now;
+    }) (Granting source work)
+        (record { old = desk.old; new = desk.new }) result }
+{
+    let service = desk.rule_of(begun.id.handle).unwrap();
+    match poll_service(objects.alloc, service, objects.ctx, begun, &source, work) {
+        WorkAnswer::Pending(work) => {
+            let state = CallState::Granting(source, WorkState::Started(work));
+            Went::Over(StepEnd::Pending(state))
+        }
+        WorkAnswer::OutOfMemory(work) => {
+            Went::Over(StepEnd::OutOfMemory(CallState::Granting(source, work)))
+        }
+        WorkAnswer::Made(credential) => {
+            let (reply, made) = give_made(desk, begun, now, credential);
+            after_made(source, made, reply)
+        }
+        WorkAnswer::Failed(e) => {
+            give_unmade(desk, begun, now);
+            Went::Over(StepEnd::Refused(GrantRefusal::Service(e)))
+        }
+    }
+}
