@@ -1,14 +1,11 @@
 -- The items and the version of the lines of a script, with one more.
 use Rattle.std.proofs.Common.{◌≡◌, ◌≤◌, ℕ, suc, List, [], ◌∷◌, ◌++◌, length, Option, Some, None, refl, arith}
 use Rattle.std.specs.List.{filter_map, cons_option}
-use Rattle.std.proofs.lemmas.List.{append-nil}
 use Rattle.std.proofs.lemmas.List.Elements.{filter_map-append}
 use Rattle.signctl_format.specs.declared.item.Item.{Item}
-use Rattle.signctl_format.specs.declared.script_version.ScriptVersion.{ScriptVersion}
-use Rattle.signctl_format.specs.declared.script_version.ScriptVersion.TheVariants.{One, Two}
 use Rattle.signctl_core.specs.Script.{item_in, items_in, version_after, version_in, setup_in, loader_in, handle_in}
 use Rattle.signctl_core.specs.declared.script_line.ScriptLine.{ScriptLine}
-use Rattle.signctl_core.specs.declared.script_line.ScriptLine.TheVariants.{VersionTwo, Says}
+use Rattle.signctl_core.specs.declared.script_line.ScriptLine.TheVariants.{Says}
 
 -- a line that says something adds its item
 pub items_in-says : (lines : List ScriptLine) (item : Item) → items_in (lines ++ Says item ∷ []) ≡ items_in lines ++ item ∷ []

@@ -1,11 +1,12 @@
 -- What is known of a line that was read, and of a version line.
-use Rattle.std.proofs.Common.{◌≡◌, ℕ, List, [], ◌∷◌, ◌++◌, Bool, true, false, ◌&&◌, if◌then◌else◌, Option, Some, None, Result, Ok, Err, refl, sym, ap, ◌∙◌, subst}
+use Rattle.std.proofs.Common.{◌≡◌, List, [], ◌∷◌, Bool, true, false, ◌&&◌, if◌then◌else◌, Option, Some, None, Result, Ok, Err, refl, ap, subst}
 use Rattle.signctl_driver.specs.Command.{MayFollow}
 use Rattle.signctl_format.specs.declared.item.Item.{Item}
 use Rattle.signctl_format.specs.declared.line_error.LineError.{LineError}
 use Rattle.signctl_format.specs.Grammar.{is_version_line}
 use Rattle.signctl_format.specs.Reading.{item_of}
-use Rattle.signctl_core.specs.Script.{items_in, is_empty, item_error, line_or, item_reading, version_in, script_reading}
+use Rattle.signctl_format.specs.ScriptSetup.{is_empty}
+use Rattle.signctl_core.specs.Script.{items_in, item_error, line_or, item_reading, version_in}
 use Rattle.signctl_core.specs.ScriptOutput.{script_command}
 use Rattle.signctl_core.specs.declared.script_line.ScriptLine.{ScriptLine}
 use Rattle.signctl_core.specs.declared.script_line.ScriptLine.TheVariants.{VersionTwo, Says}

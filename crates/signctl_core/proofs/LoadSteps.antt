@@ -11,7 +11,8 @@ use Rattle.sequential_signer.specs.declared.event.Entry.{Entry}
 use Rattle.sequential_signer.specs.declared.event.Event.{Event}
 use Rattle.sequential_signer.specs.declared.event.Reply.{Reply}
 use Rattle.sequential_signer.proofs.Run.{committed_entries-more, committed_entries-none}
-use Rattle.sign_desk.specs.DeskState.{Represents, setup_of}
+use Rattle.sign_desk.specs.DeskState.{Represents}
+use Rattle.desk_parts.specs.Tables.{setup_of}
 use Rattle.signctl_format.specs.declared.credential.ScriptCredential.{ScriptCredential}
 use Rattle.signctl_format.specs.declared.credential.ScriptRule.{ScriptRule}
 use Rattle.signctl_format.specs.Policy.{script_policy}

@@ -11,23 +11,25 @@ use Rattle.sequential_signer.specs.declared.event.Loader.{Loader}
 use Rattle.sequential_signer.specs.declared.event.Reply.{Reply}
 use Rattle.sequential_signer.specs.declared.event.Reply.TheVariants.{OutOfMemory}
 use Rattle.sequential_signer.proofs.ExpectedReplies.{committed_entries-expected, expected_entries-more}
-use Rattle.sign_desk.specs.DeskState.{DeskState, Represents, setup_of, was_begun}
-use Rattle.sign_desk.specs.Adding.{with_cache, with_handle, AddAnswer, late_refusal, handle_refusal}
-use Rattle.sign_desk.specs.declared.adding.AddError.{AddError}
-use Rattle.sign_desk.specs.declared.adding.AddError.TheVariants.{Late, NoCache, NoRule}
+use Rattle.sign_desk.specs.DeskState.{DeskState, Represents}
+use Rattle.desk_parts.specs.Tables.{setup_of, was_begun}
+use Rattle.sign_desk.specs.DeskState.{with_cache}
+use Rattle.desk_parts.specs.Adding.{with_handle, AddAnswer, late_refusal, handle_refusal}
+use Rattle.desk_parts.specs.declared.adding.AddError.{AddError}
+use Rattle.desk_parts.specs.declared.adding.AddError.TheVariants.{Late, NoCache, NoRule}
 use Rattle.signctl_format.specs.declared.credential.ScriptCredential.{ScriptCredential}
 use Rattle.signctl_format.specs.declared.credential.ScriptRule.{ScriptRule}
 use Rattle.signctl_format.specs.declared.credential.ScriptRule.TheVariants.{Now, Cred}
 use Rattle.signctl_format.specs.declared.item.Item.{Item}
 use Rattle.signctl_format.specs.declared.item.Item.TheVariants as item
-use Rattle.signctl_format.specs.declared.line_error.LineError.{LineError}
 use Rattle.signctl_format.specs.declared.line_error.LineError.TheVariants as line_error
 use Rattle.signctl_format.specs.declared.script_version.ScriptVersion.{ScriptVersion}
 use Rattle.signctl_format.specs.Policy.{script_policy}
 use Rattle.signctl_format.specs.ScriptEvents.{plain_event}
 use Rattle.sign_base.specs.Bytes.{newline}
 use Rattle.sign_base.specs.Lines.{input_limit}
-use Rattle.signctl_core.specs.Script.{setup_in, events_in, items_in, version_in, is_empty, item_error, place_of_rule}
+use Rattle.signctl_format.specs.ScriptSetup.{is_empty, place_of_rule}
+use Rattle.signctl_core.specs.Script.{setup_in, events_in, items_in, version_in, item_error}
 use Rattle.signctl_core.specs.ScriptOutput.{transcript_of, with_newline}
 use Rattle.signctl_core.specs.SessionState.{SessionState, RepresentsItems, SessionRepresents}
 use Rattle.signctl_core.specs.declared.script_line.ScriptLine.{ScriptLine}

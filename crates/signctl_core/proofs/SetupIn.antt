@@ -1,5 +1,5 @@
 -- The setup and the events of a script, with one more line.
-use Rattle.std.proofs.Common.{◌≡◌, ℕ, true, List, [], ◌∷◌, ◌++◌, refl, ap, ◌∙◌}
+use Rattle.std.proofs.Common.{◌≡◌, ℕ, List, [], ◌∷◌, ◌++◌, refl, ap, ◌∙◌}
 use Rattle.std.specs.List.{filter_map}
 use Rattle.std.proofs.lemmas.List.{append-nil}
 use Rattle.std.proofs.lemmas.List.Elements.{filter_map-append}
@@ -10,7 +10,8 @@ use Rattle.signctl_format.specs.declared.credential.ScriptCredential.{ScriptCred
 use Rattle.signctl_format.specs.declared.credential.ScriptRule.{ScriptRule}
 use Rattle.signctl_format.specs.declared.item.Item.{Item}
 use Rattle.signctl_format.specs.declared.item.Item.TheVariants as item
-use Rattle.signctl_core.specs.Script.{setup_in, events_in, loader_in, handle_in, event_in, script_rules, place_of_rule}
+use Rattle.signctl_format.specs.ScriptSetup.{script_rules, place_of_rule}
+use Rattle.signctl_core.specs.Script.{setup_in, events_in, loader_in, handle_in, event_in}
 
 abbrev setup_by : List Loader → List Handle → Setup ScriptRule
 setup_by loaders handles = record { loaders = loaders; rules = script_rules; handles = handles }

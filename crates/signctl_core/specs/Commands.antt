@@ -8,10 +8,11 @@ use Rattle.signctl_driver.specs.declared.status.Status.{Status}
 use Rattle.signctl_lines.specs.HmacAnswers.{hmac_command}
 use Rattle.signctl_lines.specs.ViewAnswers.{view_command}
 use Rattle.signctl_format.specs.Words.{number_of}
+use Rattle.signctl_grant.specs.GrantOutput.{grant_command}
 use Rattle.signctl_core.specs.ScriptOutput.{script_command}
 use Rattle.signctl_core.specs.Load.{most_calls, LoadAdds}
 use Rattle.signctl_core.specs.declared.commands.CommandName.{CommandName}
-use Rattle.signctl_core.specs.declared.commands.CommandName.TheVariants.{Script, Hmac, View, Load}
+use Rattle.signctl_core.specs.declared.commands.CommandName.TheVariants.{Script, Hmac, View, Grant, Load}
 
 -- the command that this word names
 abbrev pub command_by_word : List ℕ → Option CommandName
@@ -19,7 +20,8 @@ command_by_word word =
     if bytes_eq word (codes "script") then Some Script
     else (if bytes_eq word (codes "hmac") then Some Hmac
     else (if bytes_eq word (codes "view") then Some View
-    else None))
+    else (if bytes_eq word (codes "grant") then Some Grant
+    else None)))
 
 -- the command that this word names with a number
 abbrev pub command_by_number : List ℕ → List ℕ → Option CommandName
@@ -37,6 +39,7 @@ abbrev pub CommandAdds : CommandName → Option (List ℕ) → Status → List �
 CommandAdds Script left status taken added = RunAdds script_command left status taken added
 CommandAdds Hmac left status taken added = RunAdds hmac_command left status taken added
 CommandAdds View left status taken added = RunAdds view_command left status taken added
+CommandAdds Grant left status taken added = RunAdds grant_command left status taken added
 CommandAdds (Load n) left status taken added = (taken ≡ []) × LoadAdds n status added
 
 -- whether a command reads its source

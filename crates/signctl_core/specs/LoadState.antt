@@ -6,7 +6,8 @@ use Rattle.sequential_signer.specs.Legal.{is_sign}
 use Rattle.sequential_signer.specs.declared.event.Reply.{Reply}
 use Rattle.sequential_signer.specs.Transcript.{committed_entries}
 use Rattle.sequential_signer.specs.declared.event.Entry.{Entry}
-use Rattle.sign_desk.specs.DeskState.{Represents, setup_of}
+use Rattle.sign_desk.specs.DeskState.{Represents}
+use Rattle.desk_parts.specs.Tables.{setup_of}
 use Rattle.signctl_format.specs.declared.credential.ScriptCredential.{ScriptCredential}
 use Rattle.signctl_format.specs.Policy.{script_policy}
 use Rattle.signctl_core.specs.Load.{load_setup, is_ask, is_done, is_refused, is_cancelled, counts_of}

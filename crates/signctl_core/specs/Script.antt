@@ -1,17 +1,17 @@
 -- How the lines of a script are read.
-use Rattle.std.specs.Prelude.{ℕ, Bool, true, false, ◌&&◌, List, [], ◌∷◌, Option, Some, None, Result, Ok, Err, if◌then◌else◌, nat_lt, length, filter_map, unwrap_or}
+use Rattle.std.specs.Prelude.{ℕ, true, ◌&&◌, List, [], ◌∷◌, Option, Some, None, Result, Ok, Err, if◌then◌else◌, nat_lt, length, filter_map, unwrap_or}
 use Rattle.sequential_signer.specs.Setup.{Setup, Handle}
 use Rattle.sequential_signer.specs.declared.event.Event.{Event}
 use Rattle.sequential_signer.specs.declared.event.Loader.{Loader}
 use Rattle.signctl_format.specs.declared.credential.ScriptCredential.{ScriptCredential}
 use Rattle.signctl_format.specs.declared.credential.ScriptRule.{ScriptRule}
-use Rattle.signctl_format.specs.declared.credential.ScriptRule.TheVariants.{Now, Cred}
 use Rattle.signctl_format.specs.declared.item.Item.{Item}
 use Rattle.signctl_format.specs.declared.item.Item.TheVariants as item
 use Rattle.signctl_format.specs.declared.line_error.LineError.{LineError}
-use Rattle.signctl_format.specs.declared.line_error.LineError.TheVariants.{NotUnderstood, Late, NoSuchCache}
+use Rattle.signctl_format.specs.declared.line_error.LineError.TheVariants.{NotUnderstood}
 use Rattle.signctl_format.specs.declared.script_version.ScriptVersion.{ScriptVersion}
 use Rattle.signctl_format.specs.declared.script_version.ScriptVersion.TheVariants.{One, Two}
+use Rattle.signctl_format.specs.ScriptSetup.{script_rules, place_of_rule, is_empty, setup_error}
 use Rattle.signctl_format.specs.Reading.{item_of}
 use Rattle.signctl_format.specs.Grammar.{is_version_line}
 use Rattle.signctl_core.specs.declared.script_line.ScriptLine.{ScriptLine}
@@ -45,15 +45,6 @@ abbrev pub loader_in : Item → Option Loader
 loader_in (item.Cache loader) = Some loader
 loader_in _ = None
 
--- the two rules of a script, each at a place of its own
-abbrev pub script_rules : List ScriptRule
-script_rules = Now ∷ Cred ∷ []
-
--- the place of a rule among these
-abbrev pub place_of_rule : ScriptRule → ℕ
-place_of_rule Now = 0
-place_of_rule Cred = 1
-
 -- the handle of a handle line
 abbrev pub handle_in : Item → Option Handle
 handle_in (item.Handle cache rule) = Some (record { cache = cache; rule = place_of_rule rule })
@@ -76,22 +67,11 @@ setup_in items = record {
 unfoldable pub events_in : List Item → List (Event ScriptCredential)
 events_in items = filter_map event_in items
 
--- whether a list has no items
-abbrev pub is_empty : {A : Type 0} → List A → Bool
-is_empty [] = true
-is_empty (x ∷ rest) = false
-
--- why a line that sets the signer up is bad behind these items, where it is: an event came before it, or its cache does
--- not exist
-abbrev pub setup_error : List Item → Bool → Option LineError
-setup_error before there =
-    if is_empty (events_in before) then (if there then None else Some NoSuchCache) else Some Late
-
 -- why an item is bad behind these, where it is
 abbrev pub item_error : List Item → Item → Option LineError
 item_error before item.Silent = None
-item_error before (item.Cache loader) = setup_error before true
-item_error before (item.Handle cache rule) = setup_error before (nat_lt cache (length (setup_in before).loaders))
+item_error before (item.Cache loader) = setup_error (events_in before) true
+item_error before (item.Handle cache rule) = setup_error (events_in before) (nat_lt cache (length (setup_in before).loaders))
 item_error before (item.Event event) = None
 
 -- a line with this item, or this error

@@ -1,5 +1,5 @@
 -- What a script is answered: a function of its bytes.
-use Rattle.std.specs.Prelude.{ℕ, zero, suc, List, [], ◌∷◌, ◌++◌, length}
+use Rattle.std.specs.Prelude.{ℕ, zero, suc, List, [], ◌++◌, length}
 use Rattle.sequential_signer.specs.ExpectedReply.{expected_reply}
 use Rattle.sequential_signer.specs.SequentialCache.{sequential_cache}
 use Rattle.sequential_signer.specs.Legal.{expected_entries}

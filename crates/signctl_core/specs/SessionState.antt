@@ -2,14 +2,16 @@
 use Rattle.std.specs.Prelude.{◌≡◌, Bool, not, List, Option, map}
 use Rattle.sequential_signer.specs.Legal.{expected_entries}
 use Rattle.sequential_signer.specs.declared.event.Event.{Event}
-use Rattle.sign_desk.specs.DeskState.{DeskState, Represents, setup_of}
+use Rattle.sign_desk.specs.DeskState.{DeskState, Represents}
+use Rattle.desk_parts.specs.Tables.{setup_of}
 use Rattle.signctl_format.specs.declared.credential.ScriptCredential.{ScriptCredential}
 use Rattle.signctl_format.specs.declared.credential.ScriptRule.{ScriptRule}
 use Rattle.signctl_format.specs.declared.item.Item.{Item}
 use Rattle.signctl_format.specs.declared.script_version.ScriptVersion.{ScriptVersion}
 use Rattle.signctl_format.specs.Policy.{script_policy}
 use Rattle.signctl_format.specs.ScriptEvents.{plain_event}
-use Rattle.signctl_core.specs.Script.{setup_in, events_in, items_in, is_empty, version_after}
+use Rattle.signctl_format.specs.ScriptSetup.{is_empty}
+use Rattle.signctl_core.specs.Script.{setup_in, events_in, items_in, version_after}
 use Rattle.signctl_core.specs.declared.script_line.ScriptLine.{ScriptLine}
 
 -- a desk, whether an event came, and the version of the script, once it has a line

@@ -10,6 +10,7 @@ use sign_base::{Sink, Source};
 use sign_request::HeaderKeys;
 use signctl_driver::{Status, drive};
 use signctl_format::word::number;
+use signctl_grant::GrantSession;
 use signctl_lines::{HmacCommand, ViewCommand};
 use std::alloc::Global;
 
@@ -19,6 +20,7 @@ pub enum CommandName {
     Script,
     Hmac,
     View,
+    Grant,
     /// `load` with so many calls.
     Load(u64),
 }
@@ -81,6 +83,7 @@ pub(crate) fn run_keyed<S: Source, D: Sink>(
         Some(CommandName::Script) => run_script(alloc, source, sink),
         Some(CommandName::Hmac) => drive(alloc, HmacCommand, source, sink),
         Some(CommandName::View) => drive(alloc, ViewCommand { keys }, source, sink),
+        Some(CommandName::Grant) => run_grant(alloc, source, sink),
         Some(CommandName::Load(calls)) => run_load(alloc, calls, sink),
     }
 }
@@ -103,6 +106,7 @@ fn command_by_word(word: &str) -> Option<CommandName>
         "script" => Some(CommandName::Script),
         "hmac" => Some(CommandName::Hmac),
         "view" => Some(CommandName::View),
+        "grant" => Some(CommandName::Grant),
         _ => None,
     }
 }
@@ -126,6 +130,20 @@ fn run_script<S: Source, D: Sink>(alloc: Global, source: &mut S, sink: &mut D) -
     ensures writes { CountsFault (is_write_fault result) (D.faults sink.old) (D.faults sink.new) }
 {
     match Session::new(alloc) {
+        Ok(session) => drive(alloc, session, source, sink),
+        Err(_) => Status::OutOfMemory,
+    }
+}
+
+fn run_grant<S: Source, D: Sink>(alloc: Global, source: &mut S, sink: &mut D) -> Status
+    ensures ran { result ≢ Status.Usage }
+    ensures bytes { Runs CommandName.Grant result
+        (record { before = S.left source.old; after = S.left source.new })
+        (record { before = D.holds sink.old; after = D.holds sink.new }) }
+    ensures reads { CountsFault (is_read_fault result) (S.faults source.old) (S.faults source.new) }
+    ensures writes { CountsFault (is_write_fault result) (D.faults sink.old) (D.faults sink.new) }
+{
+    match GrantSession::new(alloc) {
         Ok(session) => drive(alloc, session, source, sink),
         Err(_) => Status::OutOfMemory,
     }

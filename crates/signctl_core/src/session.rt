@@ -3,13 +3,14 @@
 ghost use Rattle.std.specs.Prelude.{◌≡◌, ◌++◌, ◌∷◌, ◌<◌, [], List, length, OnOk, IfOk, unwrap_or};
 ghost use Rattle.sequential_signer.specs.Transcript.{is_out_of_memory};
 ghost use Rattle.sign_desk.specs.DeskState.{Represents};
-ghost use Rattle.sign_desk.specs.Adding.{with_rule};
+ghost use Rattle.desk_parts.specs.Adding.{with_rule};
 ghost use Rattle.sign_base.specs.Bytes.{newline};
 ghost use Rattle.signctl_format.specs.Policy.{script_policy};
 ghost use Rattle.signctl_format.specs.declared.item.Item.{Item};
 ghost use Rattle.signctl_format.specs.declared.item.Item.TheVariants as item;
 ghost use Rattle.signctl_format.specs.declared.script_version.ScriptVersion.TheVariants.{One};
-ghost use Rattle.signctl_core.specs.Script.{item_error, setup_error, place_of_rule};
+ghost use Rattle.signctl_format.specs.ScriptSetup.{setup_error, place_of_rule};
+ghost use Rattle.signctl_core.specs.Script.{events_in, item_error};
 ghost use Rattle.signctl_core.specs.ScriptOutput.{final_lines};
 ghost use Rattle.signctl_core.specs.SessionState.{RepresentsItems};
 ghost use Rattle.signctl_core.specs.Answering.{CanAnswer, AnswersItem};
@@ -80,7 +81,7 @@ impl Session {
 
     /// Why a line that sets the signer up is bad, where it is.
     fn setup_error(&self, there: bool) -> Option<LineError>
-        ensures { (items : List Item) → RepresentsItems self.now items → result ≡ setup_error items there }
+        ensures { (items : List Item) → RepresentsItems self.now items → result ≡ setup_error (events_in items) there }
     {
         if self.had_event {
             Some(LineError::Late)

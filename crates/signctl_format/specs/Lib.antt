@@ -7,6 +7,7 @@ pub mod Escapes
 pub mod Heads
 pub mod ScriptEvents
 pub mod Lines
+pub mod ScriptSetup
 pub mod Grammar
 pub mod Reading
 pub mod Readers

@@ -1,7 +1,8 @@
--- The lines that a script prints, without their newline.
+-- The lines that a script prints, without their newline, and a line with it.
 use Rattle.std.specs.Prelude.{◌≡◌, ◌<◌, ◌+◌, ℕ, length, List, [], ◌∷◌, ◌++◌, Option, Some, None, codes, vec_capacity}
 use Rattle.std.specs.Global.{Vec}
 use Rattle.std.specs.Fmt.{decimal}
+use Rattle.sign_base.specs.Bytes.{newline}
 use Rattle.wake_lock.specs.declared.CallId.{CallId}
 use Rattle.sequential_signer.specs.declared.event.Reply.{Reply}
 use Rattle.sequential_signer.specs.declared.event.Reply.TheVariants.{Begun, Pending, NotNow, OutOfMemory, Ask, Sign, Refused, Done, Cancelled}
@@ -14,6 +15,10 @@ use Rattle.signctl_format.specs.declared.script_version.ScriptVersion.{ScriptVer
 use Rattle.signctl_format.specs.Words.{line_of}
 use Rattle.signctl_format.specs.Moments.{moment_word}
 use Rattle.signctl_format.specs.Heads.{head_words}
+
+-- a line of output
+abbrev pub with_newline : List ℕ → List ℕ
+with_newline line = line ++ newline ∷ []
 
 -- a call by its handle and its number
 abbrev pub call_words : CallId → List (List ℕ)

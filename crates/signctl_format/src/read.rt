@@ -48,6 +48,19 @@ fn item(alloc: Global, version: ScriptVersion, line: &[u8]) -> Result<Item, Read
     form(alloc, version, name, rest)
 }
 
+/// The item that a line without its newline spells that carries no head: so it takes no memory.
+#[tactic(auto, unfolding(crate::specs::Reading::item_of, crate::specs::Reading::words_say))]
+pub fn read_line_with_no_head(version: ScriptVersion, line: &[u8]) -> Result<Item, NotUnderstood>
+    requires { CarriesHead line.now → ⊥ }
+    ensures { Reads (λ i. i) result (item_of version line.now) }
+{
+    if is_silent(line) {
+        return Ok(Item::Silent);
+    }
+    let (name, rest) = split_word(line);
+    form_with_no_head(version, name, rest)
+}
+
 #[tactic(auto, unfolding(crate::specs::Reading::item_form))]
 fn form(alloc: Global, version: ScriptVersion, name: &[u8], rest: &[u8]) -> Result<Item, ReadError>
     ensures item { Gives (λ i. i) result (item_form version name.now (words_after rest.now)) }
@@ -231,7 +244,7 @@ fn rule(word: &[u8]) -> Result<ScriptRule, NotUnderstood>
 
 /// A call, in the next two words.
 #[tactic(auto, unfolding(crate::specs::Reading::call_at))]
-fn call_at(rest: &[u8]) -> Result<(CallId, &[u8]), NotUnderstood>
+pub fn call_at(rest: &[u8]) -> Result<(CallId, &[u8]), NotUnderstood>
     ensures { Reads (λ x. (x.0, words_after x.1.now)) result (call_at (words_after rest.now)) }
 {
     let (handle, rest) = u32_at(rest)?;
@@ -241,7 +254,7 @@ fn call_at(rest: &[u8]) -> Result<(CallId, &[u8]), NotUnderstood>
 
 /// The credential that all of these words spell.
 #[tactic(auto, unfolding(crate::specs::Reading::credential_in, crate::specs::Reading::moment_at))]
-fn credential(version: ScriptVersion, rest: &[u8]) -> Result<ScriptCredential, NotUnderstood>
+pub fn credential(version: ScriptVersion, rest: &[u8]) -> Result<ScriptCredential, NotUnderstood>
     ensures { Reads (λ c. c) result (credential_in version (words_after rest.now)) }
 {
     let (generation, rest) = number_at(u64::MAX, rest)?;

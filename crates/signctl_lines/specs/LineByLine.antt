@@ -1,15 +1,11 @@
 -- Commands whose lines are read and answered each on its own.
-use Rattle.std.specs.Prelude.{ℕ, List, [], ◌∷◌, ◌++◌, Option}
+use Rattle.std.specs.Prelude.{ℕ, List, [], Option}
 use Rattle.std.specs.Option.{ok_or}
 use Rattle.signctl_driver.specs.Command.{Command}
-use Rattle.sign_base.specs.Bytes.{newline}
 use Rattle.signctl_format.specs.Lines.{line_error_text}
+pub use Rattle.signctl_format.specs.Lines.{with_newline}
 use Rattle.signctl_format.specs.declared.line_error.LineError.{LineError}
 use Rattle.signctl_format.specs.declared.line_error.LineError.TheVariants.{NotUnderstood}
-
--- a line of output
-abbrev pub with_newline : List ℕ → List ℕ
-with_newline line = line ++ newline ∷ []
 
 -- the command that reads a line so and answers its item so, whatever came before, and closes with nothing
 abbrev pub line_by_line : {Item : Type 0} → (List ℕ → Option Item) → (Item → List ℕ) → Command Item LineError

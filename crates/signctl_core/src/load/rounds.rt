@@ -4,7 +4,8 @@ ghost use Rattle.std.specs.Prelude.{◌≡◌, ◌≤◌, ◌<◌, ◌*◌, ◌+
 ghost use Rattle.sequential_signer.specs.Transcript.{call_of, is_out_of_memory};
 ghost use Rattle.sequential_signer.specs.Legal.{is_sign};
 ghost use Rattle.sequential_signer.specs.declared.event.Entry.{Entry};
-ghost use Rattle.sign_desk.specs.DeskState.{Represents, setup_of};
+ghost use Rattle.sign_desk.specs.DeskState.{Represents};
+ghost use Rattle.desk_parts.specs.Tables.{setup_of};
 ghost use Rattle.signctl_format.specs.declared.credential.ScriptCredential.{ScriptCredential};
 ghost use Rattle.signctl_format.specs.Policy.{script_policy};
 ghost use Rattle.signctl_core.specs.Load.{load_setup, load_entry, entries_after, signed_calls, entries_in_round, load_transcript, most_calls};

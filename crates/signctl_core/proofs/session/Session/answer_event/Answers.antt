@@ -3,7 +3,6 @@ use Rattle.sequential_signer.specs.declared.event.Event.{Event}
 use Rattle.signctl_format.specs.declared.credential.ScriptCredential.{ScriptCredential}
 use Rattle.signctl_format.specs.declared.item.Item.TheVariants as item
 use Rattle.signctl_format.specs.Lines.{reply_line}
-use Rattle.signctl_core.specs.Script.{setup_in}
 use Rattle.signctl_core.specs.ScriptOutput.{answer_to}
 use Rattle.signctl_core.specs.SessionState.{RepresentsItems}
 use Rattle.signctl_core.proofs.NextLine.{as_seen, reply-expected, reply-plain, next-event, line-with_newline, not-out_of_memory}

@@ -1,5 +1,5 @@
 use Rattle.std.proofs.Common.{ℕ, Err, Ok, length, ap, ◌∙◌, ◌++◌, subst}
-use Rattle.sign_desk.specs.Adding.{AddAnswer, handle_refusal, with_handle}
+use Rattle.desk_parts.specs.Adding.{AddAnswer, handle_refusal, with_handle}
 use Rattle.signctl_format.specs.Lines.{handle_line}
 use Rattle.signctl_core.proofs.NextLine.{as_seen, handles-fit, handle-out_of_memory, handle-number, next-handle, line-with_newline}
 use Rattle.signctl_core.proofs.session.Session.answer_handle.Goals as goal

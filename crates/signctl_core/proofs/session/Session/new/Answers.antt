@@ -1,6 +1,7 @@
 use Rattle.std.proofs.Common.{ap, ◌∙◌, ◌∷◌, ◌++◌, []}
 use Rattle.sequential_signer.specs.Setup.{Setup}
-use Rattle.sign_desk.specs.DeskState.{DeskState, setup_of}
+use Rattle.sign_desk.specs.DeskState.{DeskState}
+use Rattle.desk_parts.specs.Tables.{setup_of}
 use Rattle.signctl_format.specs.declared.credential.ScriptCredential.{ScriptCredential}
 use Rattle.signctl_format.specs.declared.credential.ScriptRule.{ScriptRule}
 use Rattle.signctl_format.specs.declared.credential.ScriptRule.TheVariants.{Now, Cred}

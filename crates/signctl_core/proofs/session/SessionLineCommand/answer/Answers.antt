@@ -1,4 +1,4 @@
-use Rattle.std.proofs.Common.{◌≡◌, ◌++◌, ◌∷◌, [], List, Some, ap, sym, subst, ◌∙◌, arith, refl}
+use Rattle.std.proofs.Common.{◌≡◌, ◌++◌, ◌∷◌, [], List, Some, ap, sym, subst, ◌∙◌, arith}
 use Rattle.std.proofs.lemmas.List.{append-nil}
 use Rattle.std.specs.Prelude.{unwrap_or}
 use Rattle.signctl_driver.specs.Command.{MayFollow}
@@ -7,7 +7,7 @@ use Rattle.signctl_core.specs.Script.{items_in}
 use Rattle.signctl_core.specs.ScriptOutput.{script_command, script_answer}
 use Rattle.signctl_core.specs.SessionState.{SessionState, SessionRepresents}
 use Rattle.signctl_core.specs.declared.script_line.ScriptLine.{ScriptLine}
-use Rattle.signctl_core.specs.declared.script_line.ScriptLine.TheVariants.{VersionTwo, Says}
+use Rattle.signctl_core.specs.declared.script_line.ScriptLine.TheVariants.{VersionTwo}
 use Rattle.signctl_core.proofs.ItemsIn.{items-few}
 use Rattle.signctl_core.proofs.LineGood.{says-good, version-first}
 use Rattle.signctl_core.proofs.NextLine.{next-version, next-says}

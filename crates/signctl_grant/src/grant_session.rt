@@ -1,0 +1,247 @@
+//! `signctl grant`, line by line: the desk that the cache and handle lines set up, and what is kept
+//! of the lines so far.
+ghost use Rattle.std.specs.Prelude.{◌≡◌, ◌++◌, ◌∷◌, ◌<◌, [], List, length, OnOk, IfOk};
+ghost use Rattle.sign_base.specs.Bytes.{newline};
+ghost use Rattle.sequential_signer.specs.GrantTranscript.{as_reply};
+ghost use Rattle.sequential_signer.specs.Transcript.{is_out_of_memory};
+ghost use Rattle.desk_parts.specs.Adding.{with_rule};
+ghost use Rattle.grant_desk.specs.GrantDeskState.{GrantRepresents};
+ghost use Rattle.signctl_format.specs.Policy.{script_policy};
+ghost use Rattle.signctl_format.specs.ScriptSetup.{place_of_rule, setup_error};
+ghost use Rattle.signctl_grant.specs.declared.grant_item.GrantItem.{GrantItem};
+ghost use Rattle.signctl_grant.specs.declared.grant_item.GrantItem.TheVariants as item;
+ghost use Rattle.signctl_grant.specs.GrantScript.{events_in, item_error};
+ghost use Rattle.signctl_grant.specs.GrantOutput.{final_lines};
+ghost use Rattle.signctl_grant.specs.GrantAnswering.{CanAnswer, AnswersItem};
+
+use crate::{GrantItem, GrantScriptEvent, push_grant_reply, read_grant_line};
+use grant_desk::{AddError, GrantDesk};
+use sequential_signer::{GrantReply, Loader};
+use sign_base::NoMemory;
+use signctl_driver::LineCommand;
+use signctl_format::{
+    LineError, ScriptCredential, ScriptRule, ScriptVersion, push_cache, push_final, push_handle,
+};
+use std::alloc::Global;
+use std::marker::Model;
+
+/// What is kept of the lines of `grant`, which were good so far.
+#[derive(Drop)]
+pub struct GrantSession {
+    desk: GrantDesk<ScriptCredential, ScriptRule>,
+    had_event: bool,
+}
+
+impl Model for GrantSession {
+    ghost use Rattle.signctl_grant.specs.GrantSessionState.{GrantSessionState};
+
+    ghost Value = { GrantSessionState };
+
+    ghost view = { λ s. record { desk = s.desk; had_event = s.had_event } };
+}
+
+impl GrantSession {
+    ghost use Rattle.signctl_grant.specs.GrantSessionState.{GrantSessionRepresents};
+
+    /// A session before the first line.
+    pub fn new(alloc: Global) -> Result<GrantSession, NoMemory<()>>
+        ensures { IfOk result (λ s. GrantSessionRepresents s []) }
+    {
+        let mut desk = GrantDesk::new(alloc);
+        add_rule(&mut desk, ScriptRule::Now)?;
+        add_rule(&mut desk, ScriptRule::Cred)?;
+        Ok(GrantSession {
+            desk,
+            had_event: false,
+        })
+    }
+
+    /// Why an item is bad behind the items so far, where it is.
+    fn item_error(&self, item: &GrantItem) -> Option<LineError>
+        ensures { (items : List GrantItem) → GrantSessionRepresents self.now items → result ≡ item_error items item.now }
+    {
+        match item {
+            GrantItem::Silent | GrantItem::Event(_) => None,
+            GrantItem::Cache(_) => self.setup_error(true),
+            GrantItem::Handle { cache, .. } => self.setup_error(*cache < self.desk.caches()),
+        }
+    }
+
+    /// Why a line that sets the granter up is bad, where it is.
+    fn setup_error(&self, there: bool) -> Option<LineError>
+        ensures { (items : List GrantItem) → GrantSessionRepresents self.now items → result ≡ setup_error (events_in items) there }
+    {
+        if self.had_event {
+            Some(LineError::Late)
+        } else if there {
+            None
+        } else {
+            Some(LineError::NoSuchCache)
+        }
+    }
+
+    /// Adds a cache, and its line to the text.
+    fn answer_cache(&mut self, loader: Loader, text: &mut Vec<u8>) -> Result<(), NoMemory<()>>
+        requires { CanAnswer self.old (item.Cache loader) }
+        ensures { OnOk result (AnswersItem (item.Cache loader)
+            (record { session = self.old; text = text.old.items }) (record { session = self.new; text = text.new.items })) }
+    {
+        match self.desk.add_cache(loader) {
+            Ok(number) => push_cache(text, u64::from(number))?,
+            Err(refusal) => return Err(out_of_memory(refusal)),
+        }
+        end_line(text)?;
+        Ok(())
+    }
+
+    /// Adds a handle, and its line to the text.
+    fn answer_handle(
+        &mut self,
+        cache: u32,
+        rule: ScriptRule,
+        text: &mut Vec<u8>,
+    ) -> Result<(), NoMemory<()>>
+        requires { CanAnswer self.old (item.Handle cache rule) }
+        ensures { OnOk result (AnswersItem (item.Handle cache rule)
+            (record { session = self.old; text = text.old.items }) (record { session = self.new; text = text.new.items })) }
+    {
+        match self.desk.add_handle(cache, place_of(rule)) {
+            Ok(number) => push_handle(text, u64::from(number))?,
+            Err(refusal) => return Err(out_of_memory(refusal)),
+        }
+        end_line(text)?;
+        Ok(())
+    }
+
+    /// Steps the desk, and adds the reply's line to the text.
+    fn answer_event(
+        &mut self,
+        event: &GrantScriptEvent,
+        text: &mut Vec<u8>,
+    ) -> Result<(), NoMemory<()>>
+        ensures { OnOk result (AnswersItem (item.Event event.now)
+            (record { session = self.old; text = text.old.items }) (record { session = self.new; text = text.new.items })) }
+    {
+        let reply = self.desk.step(event.as_event());
+        if is_out_of_memory(&reply) {
+            return Err(NoMemory { back: () });
+        }
+        self.had_event = true;
+        push_grant_reply(text, &reply)?;
+        end_line(text)?;
+        Ok(())
+    }
+
+    /// Adds the lines that say what each cache holds in the end.
+    fn push_finals(&self, text: &mut Vec<u8>) -> Result<(), NoMemory<()>>
+        ensures { OnOk result ((items : List GrantItem) → GrantSessionRepresents self.now items
+            → text.new.items ≡ text.old.items ++ final_lines items) }
+    {
+        for cache in 0..self.desk.caches() {
+            push_final(
+                text,
+                ScriptVersion::One,
+                u64::from(cache),
+                self.desk.cached(cache).copied(),
+            )?;
+            end_line(text)?;
+        }
+        Ok(())
+    }
+}
+
+impl LineCommand for GrantSession {
+    ghost use Rattle.signctl_grant.specs.GrantOutput.{grant_command};
+    ghost use Rattle.signctl_grant.specs.GrantSessionState.{GrantSessionRepresents};
+
+    type Item = GrantItem;
+
+    type Cause = LineError;
+
+    ghost command = { grant_command };
+
+    ghost represents = { GrantSessionRepresents };
+
+    fn read(
+        &self,
+        _alloc: Global,
+        line: &[u8],
+    ) -> Result<Result<GrantItem, LineError>, NoMemory<()>> {
+        let Some(item) = read_grant_line(line) else {
+            return Ok(Err(LineError::NotUnderstood));
+        };
+        match self.item_error(&item) {
+            None => Ok(Ok(item)),
+            Some(why) => Ok(Err(why)),
+        }
+    }
+
+    fn answer(
+        &mut self,
+        _alloc: Global,
+        item: GrantItem,
+        text: &mut Vec<u8>,
+    ) -> Result<(), NoMemory<()>> {
+        match item {
+            GrantItem::Silent => Ok(()),
+            GrantItem::Cache(loader) => self.answer_cache(loader, text),
+            GrantItem::Handle { cache, rule } => self.answer_handle(cache, rule, text),
+            GrantItem::Event(event) => self.answer_event(&event, text),
+        }
+    }
+
+    fn push_cause(cause: LineError, text: &mut Vec<u8>) -> Result<(), NoMemory<()>> {
+        Ok(text.extend_from_slice(cause.as_str().as_bytes())?)
+    }
+
+    fn close(&self, _alloc: Global, text: &mut Vec<u8>) -> Result<(), NoMemory<()>> {
+        self.push_finals(text)
+    }
+}
+
+/// Adds a rule to a new desk.
+fn add_rule(
+    desk: &mut GrantDesk<ScriptCredential, ScriptRule>,
+    rule: ScriptRule,
+) -> Result<(), NoMemory<()>>
+    requires { length desk.old.rules < 4294967295 }
+    ensures added { OnOk result (desk.new ≡ with_rule rule desk.old) }
+    ensures fresh { OnOk result (GrantRepresents script_policy desk.new []) }
+{
+    match desk.add_rule(rule) {
+        Ok(_) => Ok(()),
+        Err(_) => Err(NoMemory { back: () }),
+    }
+}
+
+/// The place of a rule among the two.
+fn place_of(rule: ScriptRule) -> u32
+    ensures { result ≡ place_of_rule rule }
+{
+    match rule {
+        ScriptRule::Now => 0,
+        ScriptRule::Cred => 1,
+    }
+}
+
+/// The one refusal that a good line can meet.
+fn out_of_memory(refusal: AddError) -> NoMemory<()>
+    requires { refusal ≡ AddError.OutOfMemory }
+{
+    let _ = refusal;
+    NoMemory { back: () }
+}
+
+/// Whether a reply says that an allocation failed.
+fn is_out_of_memory(reply: &GrantReply<ScriptCredential>) -> bool
+    ensures { result ≡ is_out_of_memory (as_reply reply.now) }
+{
+    matches!(reply, GrantReply::OutOfMemory)
+}
+
+/// Ends a line of the text.
+fn end_line(text: &mut Vec<u8>) -> Result<(), NoMemory<()>>
+    ensures { OnOk result (text.new.items ≡ text.old.items ++ newline ∷ []) }
+{
+    Ok(text.push(b'\n')?)
+}
