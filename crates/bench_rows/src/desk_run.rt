@@ -33,8 +33,7 @@ const REPLIES: [&str; 9] = [
 fn events(alloc: Global) -> Result<Vec<Event<ScriptCredential>>, NoMemory<()>> {
     let mut events = Vec::new(alloc);
     for line in EVENTS {
-        let item = read_line(alloc, ScriptVersion::One, line.as_bytes())?;
-        if let Some(Item::Event(event)) = item {
+        if let Ok(Item::Event(event)) = read_line(alloc, ScriptVersion::One, line.as_bytes()) {
             events.push(event.into_event())?;
         }
     }

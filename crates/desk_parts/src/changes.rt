@@ -61,11 +61,19 @@ impl<K: SigningCredential, D: DeadlineRule<Credential = K>, Q: Drop, H: Drop> Ta
         Ok(())
     }
 
+    /// Hands out the record of a call, and keeps nothing of the call any more.
+    pub fn take_record(&mut self, call: CallId) -> Option<CallRecord<H>>
+        ensures record { result ≡ find_call call self.old.calls }
+        ensures ended { ChangesOnlyCall self.old call None self.new }
+    {
+        self.calls.remove(&call)
+    }
+
     /// Keeps nothing of a call any more.
     pub fn end_call(&mut self, call: CallId)
         ensures { ChangesOnlyCall self.old call None self.new }
     {
-        let _ended = self.calls.remove(&call);
+        let _ended = self.take_record(call);
     }
 
     /// Keeps a credential in a cache.

@@ -12,6 +12,7 @@ pub mod StepPreconditionLemmas
 pub mod Caused
 pub mod NewDesk
 pub mod DeskInvariant
+pub mod OneStep
 pub mod RunLemmas
 pub mod CallSteps
 pub mod PollSteps

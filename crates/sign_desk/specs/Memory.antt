@@ -15,3 +15,12 @@ CarriesHead event = ⊥
 -- the reply is not out of memory, but at an event that carries a head
 abbrev pub RunsOutAtHeads : {K : Type 0} → Event K → Reply K → Type 0
 RunsOutAtHeads event reply = reply ≡ OutOfMemory → CarriesHead event
+
+-- the event begins a call
+abbrev pub IsBegin : {K : Type 0} → Event K → Type 0
+IsBegin (Begin call head expires_in) = Unit {0}
+IsBegin event = ⊥
+
+-- the reply is not out of memory, but at a begin
+abbrev pub RunsOutAtBegins : {K : Type 0} → Event K → Reply K → Type 0
+RunsOutAtBegins event reply = reply ≡ OutOfMemory → IsBegin event

@@ -47,7 +47,7 @@ impl<K: SigningCredential, D: DeadlineRule<Credential = K>> Desk<K, D> {
     ghost use Rattle.sign_desk.specs.Cause.{cause_of, IsCaused};
     ghost use Rattle.sign_desk.specs.CachesAfter.{CachesAfter};
     ghost use Rattle.desk_parts.specs.Memory.{ClonesAreFree};
-    ghost use Rattle.sign_desk.specs.Memory.{RunsOutAtHeads};
+    ghost use Rattle.sign_desk.specs.Memory.{RunsOutAtHeads, RunsOutAtBegins};
     ghost use Rattle.sign_desk.specs.Steps.{IsStep, AreSteps};
     ghost use Rattle.sign_desk.specs.StepPrecondition.{StepPrecondition};
     ghost use Rattle.sign_desk.specs.Transition.{Transition};
@@ -278,6 +278,18 @@ impl<K: SigningCredential, D: DeadlineRule<Credential = K>> Desk<K, D> {
         ensures memory { ClonesAreFree K.clones_freely → RunsOutAtHeads event.now result }
     {
         self.advance(event)
+    }
+
+    /// The same step, by an event that is handed over: its head is moved, so a begin takes the room of the
+    /// call alone, and an accepted head none.
+    ///
+    /// `OutOfMemory` is answered only at a begin and, unless clones of a credential take no memory, where
+    /// a credential is handed out. The event is gone then too; `step` leaves it with its caller.
+    pub fn step_owned(&mut self, event: Event<K>) -> Reply<K>
+        ensures step { IsStep (policy_of K.valid K.valid_at D.deadline) event self.old result self.new }
+        ensures memory { ClonesAreFree K.clones_freely → RunsOutAtBegins event result }
+    {
+        self.state.step_owned(event)
     }
 
     /// The same step, with exactly what it does to what the desk keeps.

@@ -20,6 +20,7 @@ mod signer_objects;
 mod state;
 mod step;
 mod step_call;
+mod step_owned;
 mod step_reply;
 mod target;
 mod went;

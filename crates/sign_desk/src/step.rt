@@ -1,12 +1,12 @@
 //! One event: it finds its call, and does what the call's stage lets it do. What can run out of
 //! memory is taken before anything changes.
-ghost use Rattle.std.specs.Prelude.{◌≡◌, ◌≢◌, IsSome, IfOk};
+ghost use Rattle.std.specs.Prelude.{◌≡◌, ◌≢◌, true, IsSome, IfOk};
 
 use crate::state::State;
 use credentials::{DeadlineRule, SigningCredential};
 use desk_parts::{CallRecord, Stage};
 use sequential_signer::{Event, Reply, Verdict, Why};
-use sign_base::{Head, NoMemory};
+use sign_base::{Fields, Head, NoMemory, Octets};
 use std::alloc::Global;
 use std::time::Duration;
 use wake_lock::CallId;
@@ -14,6 +14,7 @@ use wake_lock::CallId;
 impl<K: SigningCredential, D: DeadlineRule<Credential = K>> State<K, D> {
     ghost use Rattle.sequential_signer.specs.Policy.{policy_of};
     ghost use Rattle.sequential_signer.specs.declared.event.Event.TheVariants.{Begin, Signed, Cancel};
+    ghost use Rattle.desk_parts.specs.Begin.{can_begin};
     ghost use Rattle.desk_parts.specs.Tables.{find_call};
     ghost use Rattle.sign_desk.specs.StepPrecondition.{StepPrecondition};
     ghost use Rattle.sign_desk.specs.Action.{Performs};
@@ -41,7 +42,7 @@ impl<K: SigningCredential, D: DeadlineRule<Credential = K>> State<K, D> {
         }
     }
 
-    /// A begin: the call's place, its head and its record are taken at once, or nothing is.
+    /// A begin, of whose head a copy is kept.
     fn begin(&mut self, call: CallId, head: &Head, expires_in: Option<Duration>) -> Reply<K>
         requires { StepPrecondition self.old }
         ensures { Transition (policy_of K.valid K.valid_at D.deadline) (Begin call head.now expires_in)
@@ -50,9 +51,36 @@ impl<K: SigningCredential, D: DeadlineRule<Credential = K>> State<K, D> {
         if !self.tables.begin_fits(call) {
             return Reply::NotNow;
         }
-        let Ok(head) = head.try_clone(self.tables.alloc()) else {
-            return Reply::OutOfMemory;
-        };
+        match head.try_clone(self.tables.alloc()) {
+            Ok(head) => self.keep_call(call, head, expires_in),
+            Err(_) => Reply::OutOfMemory,
+        }
+    }
+
+    /// A begin, whose head is kept itself.
+    pub(crate) fn take_begin(
+        &mut self,
+        call: CallId,
+        head: Head,
+        expires_in: Option<Duration>,
+    ) -> Reply<K>
+        requires { StepPrecondition self.old }
+        ensures { Transition (policy_of K.valid K.valid_at D.deadline) (Begin call head expires_in)
+            self.old result self.new }
+    {
+        if !self.tables.begin_fits(call) {
+            return Reply::NotNow;
+        }
+        self.keep_call(call, head, expires_in)
+    }
+
+    /// A begin that fits: the call's place and its record are taken at once, or nothing is.
+    fn keep_call(&mut self, call: CallId, head: Head, expires_in: Option<Duration>) -> Reply<K>
+        requires sound { StepPrecondition self.old }
+        requires fits { can_begin self.old call ≡ true }
+        ensures { Transition (policy_of K.valid K.valid_at D.deadline) (Begin call head expires_in)
+            self.old result self.new }
+    {
         let live = CallRecord {
             stage: Stage::Unpolled,
             head,
@@ -82,23 +110,37 @@ impl<K: SigningCredential, D: DeadlineRule<Credential = K>> State<K, D> {
         }
     }
 
-    /// An accepted head: the call is done.
+    /// An accepted head, which is lent: its URI and its headers are copied before anything changes.
     fn accept(&mut self, call: CallId, candidate: &Head) -> Reply<K>
         requires { IsSome (find_call call self.old.calls) }
         ensures { Performs (accept_action self.old candidate.now (find_call call self.old.calls))
             call self.old result self.new }
     {
-        let alloc = self.tables.alloc();
-        let live = self.tables.record_of(call).unwrap();
-        let Ok(head) = done_head(alloc, &live.head, candidate) else {
-            return Reply::OutOfMemory;
+        match target_copy(self.tables.alloc(), candidate) {
+            Ok((uri, headers)) => self.accept_with(call, uri, headers),
+            Err(_) => Reply::OutOfMemory,
+        }
+    }
+
+    /// The URI and the headers of an accepted head: the call is done.
+    pub(crate) fn accept_with(&mut self, call: CallId, uri: Octets, headers: Fields) -> Reply<K>
+        requires { IsSome (find_call call self.old.calls) }
+        ensures done { (candidate : Head) → candidate.uri ≡ uri → candidate.headers ≡ headers
+            → Performs (accept_action self.old candidate (find_call call self.old.calls)) call self.old result self.new }
+        ensures memory { result ≢ OutOfMemory }
+    {
+        let live = self.tables.take_record(call).unwrap();
+        let begun = live.head;
+        let head = Head {
+            uri,
+            headers,
+            ..begun
         };
-        self.tables.end_call(call);
         Reply::Done { head }
     }
 
     /// A cancel.
-    fn cancel(&mut self, call: CallId) -> Reply<K>
+    pub(crate) fn cancel(&mut self, call: CallId) -> Reply<K>
         requires { StepPrecondition self.old }
         ensures done { Transition (policy_of K.valid K.valid_at D.deadline) (Cancel call) self.old result self.new }
         ensures memory { result ≢ OutOfMemory }
@@ -119,14 +161,9 @@ impl<K: SigningCredential, D: DeadlineRule<Credential = K>> State<K, D> {
     }
 }
 
-/// The begun head with the candidate's URI and headers.
-fn done_head(alloc: Global, begun: &Head, candidate: &Head) -> Result<Head, NoMemory<()>>
-    ensures { IfOk result (λ h. h ≡ record begun.now { uri = candidate.now.uri; headers = candidate.now.headers }) }
+/// Copies of a head's URI and headers.
+fn target_copy(alloc: Global, head: &Head) -> Result<(Octets, Fields), NoMemory<()>>
+    ensures { IfOk result (λ r. r ≡ (head.now.uri, head.now.headers)) }
 {
-    Ok(Head {
-        method: begun.method.try_clone(alloc)?,
-        uri: candidate.uri.try_clone(alloc)?,
-        version: begun.version,
-        headers: candidate.headers.try_clone(alloc)?,
-    })
+    Ok((head.uri.try_clone(alloc)?, head.headers.try_clone(alloc)?))
 }

@@ -22,8 +22,8 @@ use sign_base::NoMemory;
 use sign_desk::{AddError, Desk};
 use signctl_driver::LineCommand;
 use signctl_format::{
-    Item, LineError, ScriptCredential, ScriptEvent, ScriptRule, ScriptVersion, is_version_line,
-    push_cache, push_final, push_handle, push_reply, read_line,
+    Item, LineError, ReadError, ScriptCredential, ScriptEvent, ScriptRule, ScriptVersion,
+    is_version_line, push_cache, push_final, push_handle, push_reply, read_line,
 };
 use std::alloc::Global;
 use std::marker::Model;
@@ -128,12 +128,12 @@ impl Session {
     }
 
     /// Steps the desk, and adds the reply's line to the text.
-    fn answer_event(&mut self, event: &ScriptEvent, text: &mut Vec<u8>) -> Result<(), NoMemory<()>>
-        ensures answers { OnOk result (AnswersItem (item.Event event.now)
+    fn answer_event(&mut self, event: ScriptEvent, text: &mut Vec<u8>) -> Result<(), NoMemory<()>>
+        ensures answers { OnOk result (AnswersItem (item.Event event)
             (record { session = self.old; text = text.old.items }) (record { session = self.new; text = text.new.items })) }
         ensures version { self.new.version ≡ self.old.version }
     {
-        let reply = self.desk.step(event.as_event());
+        let reply = self.desk.step_owned(event.into_event());
         if is_out_of_memory(&reply) {
             return Err(NoMemory { back: () });
         }
@@ -154,7 +154,7 @@ impl Session {
             Item::Silent => Ok(()),
             Item::Cache(loader) => self.answer_cache(loader, text),
             Item::Handle { cache, rule } => self.answer_handle(cache, rule, text),
-            Item::Event(event) => self.answer_event(&event, text),
+            Item::Event(event) => self.answer_event(event, text),
         }
     }
 
@@ -197,12 +197,13 @@ impl LineCommand for Session {
         if self.version.is_none() && is_version_line(line) {
             return Ok(Ok(ScriptLine::VersionTwo));
         }
-        let Some(item) = read_line(alloc, self.script_version(), line)? else {
-            return Ok(Err(LineError::NotUnderstood));
-        };
-        match self.item_error(&item) {
-            None => Ok(Ok(ScriptLine::Says(item))),
-            Some(why) => Ok(Err(why)),
+        match read_line(alloc, self.script_version(), line) {
+            Ok(item) => match self.item_error(&item) {
+                None => Ok(Ok(ScriptLine::Says(item))),
+                Some(why) => Ok(Err(why)),
+            },
+            Err(ReadError::NotUnderstood) => Ok(Err(LineError::NotUnderstood)),
+            Err(ReadError::OutOfMemory) => Err(NoMemory { back: () }),
         }
     }
 

@@ -26,6 +26,7 @@ pub use item::Item;
 pub use line_error::LineError;
 pub use print::{push_cache, push_final, push_handle, push_reply};
 pub use read::read_line;
+pub use read_error::ReadError;
 pub use script_event::ScriptEvent;
 pub use script_version::{ScriptVersion, is_version_line};
 

@@ -1,5 +1,5 @@
 //! Reading a line: one function for each form, by the name that begins it.
-ghost use Rattle.std.specs.Prelude.{◌≡◌, IfOk, OnErr, IsTrue, false, Some};
+ghost use Rattle.std.specs.Prelude.{◌≡◌, IsTrue, false};
 ghost use Rattle.signctl_format.specs.Steps.{first_word};
 ghost use Rattle.signctl_format.specs.ScriptEvents.{plain_event};
 ghost use Rattle.signctl_format.specs.Reading.{rule_in, call_at, credential_in, chain_form, cache_form, handle_form, begin_form, poll_form, found_form, missing_form, failed_form, accept_form, reject_form, cancel_form, item_form, item_of};
@@ -12,32 +12,16 @@ use crate::read_error::{NotUnderstood, ReadError};
 use crate::word::{at_end_of_line, is_silent, number_at, split_word, u32_at, word_at};
 use crate::{Item, ScriptCredential, ScriptEvent, ScriptRule, ScriptVersion};
 use sequential_signer::{Answer, Event, Loader, Verdict};
-use sign_base::NoMemory;
 use std::alloc::Global;
 use wake_lock::CallId;
 
-/// The item that a line without its newline spells in a script of this version, None where it
-/// spells none.
+/// The item that a line without its newline spells in a script of this version.
 ///
-/// Nothing of the line is copied but what the item keeps, so only a line that carries a head, as those
-/// of `begin` and `accept` do, can run out of memory.
-pub fn read_line(
-    alloc: Global,
-    version: ScriptVersion,
-    line: &[u8],
-) -> Result<Option<Item>, NoMemory<()>>
-    ensures item { IfOk result (λ r. r ≡ item_of version line.now) }
-    ensures memory { OnErr result (CarriesHead line.now) }
-{
-    match item(alloc, version, line) {
-        Ok(item) => Ok(Some(item)),
-        Err(ReadError::NotUnderstood) => Ok(None),
-        Err(ReadError::OutOfMemory) => Err(NoMemory { back: () }),
-    }
-}
-
+/// Errors: `NotUnderstood` where it spells none, `OutOfMemory`. Nothing of the line is copied but what the
+/// item keeps, so only a line that carries a head, as those of `begin` and `accept` do, can run out of
+/// memory.
 #[tactic(auto, unfolding(crate::specs::Reading::item_of, crate::specs::Reading::words_say))]
-fn item(alloc: Global, version: ScriptVersion, line: &[u8]) -> Result<Item, ReadError>
+pub fn read_line(alloc: Global, version: ScriptVersion, line: &[u8]) -> Result<Item, ReadError>
     ensures item { Gives (λ i. i) result (item_of version line.now) }
     ensures memory { NeedsMemory result (CarriesHead line.now) }
 {

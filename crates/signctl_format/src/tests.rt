@@ -212,13 +212,14 @@ fn again(
     version: ScriptVersion,
     line: &[u8],
 ) -> Result<Option<Vec<u8>>, NoMemory<()>> {
-    match read_line(alloc, version, line)? {
-        None => Ok(None),
-        Some(item) => {
+    match read_line(alloc, version, line) {
+        Ok(item) => {
             let mut text = Vec::new(alloc);
             spell(&mut text, version, &item)?;
             Ok(Some(text))
         }
+        Err(ReadError::NotUnderstood) => Ok(None),
+        Err(ReadError::OutOfMemory) => Err(NoMemory { back: () }),
     }
 }
 
@@ -241,7 +242,7 @@ fn are_refused(rt: &impl Abort, alloc: Global, all: Lines<'_>) -> Result<(), Fai
     let (version, lines) = all;
     for line in lines {
         let read = read_line(alloc, version, line.as_bytes());
-        assert!(rt; read.ok().ok_or("memory")?.is_none(), "at {line}");
+        assert!(rt; matches!(read, Err(ReadError::NotUnderstood)), "at {line}");
     }
     Ok(())
 }
@@ -262,7 +263,7 @@ fn other_lines_are_refused(rt: HostRuntime) -> Result<(), Fail> {
 #[test]
 fn a_fraction_counts_from_its_point(rt: HostRuntime) -> Result<(), Fail> {
     let read = read_line(rt.alloc(), ScriptVersion::Two, b"poll 0 1 5.05");
-    let item = read.ok().ok_or("memory")?.ok_or("the line is of a form")?;
+    let item = read.ok().ok_or("the line is of a form")?;
     let now = match item {
         Item::Event(event) => match event.into_event() {
             Event::Poll { now, .. } => now.as_nanos(),
@@ -292,10 +293,8 @@ fn the_first_line_names_version_2(rt: HostRuntime) -> Result<(), Fail> {
 #[test]
 fn empty_lines_and_remarks_say_nothing(rt: HostRuntime) -> Result<(), Fail> {
     for line in [b"".as_slice(), b"#", b"# poll 0 1 5", b"#\x00\xff\r"] {
-        let read = read_line(rt.alloc(), ScriptVersion::One, line)
-            .ok()
-            .ok_or("memory")?;
-        assert!(rt; matches!(read, Some(Item::Silent)));
+        let read = read_line(rt.alloc(), ScriptVersion::One, line);
+        assert!(rt; matches!(read, Ok(Item::Silent)));
     }
     Ok(())
 }
@@ -316,7 +315,7 @@ fn a_number_of_thousands_of_digits_is_refused(rt: HostRuntime) -> Result<(), Fai
         for digit in [b'0', b'9'] {
             let line = long_line(rt.alloc(), front, digit).ok().ok_or("memory")?;
             let read = read_line(rt.alloc(), ScriptVersion::Two, line.as_slice());
-            assert!(rt; read.ok().ok_or("memory")?.is_none());
+            assert!(rt; matches!(read, Err(ReadError::NotUnderstood)));
         }
     }
     Ok(())

@@ -95,7 +95,7 @@ fn kind(reply: &Reply<ScriptCredential>) -> usize
 /// The event that a line spells.
 fn event_of(alloc: Global, line: &str) -> Result<ScriptEvent, AllocError> {
     match read_line(alloc, ScriptVersion::One, line.as_bytes()) {
-        Ok(Some(Item::Event(event))) => Ok(event),
+        Ok(Item::Event(event)) => Ok(event),
         _ => Err(AllocError),
     }
 }
