@@ -16,3 +16,4 @@ pub mod Spellings
 pub mod Texts
 pub mod ShortTexts
 pub mod Escaped
+pub mod SetupIn

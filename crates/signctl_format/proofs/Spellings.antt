@@ -19,10 +19,10 @@ use Rattle.sequential_signer.specs.declared.event.Verdict.TheVariants as verdict
 use Rattle.signctl_format.specs.declared.credential.ScriptCredential.{ScriptCredential}
 use Rattle.signctl_format.specs.declared.credential.ScriptRule.{ScriptRule}
 use Rattle.signctl_format.specs.declared.credential.ScriptRule.TheVariants.{Now, Cred}
-use Rattle.signctl_format.specs.declared.item.Item.{Item}
 use Rattle.signctl_format.specs.declared.item.Item.TheVariants.{Silent, Cache, Handle, Event}
 use Rattle.signctl_format.specs.declared.script_version.ScriptVersion.{ScriptVersion}
 use Rattle.signctl_format.specs.declared.script_version.ScriptVersion.TheVariants.{One, Two}
+use Rattle.signctl_format.specs.ScriptEvents.{ScriptItem}
 use Rattle.signctl_format.specs.Bytes.{space, percent, colon, is_byte, is_visible, is_digit}
 use Rattle.signctl_format.specs.Words.{is_space, words, spaced_words, line_of, is_target, greatest_u64}
 use Rattle.signctl_format.specs.Moments.{last_second, nanos_of_second, fraction_digits, fraction_word, in_nanos, IsLineTime, time_word, moment_word, IsLineMoment, duration_word, IsLineDuration}
@@ -170,7 +170,7 @@ visible_rule Now = refl
 visible_rule Cred = refl
 
 -- an item whose parts a line may name is spelled by the line of its words
-pub spelled : (version : ScriptVersion) (item : Item) → IsLineItem version item → Spells version (line_of (item_words version item)) item
+pub spelled : (version : ScriptVersion) (item : ScriptItem) → IsLineItem version item → Spells version (line_of (item_words version item)) item
 spelled version Silent fits = refl
 spelled version (Cache Single) fits = (fits, refl)
 spelled version (Cache (Chain providers)) fits = (fits, words_of_line (one_word refl (one_word refl (one_word (visible_number providers (omega (arith, fits))) no_words))))

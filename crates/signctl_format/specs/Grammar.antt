@@ -12,9 +12,9 @@ use Rattle.sequential_signer.specs.declared.event.Verdict.TheVariants as verdict
 use Rattle.signctl_format.specs.declared.credential.ScriptCredential.{ScriptCredential}
 use Rattle.signctl_format.specs.declared.credential.ScriptRule.{ScriptRule}
 use Rattle.signctl_format.specs.declared.credential.ScriptRule.TheVariants.{Now, Cred}
-use Rattle.signctl_format.specs.declared.item.Item.{Item}
 use Rattle.signctl_format.specs.declared.item.Item.TheVariants.{Silent, Cache, Handle, Event}
 use Rattle.signctl_format.specs.declared.script_version.ScriptVersion.{ScriptVersion}
+use Rattle.signctl_format.specs.ScriptEvents.{ScriptItem}
 use Rattle.signctl_format.specs.Words.{is_silent, words, greatest_u32, greatest_u64}
 use Rattle.signctl_format.specs.Moments.{IsLineMoment, moment_word, IsLineDuration, duration_word}
 use Rattle.signctl_format.specs.Heads.{IsLineHead, head_words}
@@ -43,7 +43,7 @@ pub record IsLineCredential (version : ScriptVersion) (c : ScriptCredential) : T
   pub required : IsLineMoment version c.required
 
 -- an item whose parts a line may name
-abbrev pub IsLineItem : ScriptVersion → Item → Type 0
+abbrev pub IsLineItem : ScriptVersion → ScriptItem → Type 0
 IsLineItem version Silent = Unit {0}
 IsLineItem version (Cache Single) = Unit {0}
 IsLineItem version (Cache (Chain providers)) = providers ≤ greatest_u32
@@ -70,7 +70,7 @@ rule_word Now = codes "now"
 rule_word Cred = codes "cred"
 
 -- the words of an item's line; of the lines that say nothing, those of the empty one
-abbrev pub item_words : ScriptVersion → Item → List (List ℕ)
+abbrev pub item_words : ScriptVersion → ScriptItem → List (List ℕ)
 item_words version Silent = [] ∷ []
 item_words version (Cache Single) = codes "cache" ∷ codes "single" ∷ []
 item_words version (Cache (Chain providers)) = codes "cache" ∷ codes "chain" ∷ decimal providers ∷ []
@@ -92,6 +92,6 @@ item_words version (Event (Signed call (verdict.Failed error))) =
 item_words version (Event (Cancel call)) = codes "cancel" ∷ call_words call
 
 -- the line spells this item, in a script of this version
-abbrev pub Spells : ScriptVersion → List ℕ → Item → Type 0
+abbrev pub Spells : ScriptVersion → List ℕ → ScriptItem → Type 0
 Spells version line Silent = IsTrue (is_silent line)
 Spells version line item = IsLineItem version item × (words line ≡ item_words version item)

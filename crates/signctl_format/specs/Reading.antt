@@ -13,9 +13,9 @@ use Rattle.sequential_signer.specs.declared.event.Verdict.TheVariants as verdict
 use Rattle.signctl_format.specs.declared.credential.ScriptCredential.{ScriptCredential}
 use Rattle.signctl_format.specs.declared.credential.ScriptRule.{ScriptRule}
 use Rattle.signctl_format.specs.declared.credential.ScriptRule.TheVariants.{Now, Cred}
-use Rattle.signctl_format.specs.declared.item.Item.{Item}
 use Rattle.signctl_format.specs.declared.item.Item.TheVariants.{Silent, Cache, Handle, Event}
 use Rattle.signctl_format.specs.declared.script_version.ScriptVersion.{ScriptVersion}
+use Rattle.signctl_format.specs.ScriptEvents.{ScriptItem}
 use Rattle.signctl_format.specs.Words.{is_silent, words, number_of, is_target, greatest_u32, greatest_u64}
 use Rattle.signctl_format.specs.Steps.{◌>>=◌, first_word, at_end_of_line}
 use Rattle.signctl_format.specs.Moments.{moment_of, duration_of}
@@ -74,13 +74,13 @@ head_in words = do
   Some (record { method = method.0; uri = uri.0; version = version.0; headers = headers })
 
 -- `cache chain N`
-unfoldable pub chain_form : List (List ℕ) → Option Item
+unfoldable pub chain_form : List (List ℕ) → Option ScriptItem
 chain_form words = do
   providers ← number_at greatest_u32 words
   at_end_of_line (Cache (Chain providers.0)) providers.1
 
 -- `cache single`, or a chain
-unfoldable pub cache_form : List (List ℕ) → Option Item
+unfoldable pub cache_form : List (List ℕ) → Option ScriptItem
 cache_form [] = None
 cache_form (kind ∷ rest) =
     if bytes_eq kind (codes "single") then at_end_of_line (Cache Single) rest
@@ -88,14 +88,14 @@ cache_form (kind ∷ rest) =
     else None)
 
 -- `handle C RULE`
-unfoldable pub handle_form : List (List ℕ) → Option Item
+unfoldable pub handle_form : List (List ℕ) → Option ScriptItem
 handle_form words = do
   cache ← number_at greatest_u32 words
   rule ← first_word rule_in cache.1
   at_end_of_line (Handle cache.0 rule.0) rule.1
 
 -- `begin H N D HEAD`
-unfoldable pub begin_form : ScriptVersion → List (List ℕ) → Option Item
+unfoldable pub begin_form : ScriptVersion → List (List ℕ) → Option ScriptItem
 begin_form version words = do
   call ← call_at words
   expires_in ← first_word (duration_of version) call.1
@@ -103,14 +103,14 @@ begin_form version words = do
   Some (Event (Begin call.0 head expires_in.0))
 
 -- `poll H N T`
-unfoldable pub poll_form : ScriptVersion → List (List ℕ) → Option Item
+unfoldable pub poll_form : ScriptVersion → List (List ℕ) → Option ScriptItem
 poll_form version words = do
   call ← call_at words
   now ← moment_at version call.1
   at_end_of_line (Event (Poll call.0 now.0)) now.1
 
 -- `found H N T CREDENTIAL`
-unfoldable pub found_form : ScriptVersion → List (List ℕ) → Option Item
+unfoldable pub found_form : ScriptVersion → List (List ℕ) → Option ScriptItem
 found_form version words = do
   call ← call_at words
   now ← moment_at version call.1
@@ -118,14 +118,14 @@ found_form version words = do
   Some (Event (Provided call.0 now.0 (Found credential)))
 
 -- `missing H N T`
-unfoldable pub missing_form : ScriptVersion → List (List ℕ) → Option Item
+unfoldable pub missing_form : ScriptVersion → List (List ℕ) → Option ScriptItem
 missing_form version words = do
   call ← call_at words
   now ← moment_at version call.1
   at_end_of_line (Event (Provided call.0 now.0 Missing)) now.1
 
 -- `failed H N T E`
-unfoldable pub failed_form : ScriptVersion → List (List ℕ) → Option Item
+unfoldable pub failed_form : ScriptVersion → List (List ℕ) → Option ScriptItem
 failed_form version words = do
   call ← call_at words
   now ← moment_at version call.1
@@ -133,27 +133,27 @@ failed_form version words = do
   at_end_of_line (Event (Provided call.0 now.0 (answer.Failed error.0))) error.1
 
 -- `accept H N HEAD`
-unfoldable pub accept_form : List (List ℕ) → Option Item
+unfoldable pub accept_form : List (List ℕ) → Option ScriptItem
 accept_form words = do
   call ← call_at words
   candidate ← head_in call.1
   Some (Event (Signed call.0 (Accepted candidate)))
 
 -- `reject H N E`
-unfoldable pub reject_form : List (List ℕ) → Option Item
+unfoldable pub reject_form : List (List ℕ) → Option ScriptItem
 reject_form words = do
   call ← call_at words
   error ← number_at greatest_u64 call.1
   at_end_of_line (Event (Signed call.0 (verdict.Failed error.0))) error.1
 
 -- `cancel H N`
-unfoldable pub cancel_form : List (List ℕ) → Option Item
+unfoldable pub cancel_form : List (List ℕ) → Option ScriptItem
 cancel_form words = do
   call ← call_at words
   at_end_of_line (Event (Cancel call.0)) call.1
 
 -- the form that a line's first word names
-unfoldable pub item_form : ScriptVersion → List ℕ → List (List ℕ) → Option Item
+unfoldable pub item_form : ScriptVersion → List ℕ → List (List ℕ) → Option ScriptItem
 item_form version name words =
     if bytes_eq name (codes "cache") then cache_form words
     else (if bytes_eq name (codes "handle") then handle_form words
@@ -168,10 +168,10 @@ item_form version name words =
     else None)))))))))
 
 -- the item that the words of a line spell
-unfoldable pub words_say : ScriptVersion → List (List ℕ) → Option Item
+unfoldable pub words_say : ScriptVersion → List (List ℕ) → Option ScriptItem
 words_say version [] = None
 words_say version (name ∷ rest) = item_form version name rest
 
 -- the item that a line spells in a script of this version, if it spells one
-unfoldable pub item_of : ScriptVersion → List ℕ → Option Item
+unfoldable pub item_of : ScriptVersion → List ℕ → Option ScriptItem
 item_of version line = if is_silent line then Some Silent else words_say version (words line)

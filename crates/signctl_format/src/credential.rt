@@ -52,6 +52,20 @@ pub enum ScriptRule {
     Cred,
 }
 
+impl ScriptRule {
+    ghost use Rattle.signctl_format.specs.ScriptSetup.{place_of_rule};
+
+    /// The place of the rule among the two of a script.
+    pub fn place(self) -> u32
+        ensures { result ≡ place_of_rule self }
+    {
+        match self {
+            ScriptRule::Now => 0,
+            ScriptRule::Cred => 1,
+        }
+    }
+}
+
 impl DeadlineRule for ScriptRule {
     ghost use Rattle.signctl_format.specs.Policy.{script_deadline};
 

@@ -23,7 +23,7 @@ pub mod word;
 
 pub use credential::{ScriptCredential, ScriptRule};
 pub use item::Item;
-pub use line_error::LineError;
+pub use line_error::{LineError, setup_error};
 pub use print::{push_cache, push_final, push_handle, push_reply};
 pub use read::read_line;
 pub use read_error::ReadError;

@@ -1,6 +1,7 @@
 //! Why a line ends its script.
 ghost use Rattle.std.specs.Prelude.{◌≡◌};
 ghost use Rattle.signctl_format.specs.Lines.{line_error_text};
+ghost use Rattle.signctl_format.specs.ScriptSetup.{setup_error};
 
 use std::fmt;
 
@@ -36,5 +37,18 @@ impl fmt::Display for LineError {
 
     fn fmt<W: fmt::Write>(&self, f: &mut fmt::Formatter<W>) -> fmt::Result {
         f.write_str(self.as_str())
+    }
+}
+
+/// Why a cache or a handle line is bad, where it is, by whether an event came before it and whether its cache is there.
+pub fn setup_error(had_event: bool, there: bool) -> Option<LineError>
+    ensures { result ≡ setup_error had_event there }
+{
+    if had_event {
+        Some(LineError::Late)
+    } else if there {
+        None
+    } else {
+        Some(LineError::NoSuchCache)
     }
 }

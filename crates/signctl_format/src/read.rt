@@ -1,5 +1,6 @@
 //! Reading a line: one function for each form, by the name that begins it.
 ghost use Rattle.std.specs.Prelude.{◌≡◌, IsTrue, false};
+ghost use Rattle.signctl_format.specs.declared.item.Item.TheVariants as item;
 ghost use Rattle.signctl_format.specs.Steps.{first_word};
 ghost use Rattle.signctl_format.specs.ScriptEvents.{plain_event};
 ghost use Rattle.signctl_format.specs.Reading.{rule_in, call_at, credential_in, chain_form, cache_form, handle_form, begin_form, poll_form, found_form, missing_form, failed_form, accept_form, reject_form, cancel_form, item_form, item_of};
@@ -10,10 +11,13 @@ use crate::head::head;
 use crate::moment::{duration, moment};
 use crate::read_error::{NotUnderstood, ReadError};
 use crate::word::{at_end_of_line, is_silent, number_at, split_word, u32_at, word_at};
-use crate::{Item, ScriptCredential, ScriptEvent, ScriptRule, ScriptVersion};
+use crate::{ScriptCredential, ScriptEvent, ScriptRule, ScriptVersion};
 use sequential_signer::{Answer, Event, Loader, Verdict};
 use std::alloc::Global;
 use wake_lock::CallId;
+
+/// A line of a script.
+type Item = crate::Item<ScriptEvent>;
 
 /// The item that a line without its newline spells in a script of this version.
 ///
@@ -209,7 +213,7 @@ fn cancel(rest: &[u8]) -> Result<Item, NotUnderstood>
 }
 
 fn event_item(event: Event<ScriptCredential>) -> Item
-    ensures { result ≡ Item.Event (plain_event event) }
+    ensures { result ≡ item.Event (plain_event event) }
 {
     Item::Event(ScriptEvent::new(event))
 }

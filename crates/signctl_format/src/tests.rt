@@ -113,7 +113,11 @@ const REFUSED_IN_TWO: [&str; 18] = [
     "failed 0 1 5 4.2",
 ];
 
-fn spell(text: &mut Vec<u8>, version: ScriptVersion, item: &Item) -> Result<(), NoMemory<()>> {
+fn spell(
+    text: &mut Vec<u8>,
+    version: ScriptVersion,
+    item: &Item<ScriptEvent>,
+) -> Result<(), NoMemory<()>> {
     match item {
         Item::Silent => Ok(()),
         Item::Cache(Loader::Single) => push(text, b"cache single"),
