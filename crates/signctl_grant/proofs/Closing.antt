@@ -12,9 +12,9 @@ use Rattle.sequential_signer.proofs.ExpectedGrants.{committed_grants-expected}
 use Rattle.desk_parts.specs.Tables.{setup_of}
 use Rattle.signctl_format.specs.declared.credential.ScriptCredential.{ScriptCredential}
 use Rattle.signctl_format.specs.declared.credential.ScriptRule.{ScriptRule}
-use Rattle.signctl_grant.specs.declared.grant_item.GrantItem.{GrantItem}
 use Rattle.signctl_format.specs.Policy.{script_policy}
-use Rattle.signctl_grant.specs.GrantScript.{setup_in}
+use Rattle.signctl_format.specs.ScriptSetup.{setup_in}
+use Rattle.signctl_grant.specs.GrantEvents.{GrantItem}
 use Rattle.signctl_grant.specs.GrantOutput.{final_line_of, final_lines_of, transcript_of}
 use Rattle.signctl_grant.specs.GrantSessionState.{GrantSessionState, GrantSessionRepresents}
 use Rattle.signctl_grant.proofs.PlainGrants.{plain-source}

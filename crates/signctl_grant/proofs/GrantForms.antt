@@ -7,6 +7,7 @@ use Rattle.wake_lock.specs.declared.CallId.{CallId}
 use Rattle.sequential_signer.specs.declared.grant_event.GrantEvent.TheVariants.{Begin, Granted}
 use Rattle.sequential_signer.specs.declared.grant_event.Made.TheVariants.{Made, Failed}
 use Rattle.signctl_format.specs.declared.credential.ScriptCredential.{ScriptCredential}
+use Rattle.signctl_format.specs.declared.item.Item.TheVariants.{Event}
 use Rattle.signctl_format.specs.declared.script_version.ScriptVersion.TheVariants.{One}
 use Rattle.signctl_format.specs.Words.{greatest_u64}
 use Rattle.signctl_format.specs.Moments.{moment_word, IsLineMoment, duration_word, IsLineDuration, duration_of}
@@ -18,8 +19,7 @@ use Rattle.signctl_format.proofs.ReadingSteps.{some_is, bind_some, first_word_so
 use Rattle.signctl_format.proofs.Seconds.{duration_of-word, duration_of-some}
 use Rattle.signctl_format.proofs.Calls.{number_at-decimal, number_at-some, moment_at-word, moment_at-some, call_at-words, call_at-some, credential_in-words, credential_in-some}
 use Rattle.signctl_format.proofs.Forms.{Has}
-use Rattle.signctl_grant.specs.declared.grant_item.GrantItem.{GrantItem}
-use Rattle.signctl_grant.specs.declared.grant_item.GrantItem.TheVariants.{Event}
+use Rattle.signctl_grant.specs.GrantEvents.{GrantItem}
 use Rattle.signctl_grant.specs.GrantGrammar.{failure_moment, SpellsGrant}
 use Rattle.signctl_grant.specs.GrantReading.{begin_form, made_form, fail_form}
 

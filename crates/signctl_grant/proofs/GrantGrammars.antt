@@ -9,9 +9,9 @@ use Rattle.sequential_signer.specs.declared.event.Event.TheVariants as signs
 use Rattle.sequential_signer.specs.declared.event.Loader.TheVariants.{Single, Chain}
 use Rattle.sequential_signer.specs.declared.grant_event.GrantEvent.TheVariants.{Begin, Poll, Provided, Granted, Cancel}
 use Rattle.sequential_signer.specs.declared.grant_event.Made.TheVariants.{Made, Failed}
-use Rattle.signctl_format.specs.declared.item.Item.{Item}
-use Rattle.signctl_format.specs.declared.item.Item.TheVariants as script
+use Rattle.signctl_format.specs.declared.item.Item.TheVariants.{Silent, Cache, Handle, Event}
 use Rattle.signctl_format.specs.declared.script_version.ScriptVersion.TheVariants.{One}
+use Rattle.signctl_format.specs.ScriptEvents.{ScriptItem}
 use Rattle.signctl_format.specs.Words.{is_silent, words}
 use Rattle.signctl_format.specs.Steps.{◌>>=◌}
 use Rattle.signctl_format.specs.Grammar.{Spells}
@@ -20,8 +20,7 @@ use Rattle.signctl_format.proofs.ReadingSteps.{same_word, some_is, chosen, bind_
 use Rattle.signctl_format.proofs.WordList.{words_split}
 use Rattle.signctl_format.proofs.Forms.{Has}
 use Rattle.signctl_format.proofs.Grammars as script_grammar
-use Rattle.signctl_grant.specs.declared.grant_item.GrantItem.{GrantItem}
-use Rattle.signctl_grant.specs.declared.grant_item.GrantItem.TheVariants.{Silent, Cache, Handle, Event}
+use Rattle.signctl_grant.specs.GrantEvents.{GrantItem}
 use Rattle.signctl_grant.specs.GrantGrammar.{failure_moment, as_grant, SpellsGrant}
 use Rattle.signctl_grant.specs.GrantReading.{begin_form, made_form, fail_form, shared_form, grant_form, grant_words_say, grant_item_of}
 use Rattle.signctl_grant.proofs.GrantForms.{begin_form-words, begin_form-some, made_form-words, made_form-some, fail_form-words, fail_form-some}
@@ -29,15 +28,15 @@ use Rattle.signctl_grant.proofs.GrantForms.{begin_form-words, begin_form-some, m
 -- ---- what reads as an item spells it
 
 -- a line spells what its item of a script is to a granter
-shared_spells : (line : List ℕ) (said : Item) (item : GrantItem) → Spells One line said → as_grant said ≡ Some item → SpellsGrant line item
-shared_spells line script.Silent item spelled e = subst (SpellsGrant line) {x = Silent} (some_is Silent item e) (script.Silent, spelled, refl)
-shared_spells line (script.Cache loader) item spelled e = subst (SpellsGrant line) {x = Cache loader} (some_is (Cache loader) item e) (script.Cache loader, spelled, refl)
-shared_spells line (script.Handle cache rule) item spelled e = subst (SpellsGrant line) {x = Handle cache rule} (some_is (Handle cache rule) item e) (script.Handle cache rule, spelled, refl)
-shared_spells line (script.Event (signs.Begin call head d)) item spelled e = absurd cc
-shared_spells line (script.Event (signs.Poll call now)) item spelled e = subst (SpellsGrant line) {x = Event (Poll call now)} (some_is (Event (Poll call now)) item e) (script.Event (signs.Poll call now), spelled, refl)
-shared_spells line (script.Event (signs.Provided call now a)) item spelled e = subst (SpellsGrant line) {x = Event (Provided call now a)} (some_is (Event (Provided call now a)) item e) (script.Event (signs.Provided call now a), spelled, refl)
-shared_spells line (script.Event (signs.Signed call verdict)) item spelled e = absurd cc
-shared_spells line (script.Event (signs.Cancel call)) item spelled e = subst (SpellsGrant line) {x = Event (Cancel call)} (some_is (Event (Cancel call)) item e) (script.Event (signs.Cancel call), spelled, refl)
+shared_spells : (line : List ℕ) (said : ScriptItem) (item : GrantItem) → Spells One line said → as_grant said ≡ Some item → SpellsGrant line item
+shared_spells line Silent item spelled e = subst (SpellsGrant line) {x = Silent} (some_is Silent item e) (Silent, spelled, refl)
+shared_spells line (Cache loader) item spelled e = subst (SpellsGrant line) {x = Cache loader} (some_is (Cache loader) item e) (Cache loader, spelled, refl)
+shared_spells line (Handle cache rule) item spelled e = subst (SpellsGrant line) {x = Handle cache rule} (some_is (Handle cache rule) item e) (Handle cache rule, spelled, refl)
+shared_spells line (Event (signs.Begin call head d)) item spelled e = absurd cc
+shared_spells line (Event (signs.Poll call now)) item spelled e = subst (SpellsGrant line) {x = Event (Poll call now)} (some_is (Event (Poll call now)) item e) (Event (signs.Poll call now), spelled, refl)
+shared_spells line (Event (signs.Provided call now a)) item spelled e = subst (SpellsGrant line) {x = Event (Provided call now a)} (some_is (Event (Provided call now a)) item e) (Event (signs.Provided call now a), spelled, refl)
+shared_spells line (Event (signs.Signed call verdict)) item spelled e = absurd cc
+shared_spells line (Event (signs.Cancel call)) item spelled e = subst (SpellsGrant line) {x = Event (Cancel call)} (some_is (Event (Cancel call)) item e) (Event (signs.Cancel call), spelled, refl)
 
 shared_form-some : (line : List ℕ) (item : GrantItem) → shared_form line ≡ Some item → SpellsGrant line item
 shared_form-some line item e =
@@ -78,7 +77,7 @@ unfolding grant_item_of grant_words_say
 named_line line name ws item has e = rw has e
 
 -- a line that a script spells as this item says so
-says : (line : List ℕ) (said : Item) (item : GrantItem) → Spells One line said → as_grant said ≡ Some item → shared_form line ≡ Some item
+says : (line : List ℕ) (said : ScriptItem) (item : GrantItem) → Spells One line said → as_grant said ≡ Some item → shared_form line ≡ Some item
 says line said item spelled e = rw (script_grammar.item_of-spelled One line said spelled) e
 
 -- the first word of a silent line is no name
@@ -94,19 +93,19 @@ silent_line line item silent e =
     let parted = words_split line in
     named_line line _ _ item parted (rw (no_name line _ (codes "begin") _ parted silent refl, no_name line _ (codes "made") _ parted silent refl, no_name line _ (codes "fail") _ parted silent refl) e)
 
-shared_line : (line : List ℕ) (said : Item) (item : GrantItem) → Spells One line said → as_grant said ≡ Some item → grant_item_of line ≡ Some item
+shared_line : (line : List ℕ) (said : ScriptItem) (item : GrantItem) → Spells One line said → as_grant said ≡ Some item → grant_item_of line ≡ Some item
 unfolding grant_form
-shared_line line script.Silent item spelled e = silent_line line item spelled (says line script.Silent item spelled e)
-shared_line line (script.Cache Single) item spelled e = named_line line (codes "cache") _ item spelled.1 (says line (script.Cache Single) item spelled e)
-shared_line line (script.Cache (Chain n)) item spelled e = named_line line (codes "cache") _ item spelled.1 (says line (script.Cache (Chain n)) item spelled e)
-shared_line line (script.Handle cache rule) item spelled e = named_line line (codes "handle") _ item spelled.1 (says line (script.Handle cache rule) item spelled e)
-shared_line line (script.Event (signs.Begin call head d)) item spelled e = absurd cc
-shared_line line (script.Event (signs.Poll call now)) item spelled e = named_line line (codes "poll") _ item spelled.1 (says line (script.Event (signs.Poll call now)) item spelled e)
-shared_line line (script.Event (signs.Provided call now (Found k))) item spelled e = named_line line (codes "found") _ item spelled.1 (says line (script.Event (signs.Provided call now (Found k))) item spelled e)
-shared_line line (script.Event (signs.Provided call now Missing)) item spelled e = named_line line (codes "missing") _ item spelled.1 (says line (script.Event (signs.Provided call now Missing)) item spelled e)
-shared_line line (script.Event (signs.Provided call now (answer.Failed error))) item spelled e = named_line line (codes "failed") _ item spelled.1 (says line (script.Event (signs.Provided call now (answer.Failed error))) item spelled e)
-shared_line line (script.Event (signs.Signed call verdict)) item spelled e = absurd cc
-shared_line line (script.Event (signs.Cancel call)) item spelled e = named_line line (codes "cancel") _ item spelled.1 (says line (script.Event (signs.Cancel call)) item spelled e)
+shared_line line Silent item spelled e = silent_line line item spelled (says line Silent item spelled e)
+shared_line line (Cache Single) item spelled e = named_line line (codes "cache") _ item spelled.1 (says line (Cache Single) item spelled e)
+shared_line line (Cache (Chain n)) item spelled e = named_line line (codes "cache") _ item spelled.1 (says line (Cache (Chain n)) item spelled e)
+shared_line line (Handle cache rule) item spelled e = named_line line (codes "handle") _ item spelled.1 (says line (Handle cache rule) item spelled e)
+shared_line line (Event (signs.Begin call head d)) item spelled e = absurd cc
+shared_line line (Event (signs.Poll call now)) item spelled e = named_line line (codes "poll") _ item spelled.1 (says line (Event (signs.Poll call now)) item spelled e)
+shared_line line (Event (signs.Provided call now (Found k))) item spelled e = named_line line (codes "found") _ item spelled.1 (says line (Event (signs.Provided call now (Found k))) item spelled e)
+shared_line line (Event (signs.Provided call now Missing)) item spelled e = named_line line (codes "missing") _ item spelled.1 (says line (Event (signs.Provided call now Missing)) item spelled e)
+shared_line line (Event (signs.Provided call now (answer.Failed error))) item spelled e = named_line line (codes "failed") _ item spelled.1 (says line (Event (signs.Provided call now (answer.Failed error))) item spelled e)
+shared_line line (Event (signs.Signed call verdict)) item spelled e = absurd cc
+shared_line line (Event (signs.Cancel call)) item spelled e = named_line line (codes "cancel") _ item spelled.1 (says line (Event (signs.Cancel call)) item spelled e)
 
 -- a line that spells an item reads as it
 pub item_of-spelled : (line : List ℕ) (item : GrantItem) → SpellsGrant line item → grant_item_of line ≡ Some item
@@ -151,28 +150,28 @@ pub one_item : (line : List ℕ) (a b : GrantItem) → SpellsGrant line a → Sp
 one_item line a b first second = some_is a b (sym (item_of-spelled line a first) ∙ item_of-spelled line b second)
 
 -- the item of a script that is this one to a granter, where a script has it
-abbrev as_script : GrantItem → Item
-as_script (Cache loader) = script.Cache loader
-as_script (Handle cache rule) = script.Handle cache rule
-as_script (Event (Poll call now)) = script.Event (signs.Poll call now)
-as_script (Event (Provided call now a)) = script.Event (signs.Provided call now a)
-as_script (Event (Cancel call)) = script.Event (signs.Cancel call)
-as_script _ = script.Silent
+abbrev as_script : GrantItem → ScriptItem
+as_script (Cache loader) = Cache loader
+as_script (Handle cache rule) = Handle cache rule
+as_script (Event (Poll call now)) = Event (signs.Poll call now)
+as_script (Event (Provided call now a)) = Event (signs.Provided call now a)
+as_script (Event (Cancel call)) = Event (signs.Cancel call)
+as_script _ = Silent
 
 -- no other item of a script is this one to a granter
-only_script : (said : Item) (item : GrantItem) → as_grant said ≡ Some item → said ≡ as_script item
-only_script script.Silent item e = ap as_script (some_is Silent item e)
-only_script (script.Cache loader) item e = ap as_script (some_is (Cache loader) item e)
-only_script (script.Handle cache rule) item e = ap as_script (some_is (Handle cache rule) item e)
-only_script (script.Event (signs.Begin call head d)) item e = absurd cc
-only_script (script.Event (signs.Poll call now)) item e = ap as_script (some_is (Event (Poll call now)) item e)
-only_script (script.Event (signs.Provided call now a)) item e = ap as_script (some_is (Event (Provided call now a)) item e)
-only_script (script.Event (signs.Signed call verdict)) item e = absurd cc
-only_script (script.Event (signs.Cancel call)) item e = ap as_script (some_is (Event (Cancel call)) item e)
+only_script : (said : ScriptItem) (item : GrantItem) → as_grant said ≡ Some item → said ≡ as_script item
+only_script Silent item e = ap as_script (some_is Silent item e)
+only_script (Cache loader) item e = ap as_script (some_is (Cache loader) item e)
+only_script (Handle cache rule) item e = ap as_script (some_is (Handle cache rule) item e)
+only_script (Event (signs.Begin call head d)) item e = absurd cc
+only_script (Event (signs.Poll call now)) item e = ap as_script (some_is (Event (Poll call now)) item e)
+only_script (Event (signs.Provided call now a)) item e = ap as_script (some_is (Event (Provided call now a)) item e)
+only_script (Event (signs.Signed call verdict)) item e = absurd cc
+only_script (Event (signs.Cancel call)) item e = ap as_script (some_is (Event (Cancel call)) item e)
 
 -- lines that a script spells as the same item are the same
-shared_once : (item : GrantItem) (a b : List ℕ) → as_script item ≢ script.Silent
-    → ((said : Item) × Spells One a said × (as_grant said ≡ Some item)) → ((said : Item) × Spells One b said × (as_grant said ≡ Some item)) → a ≡ b
+shared_once : (item : GrantItem) (a b : List ℕ) → as_script item ≢ Silent
+    → ((said : ScriptItem) × Spells One a said × (as_grant said ≡ Some item)) → ((said : ScriptItem) × Spells One b said × (as_grant said ≡ Some item)) → a ≡ b
 shared_once item a b loud first second =
     script_grammar.one_spelling One (as_script item) a b loud
     (subst (Spells One a) (only_script first.0 item first.2) first.1)

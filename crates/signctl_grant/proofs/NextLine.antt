@@ -20,41 +20,17 @@ use Rattle.desk_parts.specs.declared.adding.AddError.TheVariants.{Late, NoCache,
 use Rattle.signctl_format.specs.declared.credential.ScriptCredential.{ScriptCredential}
 use Rattle.signctl_format.specs.declared.credential.ScriptRule.{ScriptRule}
 use Rattle.signctl_format.specs.declared.credential.ScriptRule.TheVariants.{Now, Cred}
-use Rattle.signctl_grant.specs.declared.grant_item.GrantItem.{GrantItem}
-use Rattle.signctl_grant.specs.declared.grant_item.GrantItem.TheVariants as item
-use Rattle.signctl_format.specs.declared.line_error.LineError.TheVariants as line_error
+use Rattle.signctl_format.specs.declared.item.Item.TheVariants as item
 use Rattle.signctl_format.specs.Lines.{with_newline}
 use Rattle.signctl_format.specs.Policy.{script_policy}
-use Rattle.signctl_format.specs.ScriptSetup.{place_of_rule, is_empty}
-use Rattle.signctl_grant.specs.GrantEvents.{plain_grant_event}
+use Rattle.signctl_format.specs.ScriptSetup.{is_empty, place_of_rule, setup_in, events_in, item_error}
+use Rattle.signctl_grant.specs.GrantEvents.{GrantItem, plain_grant_event}
 use Rattle.sign_base.specs.Bytes.{newline}
 use Rattle.sign_base.specs.Lines.{input_limit}
-use Rattle.signctl_grant.specs.GrantScript.{setup_in, events_in, item_error}
 use Rattle.signctl_grant.specs.GrantOutput.{transcript_of}
 use Rattle.signctl_grant.specs.GrantSessionState.{GrantSessionState, GrantSessionRepresents}
-use Rattle.signctl_grant.proofs.SetupIn.{setup_in-silent, setup_in-cache, setup_in-handle, setup_in-event, events_in-more, rules-same}
+use Rattle.signctl_format.proofs.SetupIn.{setup_in-silent, setup_in-cache, setup_in-handle, setup_in-event, events_in-more, rules-same, caches-few, handles-few, cache-no_event, handle-no_event, handle-cache, one-more}
 use Rattle.signctl_grant.proofs.PlainGrants.{plain-reply}
-use Rattle.signctl_grant.proofs.ItemsIn.{caches-few, handles-few}
-
--- a good line that sets the signer up comes before the first event, and its cache exists
-good_setup : (none there : Bool) → (if none then (if there then None else Some line_error.NoSuchCache) else Some line_error.Late) ≡ None → (none ≡ true) × (there ≡ true)
-good_setup true true h = (refl, refl)
-good_setup true false h = absurd (cc)
-good_setup false there h = absurd (cc)
-
-pub cache-no_event : (items : List GrantItem) (loader : Loader) → item_error items (item.Cache loader) ≡ None → is_empty (events_in items) ≡ true
-cache-no_event items loader h = (good_setup (is_empty (events_in items)) true h).0
-
-pub handle-no_event : (items : List GrantItem) (cache : ℕ) (rule : ScriptRule) → item_error items (item.Handle cache rule) ≡ None → is_empty (events_in items) ≡ true
-handle-no_event items cache rule h = (good_setup (is_empty (events_in items)) _ h).0
-
-pub handle-cache : (items : List GrantItem) (cache : ℕ) (rule : ScriptRule) → item_error items (item.Handle cache rule) ≡ None → nat_lt cache (length (setup_in items).loaders) ≡ true
-handle-cache items cache rule h = (good_setup (is_empty (events_in items)) _ h).1
-
--- the note of an event makes an event list that isn't empty
-one-more : (xs : List (GrantEvent ScriptCredential)) (x : GrantEvent ScriptCredential) → not (is_empty (xs ++ x ∷ [])) ≡ true
-one-more [] x = refl
-one-more (y ∷ rest) x = refl
 
 -- a session that is seen so represents what it is seen as
 pub as_seen : (inside session : GrantSessionState) (items : List GrantItem) → inside ≡ session → GrantSessionRepresents session items → GrantSessionRepresents inside items

@@ -4,30 +4,29 @@ use Rattle.std.specs.Fmt.{decimal}
 use Rattle.sequential_signer.specs.declared.event.Event.TheVariants as signs
 use Rattle.sequential_signer.specs.declared.grant_event.GrantEvent.TheVariants.{Begin, Poll, Provided, Granted, Cancel}
 use Rattle.sequential_signer.specs.declared.grant_event.Made.TheVariants.{Made, Failed}
-use Rattle.signctl_format.specs.declared.item.Item.{Item}
-use Rattle.signctl_format.specs.declared.item.Item.TheVariants as script
+use Rattle.signctl_format.specs.declared.item.Item.TheVariants.{Silent, Cache, Handle, Event}
 use Rattle.signctl_format.specs.declared.script_version.ScriptVersion.TheVariants.{One}
+use Rattle.signctl_format.specs.ScriptEvents.{ScriptItem}
 use Rattle.signctl_format.specs.Words.{words, greatest_u64}
 use Rattle.signctl_format.specs.Moments.{IsLineMoment, moment_word, IsLineDuration, duration_word}
 use Rattle.signctl_format.specs.Lines.{call_words, credential_words}
 use Rattle.signctl_format.specs.Grammar.{IsLineCall, IsLineCredential, Spells}
-use Rattle.signctl_grant.specs.declared.grant_item.GrantItem.{GrantItem}
-use Rattle.signctl_grant.specs.declared.grant_item.GrantItem.TheVariants.{Silent, Cache, Handle, Event}
+use Rattle.signctl_grant.specs.GrantEvents.{GrantItem}
 
 -- the moment of a granter's failure, whose line names none
 abbrev pub failure_moment : ℤ
 failure_moment = pos 0
 
 -- what an item of a script is to a granter: no head is begun, and no service answers
-abbrev pub as_grant : Item → Option GrantItem
-as_grant script.Silent = Some Silent
-as_grant (script.Cache loader) = Some (Cache loader)
-as_grant (script.Handle cache rule) = Some (Handle cache rule)
-as_grant (script.Event (signs.Begin call head expires_in)) = None
-as_grant (script.Event (signs.Poll call now)) = Some (Event (Poll call now))
-as_grant (script.Event (signs.Provided call now answer)) = Some (Event (Provided call now answer))
-as_grant (script.Event (signs.Signed call answer)) = None
-as_grant (script.Event (signs.Cancel call)) = Some (Event (Cancel call))
+abbrev pub as_grant : ScriptItem → Option GrantItem
+as_grant Silent = Some Silent
+as_grant (Cache loader) = Some (Cache loader)
+as_grant (Handle cache rule) = Some (Handle cache rule)
+as_grant (Event (signs.Begin call head expires_in)) = None
+as_grant (Event (signs.Poll call now)) = Some (Event (Poll call now))
+as_grant (Event (signs.Provided call now answer)) = Some (Event (Provided call now answer))
+as_grant (Event (signs.Signed call answer)) = None
+as_grant (Event (signs.Cancel call)) = Some (Event (Cancel call))
 
 -- the line spells this item: as `begin H N D`, as `made H N T CREDENTIAL`, as `fail H N E`, or as a script spells it
 abbrev pub SpellsGrant : List ℕ → GrantItem → Type 0
@@ -40,4 +39,4 @@ SpellsGrant line (Event (Granted call now (Made credential))) =
 SpellsGrant line (Event (Granted call now (Failed error))) =
     IsLineCall call × (now ≡ failure_moment) × (error ≤ greatest_u64)
     × (words line ≡ codes "fail" ∷ call_words call ++ decimal error ∷ [])
-SpellsGrant line item = (said : Item) × Spells One line said × (as_grant said ≡ Some item)
+SpellsGrant line item = (said : ScriptItem) × Spells One line said × (as_grant said ≡ Some item)

@@ -6,14 +6,15 @@ use Rattle.sequential_signer.specs.GrantSource.{grant_source}
 use Rattle.sequential_signer.specs.declared.grant_event.GrantEntry.{GrantEntry}
 use Rattle.signctl_driver.specs.Command.{Command}
 use Rattle.signctl_format.specs.declared.credential.ScriptCredential.{ScriptCredential}
+use Rattle.signctl_format.specs.declared.item.Item.TheVariants as item
 use Rattle.signctl_format.specs.declared.line_error.LineError.{LineError}
 use Rattle.signctl_format.specs.declared.script_version.ScriptVersion.TheVariants.{One}
 use Rattle.signctl_format.specs.Policy.{script_policy}
 use Rattle.signctl_format.specs.Lines.{with_newline, cache_line, handle_line, final_line, line_error_text}
-use Rattle.signctl_grant.specs.declared.grant_item.GrantItem.{GrantItem}
-use Rattle.signctl_grant.specs.declared.grant_item.GrantItem.TheVariants as item
+use Rattle.signctl_format.specs.ScriptSetup.{setup_in, events_in}
+use Rattle.signctl_grant.specs.GrantEvents.{GrantItem}
 use Rattle.signctl_grant.specs.GrantLines.{grant_reply_line}
-use Rattle.signctl_grant.specs.GrantScript.{setup_in, events_in, grant_reading}
+use Rattle.signctl_grant.specs.GrantScript.{grant_reading}
 
 -- the legal transcript of the event lines, without allocation failures
 abbrev pub transcript_of : List GrantItem → List (GrantEntry ScriptCredential)

@@ -3,13 +3,13 @@ use Rattle.std.specs.Prelude.{ℕ, List, [], ◌∷◌, Option, Some, None, if�
 use Rattle.std.specs.Str.{bytes_eq}
 use Rattle.sequential_signer.specs.declared.grant_event.GrantEvent.TheVariants.{Begin, Granted}
 use Rattle.sequential_signer.specs.declared.grant_event.Made.TheVariants.{Made, Failed}
+use Rattle.signctl_format.specs.declared.item.Item.TheVariants.{Event}
 use Rattle.signctl_format.specs.declared.script_version.ScriptVersion.TheVariants.{One}
 use Rattle.signctl_format.specs.Words.{words, greatest_u64}
 use Rattle.signctl_format.specs.Moments.{duration_of}
 use Rattle.signctl_format.specs.Steps.{◌>>=◌, first_word, at_end_of_line}
 use Rattle.signctl_format.specs.Reading.{number_at, moment_at, call_at, credential_in, item_of}
-use Rattle.signctl_grant.specs.declared.grant_item.GrantItem.{GrantItem}
-use Rattle.signctl_grant.specs.declared.grant_item.GrantItem.TheVariants.{Event}
+use Rattle.signctl_grant.specs.GrantEvents.{GrantItem}
 use Rattle.signctl_grant.specs.GrantGrammar.{failure_moment, as_grant}
 
 -- `begin H N D`

@@ -7,10 +7,8 @@ use Rattle.grant_desk.specs.GrantDeskState.{GrantState, GrantRepresents}
 use Rattle.signctl_format.specs.declared.credential.ScriptCredential.{ScriptCredential}
 use Rattle.signctl_format.specs.declared.credential.ScriptRule.{ScriptRule}
 use Rattle.signctl_format.specs.Policy.{script_policy}
-use Rattle.signctl_format.specs.ScriptSetup.{is_empty}
-use Rattle.signctl_grant.specs.declared.grant_item.GrantItem.{GrantItem}
-use Rattle.signctl_grant.specs.GrantEvents.{plain_grant_event}
-use Rattle.signctl_grant.specs.GrantScript.{setup_in, events_in}
+use Rattle.signctl_format.specs.ScriptSetup.{is_empty, setup_in, events_in}
+use Rattle.signctl_grant.specs.GrantEvents.{GrantItem, plain_grant_event}
 
 -- a desk, and whether an event came
 pub record GrantSessionState : Type 0 where

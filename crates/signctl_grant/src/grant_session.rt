@@ -1,26 +1,26 @@
 //! `signctl grant`, line by line: the desk that the cache and handle lines set up, and what is kept
 //! of the lines so far.
-ghost use Rattle.std.specs.Prelude.{◌≡◌, ◌++◌, ◌∷◌, ◌<◌, [], List, length, OnOk, IfOk};
+ghost use Rattle.std.specs.Prelude.{◌≡◌, ◌++◌, ◌∷◌, ◌<◌, [], List, length, not, OnOk, IfOk};
 ghost use Rattle.sign_base.specs.Bytes.{newline};
 ghost use Rattle.sequential_signer.specs.GrantTranscript.{as_reply};
 ghost use Rattle.sequential_signer.specs.Transcript.{is_out_of_memory};
 ghost use Rattle.desk_parts.specs.Adding.{with_rule};
 ghost use Rattle.grant_desk.specs.GrantDeskState.{GrantRepresents};
+ghost use Rattle.signctl_format.specs.declared.item.Item.TheVariants as item;
 ghost use Rattle.signctl_format.specs.Policy.{script_policy};
-ghost use Rattle.signctl_format.specs.ScriptSetup.{place_of_rule, setup_error};
-ghost use Rattle.signctl_grant.specs.declared.grant_item.GrantItem.{GrantItem};
-ghost use Rattle.signctl_grant.specs.declared.grant_item.GrantItem.TheVariants as item;
-ghost use Rattle.signctl_grant.specs.GrantScript.{events_in, item_error};
+ghost use Rattle.signctl_format.specs.ScriptSetup.{is_empty, events_in, setup_error, item_error};
+ghost use Rattle.signctl_grant.specs.GrantEvents.{GrantItem};
 ghost use Rattle.signctl_grant.specs.GrantOutput.{final_lines};
 ghost use Rattle.signctl_grant.specs.GrantAnswering.{CanAnswer, AnswersItem};
 
-use crate::{GrantItem, GrantScriptEvent, push_grant_reply, read_grant_line};
+use crate::{GrantScriptEvent, push_grant_reply, read_grant_line};
 use grant_desk::{AddError, GrantDesk};
 use sequential_signer::{GrantReply, Loader};
 use sign_base::NoMemory;
 use signctl_driver::LineCommand;
 use signctl_format::{
-    LineError, ScriptCredential, ScriptRule, ScriptVersion, push_cache, push_final, push_handle,
+    Item, LineError, ScriptCredential, ScriptRule, ScriptVersion, push_cache, push_final,
+    push_handle, setup_error,
 };
 use std::alloc::Global;
 use std::marker::Model;
@@ -57,27 +57,21 @@ impl GrantSession {
     }
 
     /// Why an item is bad behind the items so far, where it is.
-    fn item_error(&self, item: &GrantItem) -> Option<LineError>
+    fn item_error(&self, item: &Item<GrantScriptEvent>) -> Option<LineError>
         ensures { (items : List GrantItem) → GrantSessionRepresents self.now items → result ≡ item_error items item.now }
     {
         match item {
-            GrantItem::Silent | GrantItem::Event(_) => None,
-            GrantItem::Cache(_) => self.setup_error(true),
-            GrantItem::Handle { cache, .. } => self.setup_error(*cache < self.desk.caches()),
+            Item::Silent | Item::Event(_) => None,
+            Item::Cache(_) => self.setup_error(true),
+            Item::Handle { cache, .. } => self.setup_error(*cache < self.desk.caches()),
         }
     }
 
     /// Why a line that sets the granter up is bad, where it is.
     fn setup_error(&self, there: bool) -> Option<LineError>
-        ensures { (items : List GrantItem) → GrantSessionRepresents self.now items → result ≡ setup_error (events_in items) there }
+        ensures { (items : List GrantItem) → GrantSessionRepresents self.now items → result ≡ setup_error (not (is_empty (events_in items))) there }
     {
-        if self.had_event {
-            Some(LineError::Late)
-        } else if there {
-            None
-        } else {
-            Some(LineError::NoSuchCache)
-        }
+        setup_error(self.had_event, there)
     }
 
     /// Adds a cache, and its line to the text.
@@ -105,7 +99,7 @@ impl GrantSession {
         ensures { OnOk result (AnswersItem (item.Handle cache rule)
             (record { session = self.old; text = text.old.items }) (record { session = self.new; text = text.new.items })) }
     {
-        match self.desk.add_handle(cache, place_of(rule)) {
+        match self.desk.add_handle(cache, rule.place()) {
             Ok(number) => push_handle(text, u64::from(number))?,
             Err(refusal) => return Err(out_of_memory(refusal)),
         }
@@ -154,7 +148,7 @@ impl LineCommand for GrantSession {
     ghost use Rattle.signctl_grant.specs.GrantOutput.{grant_command};
     ghost use Rattle.signctl_grant.specs.GrantSessionState.{GrantSessionRepresents};
 
-    type Item = GrantItem;
+    type Item = Item<GrantScriptEvent>;
 
     type Cause = LineError;
 
@@ -166,7 +160,7 @@ impl LineCommand for GrantSession {
         &self,
         _alloc: Global,
         line: &[u8],
-    ) -> Result<Result<GrantItem, LineError>, NoMemory<()>> {
+    ) -> Result<Result<Item<GrantScriptEvent>, LineError>, NoMemory<()>> {
         let Some(item) = read_grant_line(line) else {
             return Ok(Err(LineError::NotUnderstood));
         };
@@ -179,14 +173,14 @@ impl LineCommand for GrantSession {
     fn answer(
         &mut self,
         _alloc: Global,
-        item: GrantItem,
+        item: Item<GrantScriptEvent>,
         text: &mut Vec<u8>,
     ) -> Result<(), NoMemory<()>> {
         match item {
-            GrantItem::Silent => Ok(()),
-            GrantItem::Cache(loader) => self.answer_cache(loader, text),
-            GrantItem::Handle { cache, rule } => self.answer_handle(cache, rule, text),
-            GrantItem::Event(event) => self.answer_event(&event, text),
+            Item::Silent => Ok(()),
+            Item::Cache(loader) => self.answer_cache(loader, text),
+            Item::Handle { cache, rule } => self.answer_handle(cache, rule, text),
+            Item::Event(event) => self.answer_event(&event, text),
         }
     }
 
@@ -211,16 +205,6 @@ fn add_rule(
     match desk.add_rule(rule) {
         Ok(_) => Ok(()),
         Err(_) => Err(NoMemory { back: () }),
-    }
-}
-
-/// The place of a rule among the two.
-fn place_of(rule: ScriptRule) -> u32
-    ensures { result ≡ place_of_rule rule }
-{
-    match rule {
-        ScriptRule::Now => 0,
-        ScriptRule::Cred => 1,
     }
 }
 

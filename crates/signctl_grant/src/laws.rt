@@ -1,7 +1,7 @@
 //! Laws of the grammar of the lines of `grant`: each is the contract of a call that does nothing.
 ghost use Rattle.std.specs.Prelude.{◌≡◌, ◌≢◌, ◌↔◌, ℕ, List, Some};
-ghost use Rattle.signctl_grant.specs.declared.grant_item.GrantItem.{GrantItem};
-ghost use Rattle.signctl_grant.specs.declared.grant_item.GrantItem.TheVariants.{Silent};
+ghost use Rattle.signctl_format.specs.declared.item.Item.TheVariants.{Silent};
+ghost use Rattle.signctl_grant.specs.GrantEvents.{GrantItem};
 ghost use Rattle.signctl_grant.specs.GrantGrammar.{SpellsGrant};
 ghost use Rattle.signctl_grant.specs.GrantReading.{grant_item_of};
 

@@ -4,14 +4,12 @@
 //! Lines that a script has too are read by `signctl_format`.
 #![tactic(auto)]
 
-pub mod grant_item;
 pub mod grant_script_event;
 pub mod grant_session;
 pub mod laws;
 mod print_grant;
 mod read_grant;
 
-pub use grant_item::GrantItem;
 pub use grant_script_event::GrantScriptEvent;
 pub use grant_session::GrantSession;
 pub use print_grant::push_grant_reply;

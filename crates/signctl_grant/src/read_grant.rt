@@ -5,7 +5,7 @@ ghost use Rattle.signctl_grant.specs.GrantEvents.{plain_grant_event};
 ghost use Rattle.signctl_grant.specs.GrantGrammar.{failure_moment, as_grant};
 ghost use Rattle.signctl_grant.specs.GrantReading.{begin_form, made_form, fail_form, grant_item_of};
 
-use crate::{GrantItem, GrantScriptEvent};
+use crate::GrantScriptEvent;
 use sequential_signer::{Event, GrantEvent, Made};
 use sign_base::Timestamp;
 use signctl_format::moment::{duration, moment};
@@ -17,7 +17,7 @@ use signctl_format::{Item, ScriptCredential, ScriptEvent, ScriptVersion};
 /// The item that a line without its newline spells, None where it spells none.
 ///
 /// No line carries a head, so reading takes no memory.
-pub fn read_grant_line(line: &[u8]) -> Option<GrantItem>
+pub fn read_grant_line(line: &[u8]) -> Option<Item<GrantScriptEvent>>
     ensures { result ≡ grant_item_of line.now }
 {
     match item(line) {
@@ -27,7 +27,7 @@ pub fn read_grant_line(line: &[u8]) -> Option<GrantItem>
 }
 
 #[tactic(auto, unfolding(crate::specs::GrantReading::grant_item_of, crate::specs::GrantReading::grant_words_say, crate::specs::GrantReading::grant_form))]
-fn item(line: &[u8]) -> Result<GrantItem, NotUnderstood>
+fn item(line: &[u8]) -> Result<Item<GrantScriptEvent>, NotUnderstood>
     ensures { Reads (λ i. i) result (grant_item_of line.now) }
 {
     let (name, rest) = split_word(line);
@@ -45,7 +45,7 @@ fn item(line: &[u8]) -> Result<GrantItem, NotUnderstood>
 }
 
 #[tactic(auto, unfolding(crate::specs::GrantReading::begin_form))]
-fn begin(rest: &[u8]) -> Result<GrantItem, NotUnderstood>
+fn begin(rest: &[u8]) -> Result<Item<GrantScriptEvent>, NotUnderstood>
     ensures { Reads (λ i. i) result (begin_form (words_after rest.now)) }
 {
     let (call, rest) = call_at(rest)?;
@@ -55,7 +55,7 @@ fn begin(rest: &[u8]) -> Result<GrantItem, NotUnderstood>
 }
 
 #[tactic(auto, unfolding(crate::specs::GrantReading::made_form, signctl_format::specs::Reading::moment_at))]
-fn made(rest: &[u8]) -> Result<GrantItem, NotUnderstood>
+fn made(rest: &[u8]) -> Result<Item<GrantScriptEvent>, NotUnderstood>
     ensures { Reads (λ i. i) result (made_form (words_after rest.now)) }
 {
     let (call, rest) = call_at(rest)?;
@@ -66,7 +66,7 @@ fn made(rest: &[u8]) -> Result<GrantItem, NotUnderstood>
 }
 
 #[tactic(auto, unfolding(crate::specs::GrantReading::fail_form))]
-fn fail(rest: &[u8]) -> Result<GrantItem, NotUnderstood>
+fn fail(rest: &[u8]) -> Result<Item<GrantScriptEvent>, NotUnderstood>
     ensures { Reads (λ i. i) result (fail_form (words_after rest.now)) }
 {
     let (call, rest) = call_at(rest)?;
@@ -87,18 +87,18 @@ fn failure_moment() -> Timestamp
 }
 
 /// What an item of a script is to a granter.
-fn as_grant(item: Item) -> Result<GrantItem, NotUnderstood>
+fn as_grant(item: Item<ScriptEvent>) -> Result<Item<GrantScriptEvent>, NotUnderstood>
     ensures { Reads (λ i. i) result (as_grant item) }
 {
     match item {
-        Item::Silent => Ok(GrantItem::Silent),
-        Item::Cache(loader) => Ok(GrantItem::Cache(loader)),
-        Item::Handle { cache, rule } => Ok(GrantItem::Handle { cache, rule }),
+        Item::Silent => Ok(Item::Silent),
+        Item::Cache(loader) => Ok(Item::Cache(loader)),
+        Item::Handle { cache, rule } => Ok(Item::Handle { cache, rule }),
         Item::Event(event) => event_as_grant(event),
     }
 }
 
-fn event_as_grant(event: ScriptEvent) -> Result<GrantItem, NotUnderstood>
+fn event_as_grant(event: ScriptEvent) -> Result<Item<GrantScriptEvent>, NotUnderstood>
     ensures { Reads (λ i. i) result (as_grant (Item.Event event)) }
 {
     let event = match event.into_event() {
@@ -110,8 +110,8 @@ fn event_as_grant(event: ScriptEvent) -> Result<GrantItem, NotUnderstood>
     Ok(event_item(event))
 }
 
-fn event_item(event: GrantEvent<ScriptCredential>) -> GrantItem
-    ensures { result ≡ GrantItem.Event (plain_grant_event event) }
+fn event_item(event: GrantEvent<ScriptCredential>) -> Item<GrantScriptEvent>
+    ensures { result ≡ Item.Event (plain_grant_event event) }
 {
-    GrantItem::Event(GrantScriptEvent::new(event))
+    Item::Event(GrantScriptEvent::new(event))
 }

@@ -2,7 +2,7 @@
 use super::*;
 use sequential_signer::{Answer, GrantEvent, GrantReply, GrantWhy, Loader, Made};
 use sign_base::Timestamp;
-use signctl_format::{ScriptCredential, ScriptRule};
+use signctl_format::{Item, ScriptCredential, ScriptRule};
 use std::test::*;
 use std::time::Duration;
 use wake_lock::CallId;
@@ -44,23 +44,27 @@ fn credential() -> Result<ScriptCredential, Fail> {
     })
 }
 
-fn handle(cache: u32, rule: ScriptRule) -> GrantItem {
-    GrantItem::Handle { cache, rule }
+fn handle(cache: u32, rule: ScriptRule) -> Item<GrantScriptEvent> {
+    Item::Handle { cache, rule }
 }
 
-fn event(event: GrantEvent<ScriptCredential>) -> GrantItem {
-    GrantItem::Event(GrantScriptEvent::new(event))
+fn event(event: GrantEvent<ScriptCredential>) -> Item<GrantScriptEvent> {
+    Item::Event(GrantScriptEvent::new(event))
 }
 
-fn begin(call: CallId, expires_in: Option<Duration>) -> GrantItem {
+fn begin(call: CallId, expires_in: Option<Duration>) -> Item<GrantScriptEvent> {
     event(GrantEvent::Begin { call, expires_in })
 }
 
-fn provided(call: CallId, now: Timestamp, answer: Answer<ScriptCredential>) -> GrantItem {
+fn provided(
+    call: CallId,
+    now: Timestamp,
+    answer: Answer<ScriptCredential>,
+) -> Item<GrantScriptEvent> {
     event(GrantEvent::Provided { call, now, answer })
 }
 
-fn granted(call: CallId, now: Timestamp, answer: Made<ScriptCredential>) -> GrantItem {
+fn granted(call: CallId, now: Timestamp, answer: Made<ScriptCredential>) -> Item<GrantScriptEvent> {
     event(GrantEvent::Granted { call, now, answer })
 }
 
@@ -73,10 +77,10 @@ fn lines_are_read(rt: HostRuntime) -> Result<(), Fail> {
     let now = moment(5)?;
     let (found, made) = (credential()?, credential()?);
     for (line, item) in [
-        ("", GrantItem::Silent),
-        ("# begin 0 1 -", GrantItem::Silent),
-        ("cache single", GrantItem::Cache(Loader::Single)),
-        ("cache chain 2", GrantItem::Cache(Loader::Chain(2))),
+        ("", Item::Silent),
+        ("# begin 0 1 -", Item::Silent),
+        ("cache single", Item::Cache(Loader::Single)),
+        ("cache chain 2", Item::Cache(Loader::Chain(2))),
         ("handle 3 cred", handle(3, ScriptRule::Cred)),
         ("begin 0 1 -", begin(call, None)),
         ("begin 0 1 60", begin(call, Some(Duration::from_secs(60)))),

@@ -1,7 +1,7 @@
 use Rattle.std.proofs.Common.{true, ap, sym, ◌∙◌, ◌++◌, ◌∷◌, [], ◌≡◌, subst}
 use Rattle.sequential_signer.specs.declared.grant_event.GrantEvent.{GrantEvent}
 use Rattle.signctl_format.specs.declared.credential.ScriptCredential.{ScriptCredential}
-use Rattle.signctl_grant.specs.declared.grant_item.GrantItem.TheVariants as item
+use Rattle.signctl_format.specs.declared.item.Item.TheVariants as item
 use Rattle.signctl_grant.specs.GrantLines.{grant_reply_line}
 use Rattle.signctl_grant.specs.GrantOutput.{answer_to}
 use Rattle.signctl_grant.specs.GrantSessionState.{GrantSessionRepresents}

@@ -4,7 +4,7 @@ use Rattle.sequential_signer.specs.GrantSource.{grant_source}
 use Rattle.signctl_format.specs.declared.credential.ScriptCredential.{ScriptCredential}
 use Rattle.signctl_format.specs.declared.script_version.ScriptVersion.TheVariants.{One}
 use Rattle.signctl_format.specs.Lines.{final_line}
-use Rattle.signctl_grant.specs.GrantScript.{setup_in}
+use Rattle.signctl_format.specs.ScriptSetup.{setup_in}
 use Rattle.signctl_grant.specs.GrantOutput.{final_lines_of, final_line_of, transcript_of}
 use Rattle.signctl_grant.proofs.Closing.{finals-none, finals-more, cached-is}
 use Rattle.signctl_grant.proofs.NextLine.{as_seen, line-with_newline}

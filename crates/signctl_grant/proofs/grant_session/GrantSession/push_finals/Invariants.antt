@@ -1,5 +1,5 @@
 use Rattle.std.proofs.Common.{◌≡◌, ◌++◌, List}
-use Rattle.signctl_grant.specs.declared.grant_item.GrantItem.{GrantItem}
+use Rattle.signctl_grant.specs.GrantEvents.{GrantItem}
 use Rattle.signctl_grant.specs.GrantOutput.{final_lines_of}
 use Rattle.signctl_grant.specs.GrantSessionState.{GrantSessionRepresents}
 use Rattle.signctl_grant.proofs.grant_session.GrantSession.push_finals.Given as goal

@@ -1,6 +1,6 @@
 use Rattle.std.proofs.Common.{◌≡◌, ◌++◌, ◌∷◌, [], sym, subst}
 use Rattle.std.proofs.lemmas.List.{append-nil}
-use Rattle.signctl_grant.specs.declared.grant_item.GrantItem.{GrantItem}
+use Rattle.signctl_grant.specs.GrantEvents.{GrantItem}
 use Rattle.signctl_grant.specs.GrantOutput.{answer_to}
 use Rattle.signctl_grant.specs.GrantSessionState.{GrantSessionRepresents}
 use Rattle.signctl_grant.proofs.NextLine.{next-silent}
