@@ -12,9 +12,9 @@ use Rattle.sequential_signer.proofs.ExpectedReplies.{committed_entries-expected}
 use Rattle.desk_parts.specs.Tables.{setup_of}
 use Rattle.signctl_format.specs.declared.credential.ScriptCredential.{ScriptCredential}
 use Rattle.signctl_format.specs.declared.credential.ScriptRule.{ScriptRule}
-use Rattle.signctl_format.specs.declared.item.Item.{Item}
+use Rattle.signctl_format.specs.ScriptEvents.{ScriptItem}
 use Rattle.signctl_format.specs.Policy.{script_policy}
-use Rattle.signctl_core.specs.Script.{setup_in}
+use Rattle.signctl_format.specs.ScriptSetup.{setup_in}
 use Rattle.signctl_core.specs.ScriptOutput.{final_line_of, final_lines_of, transcript_of}
 use Rattle.signctl_core.specs.SessionState.{SessionState, RepresentsItems}
 use Rattle.signctl_core.proofs.PlainEvents.{plain-cache}
@@ -36,7 +36,7 @@ there (x ∷ rest) zero h = (x, refl)
 there (x ∷ rest) (suc i) h = there rest i (omega arith)
 
 -- what the desk caches is what the sequential signer does
-pub cached-is : (session : SessionState) (items : List Item) → RepresentsItems session items → (i : ℕ) → i < length session.desk.loaders
+pub cached-is : (session : SessionState) (items : List ScriptItem) → RepresentsItems session items → (i : ℕ) → i < length session.desk.loaders
     → option_and_then (λ (held : Option ScriptCredential). held) (slice_get session.desk.caches i) ≡ sequential_cache script_policy (setup_in items) (transcript_of items) i
 cached-is session items stands i h =
     let loader = there session.desk.loaders i h in

@@ -1,4 +1,3 @@
-mod SetupIn
 mod ItemsIn
 mod PlainEvents
 mod LineGood

@@ -20,47 +20,25 @@ use Rattle.desk_parts.specs.declared.adding.AddError.TheVariants.{Late, NoCache,
 use Rattle.signctl_format.specs.declared.credential.ScriptCredential.{ScriptCredential}
 use Rattle.signctl_format.specs.declared.credential.ScriptRule.{ScriptRule}
 use Rattle.signctl_format.specs.declared.credential.ScriptRule.TheVariants.{Now, Cred}
-use Rattle.signctl_format.specs.declared.item.Item.{Item}
 use Rattle.signctl_format.specs.declared.item.Item.TheVariants as item
-use Rattle.signctl_format.specs.declared.line_error.LineError.TheVariants as line_error
 use Rattle.signctl_format.specs.declared.script_version.ScriptVersion.{ScriptVersion}
 use Rattle.signctl_format.specs.Policy.{script_policy}
-use Rattle.signctl_format.specs.ScriptEvents.{plain_event}
+use Rattle.signctl_format.specs.ScriptEvents.{ScriptItem, plain_event}
 use Rattle.sign_base.specs.Bytes.{newline}
 use Rattle.sign_base.specs.Lines.{input_limit}
-use Rattle.signctl_format.specs.ScriptSetup.{is_empty, place_of_rule}
-use Rattle.signctl_core.specs.Script.{setup_in, events_in, items_in, version_in, item_error}
+use Rattle.signctl_format.specs.ScriptSetup.{is_empty, place_of_rule, setup_in, events_in, item_error}
+use Rattle.signctl_core.specs.Script.{items_in, version_in}
 use Rattle.signctl_core.specs.ScriptOutput.{transcript_of, with_newline}
 use Rattle.signctl_core.specs.SessionState.{SessionState, RepresentsItems, SessionRepresents}
 use Rattle.signctl_core.specs.declared.script_line.ScriptLine.{ScriptLine}
 use Rattle.signctl_core.specs.declared.script_line.ScriptLine.TheVariants.{VersionTwo, Says}
 use Rattle.signctl_format.specs.declared.script_version.ScriptVersion.TheVariants.{Two}
-use Rattle.signctl_core.proofs.SetupIn.{setup_in-silent, setup_in-cache, setup_in-handle, setup_in-event, events_in-more, rules-same}
+use Rattle.signctl_format.proofs.SetupIn.{setup_in-silent, setup_in-cache, setup_in-handle, setup_in-event, events_in-more, rules-same, caches-few, handles-few, cache-no_event, handle-no_event, handle-cache, one-more}
 use Rattle.signctl_core.proofs.PlainEvents.{plain-reply}
-use Rattle.signctl_core.proofs.ItemsIn.{caches-few, handles-few, items_in-says, version_after-says}
-
--- a good line that sets the signer up comes before the first event, and its cache exists
-good_setup : (none there : Bool) → (if none then (if there then None else Some line_error.NoSuchCache) else Some line_error.Late) ≡ None → (none ≡ true) × (there ≡ true)
-good_setup true true h = (refl, refl)
-good_setup true false h = absurd (cc)
-good_setup false there h = absurd (cc)
-
-pub cache-no_event : (items : List Item) (loader : Loader) → item_error items (item.Cache loader) ≡ None → is_empty (events_in items) ≡ true
-cache-no_event items loader h = (good_setup (is_empty (events_in items)) true h).0
-
-pub handle-no_event : (items : List Item) (cache : ℕ) (rule : ScriptRule) → item_error items (item.Handle cache rule) ≡ None → is_empty (events_in items) ≡ true
-handle-no_event items cache rule h = (good_setup (is_empty (events_in items)) _ h).0
-
-pub handle-cache : (items : List Item) (cache : ℕ) (rule : ScriptRule) → item_error items (item.Handle cache rule) ≡ None → nat_lt cache (length (setup_in items).loaders) ≡ true
-handle-cache items cache rule h = (good_setup (is_empty (events_in items)) _ h).1
-
--- the note of an event makes an event list that isn't empty
-one-more : (xs : List (Event ScriptCredential)) (x : Event ScriptCredential) → not (is_empty (xs ++ x ∷ [])) ≡ true
-one-more [] x = refl
-one-more (y ∷ rest) x = refl
+use Rattle.signctl_core.proofs.ItemsIn.{items_in-says, version_after-says}
 
 -- a session that is seen so represents what it is seen as
-pub as_seen : (inside session : SessionState) (items : List Item) → inside ≡ session → RepresentsItems session items → RepresentsItems inside items
+pub as_seen : (inside session : SessionState) (items : List ScriptItem) → inside ≡ session → RepresentsItems session items → RepresentsItems inside items
 as_seen inside session items seen stands = let P : SessionState → Type 0 = λ s. RepresentsItems s items in subst P (sym seen) stands
 
 -- a session with this desk and this note
@@ -73,7 +51,7 @@ stepped-none [] events e h = refl
 stepped-none (x ∷ rest) [] e h = absurd (cc)
 stepped-none (x ∷ rest) (y ∷ more) e h = absurd (cc)
 
-module _ (session : SessionState) (items : List Item) (stands : RepresentsItems session items) where
+module _ (session : SessionState) (items : List ScriptItem) (stands : RepresentsItems session items) where
   -- before the first event the desk has taken none
   no_steps : is_empty (events_in items) ≡ true → stands.stepped ≡ []
   no_steps h = stepped-none stands.stepped (events_in items) stands.events h
@@ -103,7 +81,7 @@ module _ (session : SessionState) (items : List Item) (stands : RepresentsItems 
   }
 
   -- a desk that is set up further, before the first event
-  next-setup : (new : DeskState ScriptCredential ScriptRule) (x : Item) → is_empty (events_in items) ≡ true → events_in (items ++ x ∷ []) ≡ events_in items
+  next-setup : (new : DeskState ScriptCredential ScriptRule) (x : ScriptItem) → is_empty (events_in items) ≡ true → events_in (items ++ x ∷ []) ≡ events_in items
       → setup_of new ≡ setup_in (items ++ x ∷ []) → Represents script_policy new [] → RepresentsItems (with_desk new session.had_event session) (items ++ x ∷ [])
   unfolding expected_entries
   next-setup new x none same setup fresh = record {
@@ -240,7 +218,7 @@ pub not-out_of_memory : (reply : Reply ScriptCredential) → is_out_of_memory re
 not-out_of_memory reply good lost = let e : is_out_of_memory reply ≡ true = ap (λ (r : Reply ScriptCredential). is_out_of_memory r) lost in absurd (cc)
 
 -- the note of a version leaves what a session represents
-noted : (session : SessionState) (items : List Item) (version : Option ScriptVersion) → RepresentsItems session items → RepresentsItems (record session { version = version }) items
+noted : (session : SessionState) (items : List ScriptItem) (version : Option ScriptVersion) → RepresentsItems session items → RepresentsItems (record session { version = version }) items
 noted session items version r = record { setup = r.setup; stepped = r.stepped; events = r.events; represents = r.represents; note = r.note }
 
 -- after the version line
@@ -249,10 +227,10 @@ unfolding items_in
 next-version inside session seen r = record { items = noted inside [] (Some Two) (as_seen inside session [] seen r.items); version = refl }
 
 -- after a line that says something
-pub next-says : (inside session : SessionState) (lines : List ScriptLine) (item : Item) (version : ScriptVersion) → inside ≡ session → RepresentsItems session (items_in lines ++ item ∷ [])
+pub next-says : (inside session : SessionState) (lines : List ScriptLine) (item : ScriptItem) (version : ScriptVersion) → inside ≡ session → RepresentsItems session (items_in lines ++ item ∷ [])
     → Some version ≡ Some (version_in lines) → SessionRepresents (record inside { version = Some version }) (lines ++ Says item ∷ [])
 next-says inside session lines item version seen r v =
-    let P : List Item → Type 0 = λ items. RepresentsItems (record inside { version = Some version }) items in record {
+    let P : List ScriptItem → Type 0 = λ items. RepresentsItems (record inside { version = Some version }) items in record {
       items = subst P (sym (items_in-says lines item)) (noted inside _ (Some version) (as_seen inside session _ seen r));
       version = v ∙ sym (version_after-says lines item);
     }

@@ -9,22 +9,23 @@ use Rattle.signctl_driver.specs.Lines.{Ending}
 pub use Rattle.signctl_lines.specs.LineByLine.{with_newline}
 use Rattle.signctl_driver.specs.Output.{output}
 use Rattle.signctl_format.specs.declared.credential.ScriptCredential.{ScriptCredential}
-use Rattle.signctl_format.specs.declared.item.Item.{Item}
 use Rattle.signctl_format.specs.declared.item.Item.TheVariants as item
 use Rattle.signctl_format.specs.declared.line_error.LineError.{LineError}
 use Rattle.signctl_format.specs.Policy.{script_policy}
 use Rattle.signctl_format.specs.Lines.{reply_line, cache_line, handle_line, final_line, line_error_text}
-use Rattle.signctl_core.specs.Script.{setup_in, events_in, items_in, version_in, script_reading}
+use Rattle.signctl_format.specs.ScriptEvents.{ScriptItem}
+use Rattle.signctl_format.specs.ScriptSetup.{setup_in, events_in}
+use Rattle.signctl_core.specs.Script.{items_in, version_in, script_reading}
 use Rattle.signctl_core.specs.declared.script_line.ScriptLine.{ScriptLine}
 use Rattle.signctl_core.specs.declared.script_line.ScriptLine.TheVariants.{VersionTwo, Says}
 
 -- the legal transcript of the event lines, without allocation failures
-abbrev pub transcript_of : List Item → List (Entry ScriptCredential)
+abbrev pub transcript_of : List ScriptItem → List (Entry ScriptCredential)
 transcript_of items = expected_entries script_policy (setup_in items) (events_in items)
 
 -- the answer to an item, behind these: the new number of a cache or a handle, the expected reply to an event, nothing to a
 -- silent line
-abbrev pub answer_to : List Item → Item → List ℕ
+abbrev pub answer_to : List ScriptItem → ScriptItem → List ℕ
 answer_to before item.Silent = []
 answer_to before (item.Cache loader) = with_newline (cache_line (length (setup_in before).loaders))
 answer_to before (item.Handle cache rule) = with_newline (handle_line (length (setup_in before).handles))

@@ -6,12 +6,11 @@ use Rattle.sign_desk.specs.DeskState.{DeskState, Represents}
 use Rattle.desk_parts.specs.Tables.{setup_of}
 use Rattle.signctl_format.specs.declared.credential.ScriptCredential.{ScriptCredential}
 use Rattle.signctl_format.specs.declared.credential.ScriptRule.{ScriptRule}
-use Rattle.signctl_format.specs.declared.item.Item.{Item}
 use Rattle.signctl_format.specs.declared.script_version.ScriptVersion.{ScriptVersion}
 use Rattle.signctl_format.specs.Policy.{script_policy}
-use Rattle.signctl_format.specs.ScriptEvents.{plain_event}
-use Rattle.signctl_format.specs.ScriptSetup.{is_empty}
-use Rattle.signctl_core.specs.Script.{setup_in, events_in, items_in, version_after}
+use Rattle.signctl_format.specs.ScriptEvents.{ScriptItem, plain_event}
+use Rattle.signctl_format.specs.ScriptSetup.{is_empty, setup_in, events_in}
+use Rattle.signctl_core.specs.Script.{items_in, version_after}
 use Rattle.signctl_core.specs.declared.script_line.ScriptLine.{ScriptLine}
 
 -- a desk, whether an event came, and the version of the script, once it has a line
@@ -22,7 +21,7 @@ pub record SessionState : Type 0 where
 
 -- the desk and the note of events represent the items so far. The events that the desk was stepped with are those of the
 -- lines, but for how their durations are stored
-pub record RepresentsItems (session : SessionState) (items : List Item) : Type 0 where
+pub record RepresentsItems (session : SessionState) (items : List ScriptItem) : Type 0 where
   pub setup : setup_of session.desk ≡ setup_in items
   pub stepped : List (Event ScriptCredential)
   pub events : map plain_event stepped ≡ events_in items

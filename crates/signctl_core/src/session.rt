@@ -1,16 +1,15 @@
 //! `signctl script`, line by line: the desk that the cache and handle lines set up, and what is kept
 //! of the lines so far.
-ghost use Rattle.std.specs.Prelude.{◌≡◌, ◌++◌, ◌∷◌, ◌<◌, [], List, length, OnOk, IfOk, unwrap_or};
+ghost use Rattle.std.specs.Prelude.{◌≡◌, ◌++◌, ◌∷◌, ◌<◌, [], List, length, not, OnOk, IfOk, unwrap_or};
 ghost use Rattle.sequential_signer.specs.Transcript.{is_out_of_memory};
 ghost use Rattle.sign_desk.specs.DeskState.{Represents};
 ghost use Rattle.desk_parts.specs.Adding.{with_rule};
 ghost use Rattle.sign_base.specs.Bytes.{newline};
 ghost use Rattle.signctl_format.specs.Policy.{script_policy};
-ghost use Rattle.signctl_format.specs.declared.item.Item.{Item};
 ghost use Rattle.signctl_format.specs.declared.item.Item.TheVariants as item;
 ghost use Rattle.signctl_format.specs.declared.script_version.ScriptVersion.TheVariants.{One};
-ghost use Rattle.signctl_format.specs.ScriptSetup.{setup_error, place_of_rule};
-ghost use Rattle.signctl_core.specs.Script.{events_in, item_error};
+ghost use Rattle.signctl_format.specs.ScriptEvents.{ScriptItem};
+ghost use Rattle.signctl_format.specs.ScriptSetup.{is_empty, events_in, setup_error, item_error};
 ghost use Rattle.signctl_core.specs.ScriptOutput.{final_lines};
 ghost use Rattle.signctl_core.specs.SessionState.{RepresentsItems};
 ghost use Rattle.signctl_core.specs.Answering.{CanAnswer, AnswersItem};
@@ -23,7 +22,7 @@ use sign_desk::{AddError, Desk};
 use signctl_driver::LineCommand;
 use signctl_format::{
     Item, LineError, ReadError, ScriptCredential, ScriptEvent, ScriptRule, ScriptVersion,
-    is_version_line, push_cache, push_final, push_handle, push_reply, read_line,
+    is_version_line, push_cache, push_final, push_handle, push_reply, read_line, setup_error,
 };
 use std::alloc::Global;
 use std::marker::Model;
@@ -69,8 +68,8 @@ impl Session {
     }
 
     /// Why an item is bad behind the items so far, where it is.
-    fn item_error(&self, item: &Item) -> Option<LineError>
-        ensures { (items : List Item) → RepresentsItems self.now items → result ≡ item_error items item.now }
+    fn item_error(&self, item: &Item<ScriptEvent>) -> Option<LineError>
+        ensures { (items : List ScriptItem) → RepresentsItems self.now items → result ≡ item_error items item.now }
     {
         match item {
             Item::Silent | Item::Event(_) => None,
@@ -81,15 +80,9 @@ impl Session {
 
     /// Why a line that sets the signer up is bad, where it is.
     fn setup_error(&self, there: bool) -> Option<LineError>
-        ensures { (items : List Item) → RepresentsItems self.now items → result ≡ setup_error (events_in items) there }
+        ensures { (items : List ScriptItem) → RepresentsItems self.now items → result ≡ setup_error (not (is_empty (events_in items))) there }
     {
-        if self.had_event {
-            Some(LineError::Late)
-        } else if there {
-            None
-        } else {
-            Some(LineError::NoSuchCache)
-        }
+        setup_error(self.had_event, there)
     }
 
     /// Adds a cache, and its line to the text.
@@ -119,7 +112,7 @@ impl Session {
             (record { session = self.old; text = text.old.items }) (record { session = self.new; text = text.new.items })) }
         ensures version { self.new.version ≡ self.old.version }
     {
-        match self.desk.add_handle(cache, place_of(rule)) {
+        match self.desk.add_handle(cache, rule.place()) {
             Ok(number) => push_handle(text, u64::from(number))?,
             Err(refusal) => return Err(out_of_memory(refusal)),
         }
@@ -144,7 +137,11 @@ impl Session {
     }
 
     /// Adds the answer to an item.
-    fn answer_item(&mut self, item: Item, text: &mut Vec<u8>) -> Result<(), NoMemory<()>>
+    fn answer_item(
+        &mut self,
+        item: Item<ScriptEvent>,
+        text: &mut Vec<u8>,
+    ) -> Result<(), NoMemory<()>>
         requires { CanAnswer self.old item }
         ensures answers { OnOk result (AnswersItem item
             (record { session = self.old; text = text.old.items }) (record { session = self.new; text = text.new.items })) }
@@ -244,16 +241,6 @@ fn add_rule(
     match desk.add_rule(rule) {
         Ok(_) => Ok(()),
         Err(_) => Err(NoMemory { back: () }),
-    }
-}
-
-/// The place of a rule among the two.
-fn place_of(rule: ScriptRule) -> u32
-    ensures { result ≡ place_of_rule rule }
-{
-    match rule {
-        ScriptRule::Now => 0,
-        ScriptRule::Cred => 1,
     }
 }
 

@@ -1,6 +1,6 @@
 use Rattle.std.proofs.Common.{◌≡◌, ◌++◌, ◌∷◌, [], sym, subst}
 use Rattle.std.proofs.lemmas.List.{append-nil}
-use Rattle.signctl_format.specs.declared.item.Item.{Item}
+use Rattle.signctl_format.specs.ScriptEvents.{ScriptItem}
 use Rattle.signctl_core.specs.ScriptOutput.{answer_to}
 use Rattle.signctl_core.specs.SessionState.{RepresentsItems}
 use Rattle.signctl_core.proofs.NextLine.{next-silent}
@@ -10,5 +10,5 @@ pub returns-in-Silent-clause-answers : goal.returns-in-Silent-clause-answers
 returns-in-Silent-clause-answers c = λ items stands good.
     let session = c.args.self.now in
     let text = c.args.text.now.items in
-    let P : Item → Type 0 = λ x. RepresentsItems session (items ++ x ∷ []) × (text ≡ text ++ answer_to items x) in
+    let P : ScriptItem → Type 0 = λ x. RepresentsItems session (items ++ x ∷ []) × (text ≡ text ++ answer_to items x) in
     subst P (sym c.in-Silent.is) (next-silent session items stands, sym (append-nil text))

@@ -7,7 +7,8 @@ use Rattle.signctl_format.specs.declared.script_version.ScriptVersion.{ScriptVer
 use Rattle.signctl_format.specs.declared.script_version.ScriptVersion.TheVariants.{One}
 use Rattle.signctl_format.specs.Policy.{script_policy}
 use Rattle.signctl_format.specs.Lines.{final_line}
-use Rattle.signctl_core.specs.Script.{setup_in, items_in, version_in}
+use Rattle.signctl_format.specs.ScriptSetup.{setup_in}
+use Rattle.signctl_core.specs.Script.{items_in, version_in}
 use Rattle.signctl_core.specs.ScriptOutput.{final_lines_of, final_line_of, transcript_of}
 use Rattle.signctl_core.proofs.Closing.{finals-none, finals-more, cached-is}
 use Rattle.signctl_core.proofs.NextLine.{as_seen, line-with_newline}
