@@ -6,3 +6,4 @@ pub mod Views
 pub mod IsSetUp
 pub mod BeginLemmas
 pub mod LiveRecord
+pub mod AddAnswers

@@ -6,6 +6,7 @@ use Rattle.std.proofs.lemmas.List.Elements.{filter_map-append}
 use Rattle.sequential_signer.specs.Setup.{Setup, Handle}
 use Rattle.sequential_signer.specs.declared.event.Loader.{Loader}
 use Rattle.signctl_format.specs.declared.credential.ScriptRule.{ScriptRule}
+use Rattle.signctl_format.specs.declared.credential.ScriptRule.TheVariants.{Now, Cred}
 use Rattle.signctl_format.specs.declared.item.Item.{Item}
 use Rattle.signctl_format.specs.declared.item.Item.TheVariants as item
 use Rattle.signctl_format.specs.ScriptSetup.{script_rules, place_of_rule, is_empty, setup_in, events_in, loader_in, handle_in, event_in, setup_error, item_error}
@@ -13,10 +14,11 @@ use Rattle.signctl_format.specs.ScriptSetup.{script_rules, place_of_rule, is_emp
 abbrev setup_by : List Loader → List Handle → Setup ScriptRule
 setup_by loaders handles = record { loaders = loaders; rules = script_rules; handles = handles }
 
--- the rules are the two of a script
-pub rules-same : {E : Type 0} (items : List (Item E)) → (setup_in items).rules ≡ script_rules
+-- the rules are the two of a script, so each is at its place
+pub rule-placed : {E : Type 0} (items : List (Item E)) (rule : ScriptRule) → nat_lt (place_of_rule rule) (length (setup_in items).rules) ≡ true
 unfolding setup_in
-rules-same items = refl
+rule-placed items Now = refl
+rule-placed items Cred = refl
 
 -- the setup grows by what the line adds
 pub setup_in-more : {E : Type 0} (items : List (Item E)) (x : Item E) → setup_in (items ++ x ∷ []) ≡ setup_by (filter_map loader_in items ++ filter_map loader_in (x ∷ [])) (filter_map handle_in items ++ filter_map handle_in (x ∷ []))

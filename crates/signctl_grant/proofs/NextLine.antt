@@ -1,5 +1,5 @@
 -- A session after one more item represents the items with this one behind them.
-use Rattle.std.proofs.Common.{◌≡◌, ◌<◌, ℕ, arith, Option, Some, None, Result, Ok, Err, nat_lt, if◌then◌else◌, append_assoc, Bool, true, false, not, List, [], ◌∷◌, ◌++◌, length, refl, sym, ap, ◌∙◌, subst, inl, inr, map}
+use Rattle.std.proofs.Common.{◌≡◌, ◌<◌, ℕ, arith, None, Result, Ok, Err, nat_lt, append_assoc, Bool, true, false, not, List, [], ◌∷◌, ◌++◌, length, refl, sym, ap, ◌∙◌, subst, inl, inr, map}
 use Rattle.std.proofs.lemmas.List.{append-nil, map-append}
 use Rattle.sequential_signer.specs.Setup.{Setup, Handle}
 use Rattle.sequential_signer.specs.Transcript.{is_out_of_memory}
@@ -16,7 +16,7 @@ use Rattle.desk_parts.specs.Tables.{setup_of, was_begun}
 use Rattle.grant_desk.specs.GrantDeskState.{GrantState, GrantRepresents, with_source}
 use Rattle.desk_parts.specs.Adding.{with_handle, AddAnswer, late_refusal, handle_refusal}
 use Rattle.desk_parts.specs.declared.adding.AddError.{AddError}
-use Rattle.desk_parts.specs.declared.adding.AddError.TheVariants.{Late, NoCache, NoRule}
+use Rattle.desk_parts.proofs.AddAnswers.{cache-allowed, handle-allowed}
 use Rattle.signctl_format.specs.declared.credential.ScriptCredential.{ScriptCredential}
 use Rattle.signctl_format.specs.declared.credential.ScriptRule.{ScriptRule}
 use Rattle.signctl_format.specs.declared.credential.ScriptRule.TheVariants.{Now, Cred}
@@ -29,7 +29,7 @@ use Rattle.sign_base.specs.Bytes.{newline}
 use Rattle.sign_base.specs.Lines.{input_limit}
 use Rattle.signctl_grant.specs.GrantOutput.{transcript_of}
 use Rattle.signctl_grant.specs.GrantSessionState.{GrantSessionState, GrantSessionRepresents}
-use Rattle.signctl_format.proofs.SetupIn.{setup_in-silent, setup_in-cache, setup_in-handle, setup_in-event, events_in-more, rules-same, caches-few, handles-few, cache-no_event, handle-no_event, handle-cache, one-more}
+use Rattle.signctl_format.proofs.SetupIn.{setup_in-silent, setup_in-cache, setup_in-handle, setup_in-event, events_in-more, rule-placed, caches-few, handles-few, cache-no_event, handle-no_event, handle-cache, one-more}
 use Rattle.signctl_grant.proofs.PlainGrants.{plain-reply}
 
 -- a session that is seen so represents what it is seen as
@@ -160,43 +160,31 @@ module _ (session : GrantSessionState) (items : List GrantItem) (stands : GrantS
   pub handles-fit : length items < input_limit → length session.desk.handles < 4294967295
   handles-fit few = omega (arith, few, handles-few items, ap (λ (v : List Handle). length v) handles-same)
 
-  -- before the first event nothing is added too late
-  answer-in_time : (why : Option AddError) (number : ℕ) (answer : Result ℕ AddError) → is_empty (events_in items) ≡ true
-      → AddAnswer (if session.desk.started then Some Late else why) number answer → AddAnswer why number answer
-  answer-in_time why number answer none h =
-      let P : Bool → Type 0 = λ b. AddAnswer (if b then Some Late else why) number answer in subst P (not_started none) h
-
   -- the one refusal of a new cache is out of memory, and its number counts those before it
+  cache-answer : (loader : Loader) → item_error items (item.Cache loader) ≡ None → (answer : Result ℕ AddError)
+      → AddAnswer (late_refusal session.desk) (length session.desk.loaders) answer → AddAnswer None (length session.desk.loaders) answer
+  cache-answer loader good answer h = cache-allowed session.desk _ answer (not_started (cache-no_event items loader good)) h
+
   pub cache-out_of_memory : (loader : Loader) (e : AddError) → item_error items (item.Cache loader) ≡ None → AddAnswer (late_refusal session.desk) (length session.desk.loaders) (Err e) → e ≡ AddError.OutOfMemory
-  cache-out_of_memory loader e good h = answer-in_time None (length session.desk.loaders) (Err e) (cache-no_event items loader good) h
+  cache-out_of_memory loader e good h = cache-answer loader good (Err e) h
 
   pub cache-number : (loader : Loader) (n : ℕ) → item_error items (item.Cache loader) ≡ None → AddAnswer (late_refusal session.desk) (length session.desk.loaders) (Ok n) → n ≡ length (setup_in items).loaders
-  cache-number loader n good h =
-      answer-in_time None (length session.desk.loaders) (Ok n) (cache-no_event items loader good) h ∙ ap (λ (v : List Loader). length v) loaders-same
+  cache-number loader n good h = cache-answer loader good (Ok n) h ∙ ap (λ (v : List Loader). length v) loaders-same
 
-  -- both rules are there
-  both_rules : (r : ScriptRule) → session.desk.rules ≡ (setup_in items).rules → nat_lt (place_of_rule r) (length session.desk.rules) ≡ true
-  both_rules Now e = ap (λ (v : List ScriptRule). nat_lt 0 (length v)) (e ∙ rules-same items)
-  both_rules Cred e = ap (λ (v : List ScriptRule). nat_lt 1 (length v)) (e ∙ rules-same items)
+  -- so it is with a new handle, whose cache and whose rule are there
+  handle-answer : (cache : ℕ) (rule : ScriptRule) → item_error items (item.Handle cache rule) ≡ None → (answer : Result ℕ AddError)
+      → AddAnswer (handle_refusal session.desk cache (place_of_rule rule)) (length session.desk.handles) answer → AddAnswer None (length session.desk.handles) answer
+  handle-answer cache rule good answer h =
+      handle-allowed session.desk _ answer cache (place_of_rule rule) (not_started (handle-no_event items cache rule good))
+      (ap (λ (v : List Loader). nat_lt cache (length v)) loaders-same ∙ handle-cache items cache rule good)
+      (ap (λ (s : Setup ScriptRule). nat_lt (place_of_rule rule) (length s.rules)) stands.setup ∙ rule-placed items rule)
+      h
 
-  -- the cache of a handle is there, and so is its rule
-  handle-in_place : (cache : ℕ) (rule : ScriptRule) → item_error items (item.Handle cache rule) ≡ None → (number : ℕ) (answer : Result ℕ AddError)
-      → AddAnswer (handle_refusal session.desk cache (place_of_rule rule)) number answer → AddAnswer None number answer
-  handle-in_place cache rule good number answer h =
-      let there : nat_lt cache (length session.desk.loaders) ≡ true = ap (λ (v : List Loader). nat_lt cache (length v)) loaders-same ∙ handle-cache items cache rule good in
-      let ruled : nat_lt (place_of_rule rule) (length session.desk.rules) ≡ true = both_rules rule (ap (λ (s : Setup ScriptRule). s.rules) stands.setup) in
-      let timely = answer-in_time (if nat_lt cache (length session.desk.loaders) then (if nat_lt (place_of_rule rule) (length session.desk.rules) then None else Some (NoRule (place_of_rule rule))) else Some (NoCache cache)) number answer (handle-no_event items cache rule good) h in
-      let P : Bool → Type 0 = λ b. AddAnswer (if b then (if nat_lt (place_of_rule rule) (length session.desk.rules) then None else Some (NoRule (place_of_rule rule))) else Some (NoCache cache)) number answer in
-      let Q : Bool → Type 0 = λ b. AddAnswer (if b then None else Some (NoRule (place_of_rule rule))) number answer in
-      subst Q ruled (subst P there timely)
-
-  -- the one refusal of a new handle is out of memory, and its number counts those before it
   pub handle-out_of_memory : (cache : ℕ) (rule : ScriptRule) (e : AddError) → item_error items (item.Handle cache rule) ≡ None → AddAnswer (handle_refusal session.desk cache (place_of_rule rule)) (length session.desk.handles) (Err e) → e ≡ AddError.OutOfMemory
-  handle-out_of_memory cache rule e good h = handle-in_place cache rule good (length session.desk.handles) (Err e) h
+  handle-out_of_memory cache rule e good h = handle-answer cache rule good (Err e) h
 
   pub handle-number : (cache : ℕ) (rule : ScriptRule) (n : ℕ) → item_error items (item.Handle cache rule) ≡ None → AddAnswer (handle_refusal session.desk cache (place_of_rule rule)) (length session.desk.handles) (Ok n) → n ≡ length (setup_in items).handles
-  handle-number cache rule n good h =
-      handle-in_place cache rule good (length session.desk.handles) (Ok n) h ∙ ap (λ (s : Setup ScriptRule). length s.handles) stands.setup
+  handle-number cache rule n good h = handle-answer cache rule good (Ok n) h ∙ ap (λ (v : List Handle). length v) handles-same
 
 -- a line that is added and ended
 pub line-with_newline : (old mid new line : List ℕ) → mid ≡ old ++ line → new ≡ mid ++ newline ∷ [] → new ≡ old ++ with_newline line
