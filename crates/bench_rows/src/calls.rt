@@ -2,12 +2,12 @@
 //! number, and whoever polls it has nothing to prove.
 ghost use Rattle.std.specs.Prelude.{◌≡◌, ◌<◌, IfSome, slice_get, slice_set};
 ghost use Rattle.std.specs.Vec.{vec_len};
-ghost use Rattle.sign_desk.specs.CallsOf.{state_back};
+ghost use Rattle.signer.specs.CallsOf.{state_back};
 
 use credentials::{ProvideCredential, SignRequest, SigningCredential};
 use http::request::Parts;
 use sign_base::{Error, Timestamp};
-use sign_desk::{Refusal, Sign, SignAnswer, SignPoll, Signer};
+use signer::{Refusal, Sign, SignAnswer, SignPoll, Signer};
 use std::alloc::Global;
 use std::marker::Model;
 use std::time::Duration;
@@ -33,8 +33,8 @@ where
     S: SignRequest<Credential = P::Credential, Ctx = P::Ctx>,
 {
     ghost use Rattle.std.specs.Prelude.{ℕ, length};
-    ghost use Rattle.sign_desk.specs.SignerObjects.{meanings_of};
-    ghost use Rattle.sign_desk.specs.CallsOf.{AreCallsOf};
+    ghost use Rattle.signer.specs.SignerObjects.{meanings_of};
+    ghost use Rattle.signer.specs.CallsOf.{AreCallsOf};
 
     ghost Value = { ℕ };
 

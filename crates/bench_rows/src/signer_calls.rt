@@ -11,7 +11,7 @@ use credentials::{
 };
 use http::request::Parts;
 use sign_base::{Error, ErrorKind, Field, Fields, Head, Octets, Timestamp, Version};
-use sign_desk::{AddError, AddRefused, Refusal, SignAnswer, SignPoll, Signer};
+use signer::{AddError, AddRefused, Refusal, SignAnswer, SignPoll, Signer};
 use sign_request::parts_of;
 use std::alloc::Global;
 use std::fmt::{self, Write};

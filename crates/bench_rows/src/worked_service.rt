@@ -15,7 +15,7 @@ use http::request::Parts;
 use sign_base::{
     Error, ErrorKind, Field, Fields, Head, NoMemory, Octets, Redact, Timestamp, Version,
 };
-use sign_desk::Signer;
+use signer::Signer;
 use sign_request::{SigningRequest, parts_of};
 use std::alloc::Global;
 use std::collections::HashMap;

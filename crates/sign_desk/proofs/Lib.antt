@@ -14,14 +14,3 @@ pub mod NewDesk
 pub mod DeskInvariant
 pub mod OneStep
 pub mod RunLemmas
-pub mod CallSteps
-pub mod PollSteps
-pub mod StepsTaken
-pub mod PollEnds
-pub mod SignerOthers
-pub mod ObjectMeanings
-pub mod Underway
-pub mod SignerObjectsAt
-pub mod SignerSetup
-pub mod SignerBegins
-pub mod CallsOfSigner

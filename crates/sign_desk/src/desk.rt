@@ -141,7 +141,7 @@ impl<K: SigningCredential, D: DeadlineRule<Credential = K>> Desk<K, D> {
     /// Adds a rule, and a handle on this cache with it, and returns the handle's number.
     ///
     /// Errors: `Late`, `OutOfMemory`. An error changes nothing, and hands the rule back.
-    pub(crate) fn add_handle_with_rule(&mut self, cache: u32, rule: D) -> Result<u32, AddRefused<D>>
+    pub fn add_handle_with_rule(&mut self, cache: u32, rule: D) -> Result<u32, AddRefused<D>>
         requires cache { cache < length self.old.loaders }
         requires rules { length self.old.rules < 4294967295 }
         requires handles { length self.old.handles < 4294967295 }
@@ -170,11 +170,7 @@ impl<K: SigningCredential, D: DeadlineRule<Credential = K>> Desk<K, D> {
     /// number.
     ///
     /// Errors: `Late`, `OutOfMemory`. An error changes nothing.
-    pub(crate) fn add_handle_with_cache(
-        &mut self,
-        loader: Loader,
-        rule: u32,
-    ) -> Result<u32, AddError>
+    pub fn add_handle_with_cache(&mut self, loader: Loader, rule: u32) -> Result<u32, AddError>
         requires rule { rule < length self.old.rules }
         requires caches { length self.old.loaders < 4294967295 }
         requires handles { length self.old.handles < 4294967295 }
@@ -192,7 +188,7 @@ impl<K: SigningCredential, D: DeadlineRule<Credential = K>> Desk<K, D> {
     }
 
     /// The handle of this number, if there is one.
-    pub(crate) fn handle_at(&self, handle: u32) -> Option<HandleRecord>
+    pub fn handle_at(&self, handle: u32) -> Option<HandleRecord>
         ensures { option_map handle_view result ≡ slice_get self.now.handles handle }
     {
         self.state.tables.handle_at(handle)
@@ -292,8 +288,9 @@ impl<K: SigningCredential, D: DeadlineRule<Credential = K>> Desk<K, D> {
         self.state.step_owned(event)
     }
 
-    /// The same step, with exactly what it does to what the desk keeps.
-    pub(crate) fn advance(&mut self, event: &Event<K>) -> Reply<K>
+    /// The same step, with exactly what it does to what the desk keeps: for a driver that has to know where
+    /// its calls are.
+    pub fn advance(&mut self, event: &Event<K>) -> Reply<K>
         ensures step { IsStep (policy_of K.valid K.valid_at D.deadline) event.now self.old result self.new }
         ensures transition { Transition (policy_of K.valid K.valid_at D.deadline) event.now self.old result self.new }
         ensures memory { ClonesAreFree K.clones_freely → RunsOutAtHeads event.now result }

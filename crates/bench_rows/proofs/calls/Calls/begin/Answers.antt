@@ -1,5 +1,5 @@
-use Rattle.sign_desk.specs.SignerObjects.{meanings_of}
-use Rattle.sign_desk.proofs.CallsOfSigner.{calls-begun}
+use Rattle.signer.specs.SignerObjects.{meanings_of}
+use Rattle.signer.proofs.CallsOfSigner.{calls-begun}
 use Rattle.bench_rows.proofs.calls.Calls.begin.Goals as goal
 
 pub invariant_of-self-2 : goal.invariant_of-self-2

@@ -1,5 +1,5 @@
-use Rattle.sign_desk.specs.SignerObjects.{meanings_of}
-use Rattle.sign_desk.proofs.CallsOfSigner.{calls-without, calls-cancelled}
+use Rattle.signer.specs.SignerObjects.{meanings_of}
+use Rattle.signer.proofs.CallsOfSigner.{calls-without, calls-cancelled}
 use Rattle.bench_rows.proofs.calls.Calls.cancel.Goals as goal
 
 pub invariant_of-self : goal.invariant_of-self

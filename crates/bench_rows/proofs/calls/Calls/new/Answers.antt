@@ -1,5 +1,5 @@
-use Rattle.sign_desk.specs.SignerObjects.{meanings_of}
-use Rattle.sign_desk.proofs.CallsOfSigner.{calls-none}
+use Rattle.signer.specs.SignerObjects.{meanings_of}
+use Rattle.signer.proofs.CallsOfSigner.{calls-none}
 use Rattle.bench_rows.proofs.calls.Calls.new.Goals as goal
 
 pub invariant_of-result : goal.invariant_of-result

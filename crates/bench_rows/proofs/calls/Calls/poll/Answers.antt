@@ -1,6 +1,6 @@
 use Rattle.std.proofs.lemmas.List.{set-set}
-use Rattle.sign_desk.specs.SignerObjects.{meanings_of}
-use Rattle.sign_desk.proofs.CallsOfSigner.{calls-without, calls-polled}
+use Rattle.signer.specs.SignerObjects.{meanings_of}
+use Rattle.signer.proofs.CallsOfSigner.{calls-without, calls-polled}
 use Rattle.bench_rows.proofs.calls.Calls.poll.Goals as goal
 
 pub invariant_of-self : goal.invariant_of-self

@@ -1,0 +1,11 @@
+pub mod CallSteps
+pub mod PollSteps
+pub mod StepsTaken
+pub mod PollEnds
+pub mod SignerOthers
+pub mod ObjectMeanings
+pub mod Underway
+pub mod SignerObjectsAt
+pub mod SignerSetup
+pub mod SignerBegins
+pub mod CallsOfSigner

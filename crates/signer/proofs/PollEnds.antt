@@ -1,0 +1,94 @@
+-- A poll that has come to its end, as its caller sees it; and that a poll comes to an end.
+use Rattle.std.proofs.Common.{◌≡◌, ℕ, ◌<◌, ◌-◌, zero, suc, Option, Some, IsSome, IsSomeAnd, refl, subst, arith}
+use Rattle.http.specs.declared.request.Parts.{Parts}
+use Rattle.wake_lock.specs.declared.CallId.{CallId}
+use Rattle.credentials.specs.declared.providers.Providers.{Providers}
+use Rattle.credentials.specs.declared.providers.Providers.TheVariants as providers
+use Rattle.sequential_signer.specs.declared.event.Loader.{Loader}
+use Rattle.sign_desk.specs.DeskState.{DeskState}
+use Rattle.desk_parts.specs.Places.{provider_count}
+use Rattle.desk_parts.specs.CallAt.{HasProvider, loader_of}
+use Rattle.signer.specs.MadeBy.{IsStateMade}
+use Rattle.desk_parts.specs.ProviderList.{loader_for}
+use Rattle.desk_parts.specs.ProviderList.{provider_at}
+use Rattle.signer.specs.Course.{PollEnd, Pends, Finishes, Refuses, RunsOut, PolledCall, IsDriven, IsEnd, IsAnswerMade, IsAnswerKept, state_behind}
+use Rattle.signer.specs.PollStep.{StepChange, ComesLater, IsStepEnd, IsEndMade, IsEndKept, answer_by}
+use Rattle.sign_desk.specs.Records.{BegunCall}
+use Rattle.signer.specs.declared.sign.SignState.{SignState}
+use Rattle.signer.specs.declared.sign.SignState.TheVariants.{Waiting, Loading, Signing}
+use Rattle.signer.specs.declared.went.StepEnd.{StepEnd}
+use Rattle.signer.specs.declared.went.StepEnd.TheVariants.{Pending, Done, Refused, OutOfMemory}
+use Rattle.desk_parts.proofs.ListPlaces.{place-there}
+use Rattle.signer.proofs.PollSteps.{CourseEnds}
+
+module _ (P S C : Type 0) {K L W : Type 0} (begun : BegunCall) where
+  end-answers : (end : StepEnd K L W) (by : PollEnd) (before after : Parts) → IsStepEnd end before after by → IsEnd (answer_by {P = P} {S = S} {C = C} begun end) before after by
+  end-answers (Pending state) Pends before after h = h
+  end-answers (Pending state) (Finishes head) before after h = absurd h
+  end-answers (Pending state) (Refuses why) before after h = absurd h
+  end-answers (Pending state) RunsOut before after h = absurd h
+  end-answers Done Pends before after h = absurd h
+  end-answers Done (Finishes head) before after h = h
+  end-answers Done (Refuses why) before after h = absurd h
+  end-answers Done RunsOut before after h = absurd h
+  end-answers (Refused why) Pends before after h = absurd h
+  end-answers (Refused why) (Finishes head) before after h = absurd h
+  end-answers (Refused why) (Refuses cause) before after h = h
+  end-answers (Refused why) RunsOut before after h = absurd h
+  end-answers (OutOfMemory state) Pends before after h = absurd h
+  end-answers (OutOfMemory state) (Finishes head) before after h = absurd h
+  end-answers (OutOfMemory state) (Refuses why) before after h = absurd h
+  end-answers (OutOfMemory state) RunsOut before after h = h
+
+module _ (P S C : Type 0) {K D L W : Type 0} (v : PolledCall K D L W) where
+  made-answers : (end : StepEnd K L W) (desk : DeskState K D) → IsEndMade v desk end → IsAnswerMade v.meaning v.begun desk (answer_by {P = P} {S = S} {C = C} v.begun end)
+  made-answers (Pending state) desk h = (refl, h)
+  made-answers Done desk h = tt
+  made-answers (Refused why) desk h = tt
+  made-answers (OutOfMemory state) desk h = (refl, h)
+
+  kept-answers : (end : StepEnd K L W) (state : SignState K L W) → IsEndKept state end → IsAnswerKept state (answer_by {P = P} {S = S} {C = C} v.begun end)
+  kept-answers (Pending kept) state h = h
+  kept-answers Done state h = tt
+  kept-answers (Refused why) state h = tt
+  kept-answers (OutOfMemory kept) state h = h
+
+  pub driven : (start : SignState K L W) (change : StepChange K D) (wake : Option CallId) (end : StepEnd K L W) → CourseEnds v start change wake end
+      → IsDriven v start change.old change.new (record { poll = record { answer = answer_by {P = P} {S = S} {C = C} v.begun end; wake = wake }; before = change.before; after = change.after })
+  driven start change wake end e = record {
+    run = e.run;
+    course = e.course;
+    end = end-answers P S C v.begun end e.run.end change.before change.after e.ended;
+    wake = e.named;
+    made = made-answers end change.new e.made;
+    kept = kept-answers end (state_behind start e.run.entries) e.kept;
+    others = e.others;
+  }
+
+-- the most steps that a poll can still make, of a call whose cache is loaded so
+abbrev pub steps_left : {K L W : Type 0} → Loader → SignState K L W → ℕ
+steps_left loader Waiting = suc (suc (provider_count loader))
+steps_left loader (Loading provider l) = suc (provider_count loader - provider)
+steps_left loader (Signing credential w) = 0
+
+module _ {K D L W : Type 0} (v : PolledCall K D L W) (desk : DeskState K D) (loader : Loader) (loads : loader_of desk v.begun.id.handle ≡ Some loader) where
+  few : (provider : ℕ) → HasProvider desk v.begun.id.handle provider → provider < provider_count loader
+  few provider h = subst (λ o. IsSomeAnd o (λ (l : Loader). provider < provider_count l)) loads h
+
+  -- each step leaves fewer
+  pub fewer : (state next : SignState K L W) → IsStateMade v.meaning v.begun desk next → ComesLater state next → steps_left loader next < steps_left loader state
+  fewer Waiting Waiting new later = absurd later
+  fewer Waiting (Loading provider l) new later = omega arith
+  fewer Waiting (Signing credential w) new later = omega arith
+  fewer (Loading provider l) Waiting new later = absurd later
+  fewer (Loading provider l) (Loading next m) new later =
+      let h : next < provider_count loader = few next new.0.1 in
+      omega (arith, later, h)
+  fewer (Loading provider l) (Signing credential w) new later = omega arith
+  fewer (Signing credential w) next new later = absurd later
+
+-- a provider that the loader counts is there
+pub provider-there : {P : Type 0} (p : Providers P) (number : ℕ) → number < provider_count (loader_for p) → IsSome (provider_at p number)
+provider-there (providers.Single provider) zero h = refl
+provider-there (providers.Single provider) (suc n) h = absurd (omega arith)
+provider-there (providers.Chain chain) number h = place-there chain number h

@@ -1,0 +1,56 @@
+-- A signer that begins a call.
+use Rattle.std.proofs.Common.{◌≡◌, ◌<◌, ◌+◌, ℕ, length, inl, IsSomeAnd, refl, sym, ◌∙◌, subst}
+use Rattle.http.specs.declared.request.Parts.{Parts}
+use Rattle.wake_lock.specs.declared.CallId.{CallId}
+use Rattle.sequential_signer.specs.Policy.{Policy}
+use Rattle.sequential_signer.specs.declared.event.Event.TheVariants.{Begin}
+use Rattle.sequential_signer.specs.declared.event.Reply.TheVariants.{Begun}
+use Rattle.sign_request.specs.PlainHead.{IsHeadOf}
+use Rattle.sign_desk.specs.DeskState.{DeskState}
+use Rattle.sign_desk.specs.Steps.{IsStep}
+use Rattle.signer.specs.CallStep.{IsBegun}
+use Rattle.signer.specs.MadeBy.{IsStateMade, IsMadeBy}
+use Rattle.signer.specs.SignerCalls.{Begins}
+use Rattle.signer.specs.SignerInvariant.{SignerState, IsSigner}
+use Rattle.signer.specs.SignerObjects.{Meanings, Objects, call_meaning, objects_of}
+use Rattle.sign_desk.specs.Records.{BegunCall}
+use Rattle.signer.specs.declared.sign.Sign.{Sign}
+use Rattle.signer.specs.declared.sign.SignState.TheVariants.{Waiting}
+use Rattle.signer.proofs.SignerOthers.{KeepsCall, differs, keeps-made}
+use Rattle.signer.proofs.SignerSetup.{signer-desk, above-next, has-objects-at}
+
+module _ {P S K C L W : Type 0} (m : Meanings P S K C L W) (old : SignerState P S K C) (s : IsSigner old) (begun : BegunCall) (desk : DeskState K S) (b : IsBegun begun old.desk desk) where
+  keeps-apart : (other : CallId) → (other ≡ begun.id → ⊥) → KeepsCall other old.desk desk
+  keeps-apart other apart = record {
+    loaders = b.loaders;
+    rules = b.rules;
+    handles = b.handles;
+    record_is = b.other_calls other (differs begun.id other apart);
+  }
+
+  same-objects : (handle : ℕ) → objects_of (record old { desk = desk }) handle ≡ objects_of old handle
+  same-objects handle = rw (b.handles, b.rules) refl
+
+  waiting-made : begun.id.handle < length old.desk.handles → IsMadeBy m (record old { desk = desk; begun = old.begun + 1 }) (let x : Sign P S K C L C W K = record { begun = begun; state = Waiting } in x)
+  waiting-made there =
+      let found = has-objects-at old s begun.id.handle there in
+      subst (λ o. IsSomeAnd o (λ (x : Objects P S C). IsStateMade (call_meaning m begun x) begun desk Waiting)) (sym (same-objects begun.id.handle ∙ found.1)) (inl b.at)
+
+  -- the signer that has begun the call is one
+  pub signer-begun : begun.id.number ≡ old.begun → IsSigner (record old { desk = desk; begun = old.begun + 1 })
+  signer-begun number =
+      signer-desk old s desk (old.begun + 1) b.loaders b.rules b.handles
+      (rw (b.greatest, number) (above-next old.begun old.desk.greatest begun.id.handle s.numbers))
+
+  -- what it did is what a signer does that begins a call
+  pub begins : (policy : Policy K S) → begun.id.handle < length old.desk.handles → begun.id.number ≡ old.begun → (parts : Parts) → IsHeadOf parts begun.head
+      → IsStep policy (Begin begun.id begun.head begun.expires_in) old.desk Begun desk
+      → Begins m policy (record { old = old; new = record old { desk = desk; begun = old.begun + 1 } }) parts (record { begun = begun; state = Waiting })
+  begins policy there number parts head step = record {
+    number = number;
+    head = head;
+    step = step;
+    next = refl;
+    made = waiting-made there;
+    others = λ other apart made. keeps-made m old desk other (keeps-apart other.begun.id apart) made;
+  }

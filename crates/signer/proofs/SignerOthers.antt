@@ -1,0 +1,106 @@
+-- The states of other calls stay those that the signer made.
+use Rattle.std.proofs.Common.{ap, ◌≡◌, inl, inr, ℕ, ◌<◌, Bool, true, false, Option, Some, None, IsSomeAnd, refl, sym, ◌∙◌, subst}
+use Rattle.wake_lock.specs.declared.CallId.{CallId}
+use Rattle.wake_lock.specs.Calls.{same_call}
+use Rattle.wake_lock.proofs.Calls.{same_call-eq}
+use Rattle.sequential_signer.specs.declared.event.Loader.{Loader}
+use Rattle.sign_desk.specs.DeskState.{DeskState}
+use Rattle.desk_parts.specs.Tables.{find_call}
+use Rattle.desk_parts.specs.Places.{provider_count}
+use Rattle.desk_parts.specs.CallAt.{IsAt, IsLive, IsWaiting, HasProvider, loader_of, LeavesOthers}
+use Rattle.signer.specs.MadeBy.{IsStateMade, IsMadeBy}
+use Rattle.signer.specs.SignerInvariant.{SignerState}
+use Rattle.signer.specs.SignerObjects.{Meanings, Objects, CallMeaning, call_meaning, objects_of}
+use Rattle.signer.specs.SignerCalls.{KeepsOthers, IsAnswerMadeBy}
+use Rattle.signer.specs.Course.{IsAnswerMade}
+use Rattle.signer.specs.declared.sign_poll.SignAnswer.{SignAnswer}
+use Rattle.signer.specs.declared.sign_poll.SignAnswer.TheVariants as answer
+use Rattle.desk_parts.specs.declared.call_record.Stage.{Stage}
+use Rattle.desk_parts.specs.declared.call_record.Stage.TheVariants as stage
+use Rattle.sign_desk.specs.Records.{BegunCall}
+use Rattle.signer.specs.declared.sign.Sign.{Sign}
+use Rattle.signer.specs.declared.sign.SignState.{SignState}
+use Rattle.signer.specs.declared.sign.SignState.TheVariants.{Waiting, Loading, Signing}
+
+-- names that differ are of two calls
+pub differs : (a b : CallId) → (b ≡ a → ⊥) → same_call a b ≡ false
+differs a b apart = by_test (same_call a b) refl
+  where
+    by_test : (t : Bool) → same_call a b ≡ t → t ≡ false
+    by_test false e = refl
+    by_test true e = absurd (apart (sym (same_call-eq a b e)))
+
+-- the setup and the record of this call stay
+pub record KeepsCall {K D : Type 0} (call : CallId) (old new : DeskState K D) : Type 0 where
+  pub loaders : new.loaders ≡ old.loaders
+  pub rules : new.rules ≡ old.rules
+  pub handles : new.handles ≡ old.handles
+  pub record_is : find_call call new.calls ≡ find_call call old.calls
+
+pub keeps-other : {K D : Type 0} (call other : CallId) (old new : DeskState K D) → LeavesOthers call old new → (other ≡ call → ⊥) → KeepsCall other old new
+keeps-other call other old new l apart = record {
+  loaders = l.loaders;
+  rules = l.rules;
+  handles = l.handles;
+  record_is = l.other_calls other (differs call other apart);
+}
+
+module _ {K D : Type 0} (old new : DeskState K D) where
+  keeps-loader : (call : CallId) → KeepsCall call old new → (handle : ℕ) → loader_of new handle ≡ loader_of old handle
+  keeps-loader call k handle = rw (k.handles, k.loaders) refl
+
+  keeps-provider : (call : CallId) → KeepsCall call old new → (handle provider : ℕ) → HasProvider old handle provider → HasProvider new handle provider
+  keeps-provider call k handle provider h = subst (λ o. IsSomeAnd o (λ (l : Loader). provider < provider_count l)) (sym (keeps-loader call k handle)) h
+
+  keeps-at : (begun : BegunCall) → KeepsCall begun.id old new → (s : Stage) (n : ℕ) → IsAt begun s n old → IsAt begun s n new
+  keeps-at begun k s n h = k.record_is ∙ h
+
+  keeps-waiting : (begun : BegunCall) → KeepsCall begun.id old new → IsWaiting begun old → IsWaiting begun new
+  keeps-waiting begun k (inl h) = inl (k.record_is ∙ h)
+  keeps-waiting begun k (inr h) = inr (k.record_is ∙ h)
+
+  pub keeps-state : {L W : Type 0} (m : CallMeaning K L W) (begun : BegunCall) → KeepsCall begun.id old new → (state : SignState K L W) → IsStateMade m begun old state → IsStateMade m begun new state
+  keeps-state m begun k Waiting h = keeps-waiting begun k h
+  keeps-state m begun k (Loading provider l) h = ((k.record_is ∙ h.0.0, keeps-provider begun.id k begun.id.handle provider h.0.1), h.1)
+  keeps-state m begun k (Signing credential w) h = ((h.0.0, k.record_is ∙ h.0.1), h.1)
+
+-- a call whose state was made is live
+pub made-live : {K D L W : Type 0} (m : CallMeaning K L W) (begun : BegunCall) (desk : DeskState K D) (state : SignState K L W) → IsStateMade m begun desk state → IsLive begun desk
+made-live m begun desk Waiting (inl h) = (stage.Unpolled, 0, h)
+made-live m begun desk Waiting (inr h) = (stage.Queued, 0, h)
+made-live m begun desk (Loading provider l) h = (stage.Loading, provider, h.0.0)
+made-live m begun desk (Signing credential w) h = (stage.Signing, h.0.0, h.0.1)
+
+module _ {P S K C L W : Type 0} (m : Meanings P S K C L W) where
+  keeps-objects : (old : SignerState P S K C) (desk : DeskState K S) (call : CallId) → KeepsCall call old.desk desk → (handle : ℕ)
+      → objects_of (record old { desk = desk }) handle ≡ objects_of old handle
+  keeps-objects old desk call k handle = rw (k.handles, k.rules) refl
+
+  -- a state stays made where the setup and the record of its call stay
+  pub keeps-made : (old : SignerState P S K C) (desk : DeskState K S) (sign : Sign P S K C L C W K) → KeepsCall sign.begun.id old.desk desk → IsMadeBy m old sign → IsMadeBy m (record old { desk = desk }) sign
+  keeps-made old desk sign k made =
+      let same = keeps-objects old desk sign.begun.id k sign.begun.id.handle in
+      subst (λ o. IsSomeAnd o (λ (x : Objects P S C). IsStateMade (call_meaning m sign.begun x) sign.begun desk sign.state)) (sym same) (by_objects (objects_of old sign.begun.id.handle) made)
+    where
+      by_objects : (o : Option (Objects P S C)) → IsSomeAnd o (λ x. IsStateMade (call_meaning m sign.begun x) sign.begun old.desk sign.state) → IsSomeAnd o (λ x. IsStateMade (call_meaning m sign.begun x) sign.begun desk sign.state)
+      by_objects None h = h
+      by_objects (Some x) h = keeps-state old.desk desk (call_meaning m sign.begun x) sign.begun k sign.state h
+
+  made-state : (s : SignerState P S K C) (desk : DeskState K S) (begun : BegunCall) (o : Objects P S C) → objects_of (record s { desk = desk }) begun.id.handle ≡ Some o
+      → (sign : Sign P S K C L C W K) → (sign.begun ≡ begun) × IsStateMade (call_meaning m begun o) begun desk sign.state → (sign.begun.id ≡ begun.id) × IsMadeBy m (record s { desk = desk }) sign
+  made-state s desk begun o is sign h = (
+    ap (λ (b : BegunCall). b.id) h.0,
+    subst (λ (b : BegunCall). IsSomeAnd (objects_of (record s { desk = desk }) b.id.handle) (λ (x : Objects P S C). IsStateMade (call_meaning m b x) b desk sign.state)) (sym h.0)
+        (subst (λ (found : Option (Objects P S C)). IsSomeAnd found (λ (x : Objects P S C). IsStateMade (call_meaning m begun x) begun desk sign.state)) (sym is) h.1),
+  )
+
+  -- a state that was made for a call of the signer is one that it made
+  pub answer-made : (s : SignerState P S K C) (desk : DeskState K S) (begun : BegunCall) (o : Objects P S C) → LeavesOthers begun.id s.desk desk → objects_of s begun.id.handle ≡ Some o
+      → (a : SignAnswer P S K C L C W K) → IsAnswerMade (call_meaning m begun o) begun desk a → IsAnswerMadeBy m (record s { desk = desk }) begun.id a
+  answer-made s desk begun o l is (answer.Pending sign) h = made-state s desk begun o (rw (l.handles, l.rules) is) sign h
+  answer-made s desk begun o l is (answer.OutOfMemory sign) h = made-state s desk begun o (rw (l.handles, l.rules) is) sign h
+  answer-made s desk begun o l is answer.Done h = tt
+  answer-made s desk begun o l is (answer.Refused refused) h = tt
+
+  pub keeps-others : (call : CallId) (old : SignerState P S K C) (desk : DeskState K S) → LeavesOthers call old.desk desk → KeepsOthers m call (record { old = old; new = record old { desk = desk } })
+  keeps-others call old desk l other apart made = keeps-made old desk other (keeps-other call other.begun.id old.desk desk l apart) made

@@ -1,0 +1,23 @@
+use Rattle.std.proofs.Common.{subst}
+use Rattle.sequential_signer.specs.Policy.{policy_of}
+use Rattle.sequential_signer.specs.declared.event.Event.TheVariants.{Cancel}
+use Rattle.sequential_signer.specs.declared.event.Reply.{Reply}
+use Rattle.sign_desk.specs.Steps.{IsStep}
+use Rattle.signer.proofs.CallSteps.{after-cancel}
+use Rattle.signer.proofs.drive.cancel_call.Goals as goal
+
+pub returns-clause-step : goal.returns-clause-step
+returns-clause-step g c =
+    let policy = policy_of g.K.SigningCredential.valid g.K.SigningCredential.valid_at g.D.DeadlineRule.deadline in
+    subst (λ (r : Reply g.row.K.Denot). IsStep policy (Cancel c.args.begun.now.id) c.args.desk.now r c.advance.new.self) c.in-Cancelled.is c.advance.ensures.step
+
+pub returns-clause-others : goal.returns-clause-others
+returns-clause-others g c =
+    let policy = policy_of g.K.SigningCredential.valid g.K.SigningCredential.valid_at g.D.DeadlineRule.deadline in
+    (after-cancel policy c.args.desk.now c.advance.new.self c.advance.result c.args.begun.now c.advance.ensures.sound c.requires.there c.requires.live.0 c.requires.live.1 c.requires.live.2 c.advance.ensures.transition).others
+
+pub unreachable-requires : goal.unreachable-requires
+unreachable-requires g c =
+    let policy = policy_of g.K.SigningCredential.valid g.K.SigningCredential.valid_at g.D.DeadlineRule.deadline in
+    let after = (after-cancel policy c.args.desk.now c.advance.new.self c.advance.result c.args.begun.now c.advance.ensures.sound c.requires.there c.requires.live.0 c.requires.live.1 c.requires.live.2 c.advance.ensures.transition).after in
+    c.in_default.not-Cancelled after.0 after.1

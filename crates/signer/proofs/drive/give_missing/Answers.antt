@@ -1,0 +1,13 @@
+use Rattle.sequential_signer.specs.Policy.{policy_of}
+use Rattle.signer.proofs.CallSteps.{after-missing}
+use Rattle.signer.proofs.drive.give_missing.Goals as goal
+
+pub returns-clause-after : goal.returns-clause-after
+returns-clause-after g c =
+    let policy = policy_of g.K.SigningCredential.valid g.K.SigningCredential.valid_at g.D.DeadlineRule.deadline in
+    (after-missing policy c.args.desk.now c.advance.new.self c.advance.result c.args.begun.now c.advance.ensures.sound c.requires.there c.args.now c.args.provider c.requires.asking c.advance.ensures.transition).after
+
+pub returns-clause-others : goal.returns-clause-others
+returns-clause-others g c =
+    let policy = policy_of g.K.SigningCredential.valid g.K.SigningCredential.valid_at g.D.DeadlineRule.deadline in
+    (after-missing policy c.args.desk.now c.advance.new.self c.advance.result c.args.begun.now c.advance.ensures.sound c.requires.there c.args.now c.args.provider c.requires.asking c.advance.ensures.transition).others

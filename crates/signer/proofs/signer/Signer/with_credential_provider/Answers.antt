@@ -1,0 +1,17 @@
+use Rattle.std.proofs.Common.{◌≡◌, ◌<◌, Some, length, option_map, slice_get, sym, ◌∙◌, ap, subst}
+use Rattle.sequential_signer.specs.Setup.{Handle}
+use Rattle.signer.specs.SignerInvariant.{SignerState}
+use Rattle.desk_parts.specs.TablesView.{handle_view}
+use Rattle.signer.proofs.SignerSetup.{context-read, signer-cache}
+use Rattle.signer.proofs.signer.Signer.with_credential_provider.Goals as goal
+
+pub invariant_of-self-in-Ok : goal.invariant_of-self-in-Ok
+invariant_of-self-in-Ok g c =
+    let s : SignerState g.row.P.Denot g.row.S.Denot g.row.P-Credential.Denot g.row.P-Ctx.Denot = record { desk = c.self.inside.desk; providers = c.self.inside.providers.items; contexts = c.self.inside.contexts.items; context_places = c.self.inside.context_places.items; begun = c.self.inside.begun } in
+    let like : Handle = handle_view c.unwrap-like.result in
+    let there : slice_get s.desk.handles c.args.handle ≡ Some like = sym c.handle_at.ensures ∙ ap (option_map handle_view) c.unwrap-like.ensures in
+    let few : length s.desk.handles < 4294967295 = subst (λ (x : SignerState g.row.P.Denot g.row.S.Denot g.row.P-Credential.Denot g.row.P-Ctx.Denot). length x.desk.handles < 4294967295) (sym c.self.view_is) c.requires.room in
+    let handle : c.args.handle < length s.desk.handles = subst (λ (x : SignerState g.row.P.Denot g.row.S.Denot g.row.P-Credential.Denot g.row.P-Ctx.Denot). c.args.handle < length x.desk.handles) (sym c.self.view_is) c.requires.handle in
+    let place : c.index-place.result.now < length s.contexts = context-read s c.self.invariant c.args.handle handle c.index-place.result.now c.index-place.result.now c.index-place.ensures in
+    rw (c.in-Ok.ensures.added, c.push_reserved-in-Ok.ensures.items, c.make_room.ensures.providers, c.push_reserved.ensures.items, c.make_room.ensures.contexts, c.make_room.ensures.places, c.loader_of-loads.ensures)
+    (signer-cache s c.self.invariant c.args.handle like there few c.index-place.result.now place c.args.loader)

@@ -1,0 +1,41 @@
+-- A call that is polled with the objects of a signer.
+use Rattle.std.specs.Prelude.{◌≡◌, ℤ, Some}
+use Rattle.sequential_signer.specs.Policy.{Policy}
+use Rattle.sign_desk.specs.DeskState.{DeskState}
+use Rattle.signer.specs.MadeBy.{IsStateMade}
+use Rattle.signer.specs.SignerObjects.{Meanings, service_of, with_service, call_meaning}
+use Rattle.signer.specs.Course.{PolledCall, polled_call, PollOutcome, IsDriven}
+use Rattle.signer.specs.PollStep.{StepChange, IsTaken}
+use Rattle.signer.specs.declared.call_objects.CallObjects.{CallObjects}
+use Rattle.sign_desk.specs.Records.{BegunCall}
+use Rattle.signer.specs.declared.sign.SignState.{SignState}
+use Rattle.signer.specs.declared.went.StepTaken.{StepTaken}
+
+-- what a poll of a call works with, beside the service, which is a rule of the desk
+pub record Driving (P S K C L W : Type 0) : Type 1 where
+  pub policy : Policy K S
+  pub meanings : Meanings P S K C L W
+  pub objects : CallObjects P C
+  pub begun : BegunCall
+  pub now : ℤ
+
+module _ {P S K C L W : Type 0} (d : Driving P S K C L W) where
+  -- the call with this service
+  abbrev pub call_with : S → PolledCall K S L W
+  call_with service = polled_call d.policy d.meanings (with_service d.objects service) d.begun d.now
+
+  -- this service is the call's
+  abbrev pub IsService : DeskState K S → S → Type 0
+  IsService desk service = service_of desk d.begun.id.handle ≡ Some service
+
+  -- the state was made for the call
+  abbrev pub IsMadeFor : DeskState K S → SignState K L W → Type 0
+  IsMadeFor desk state = (service : S) → IsService desk service → IsStateMade (call_meaning d.meanings d.begun (with_service d.objects service)) d.begun desk state
+
+  -- the step of the call in this state
+  abbrev pub IsStepTaken : SignState K L W → StepChange K S → StepTaken K L W → Type 0
+  IsStepTaken state change taken = (service : S) → IsService change.old service → IsTaken (call_with service) state change taken
+
+  -- the call in this state is driven by events of the desk, and ends by them
+  abbrev pub IsDrivenFrom : SignState K L W → DeskState K S → DeskState K S → PollOutcome P S K C L W → Type 0
+  IsDrivenFrom state old new outcome = (service : S) → IsService old service → IsDriven (call_with service) state old new outcome

@@ -1,0 +1,15 @@
+pub mod CallStep
+pub mod SignerInvariant
+pub mod ObjectAnswer
+pub mod ObjectPoll
+pub mod SignerObjects
+pub mod MadeBy
+pub mod Course
+pub mod PollStep
+pub mod StepReply
+pub mod Target
+pub mod Driving
+pub mod SignerCalls
+pub mod CallsOf
+pub mod RefusalText
+pub mod RefusalError

@@ -1,0 +1,35 @@
+-- The states of calls that a signer made.
+use Rattle.std.specs.Prelude.{ℕ, IsSomeAnd}
+use Rattle.sign_desk.specs.DeskState.{DeskState}
+use Rattle.desk_parts.specs.CallAt.{IsWaiting, IsAsking, IsSigning}
+use Rattle.desk_parts.specs.LoadAnswer.{IsLoadKept}
+use Rattle.signer.specs.ObjectAnswer.{IsWorkKept}
+use Rattle.signer.specs.SignerInvariant.{SignerState}
+use Rattle.signer.specs.SignerObjects.{Meanings, CallMeaning, call_meaning, objects_of}
+use Rattle.sign_desk.specs.Records.{BegunCall}
+use Rattle.desk_parts.specs.declared.load_state.LoadState.{LoadState}
+use Rattle.signer.specs.declared.sign.WorkState.{WorkState}
+use Rattle.signer.specs.declared.sign.SignState.{SignState}
+use Rattle.signer.specs.declared.sign.SignState.TheVariants.{Waiting, Loading, Signing}
+use Rattle.signer.specs.declared.sign.Sign.{Sign}
+
+module _ {K L W : Type 0} (m : CallMeaning K L W) where
+  -- the load was started by the provider last asked, and an answer that is kept is one that it gives
+  abbrev pub IsLoadMade : ℕ → LoadState K L → Type 0
+  IsLoadMade provider l = IsLoadKept (m.load_started provider) (m.load_gives provider) l
+
+  -- the work was started with the credential, the candidate is one for the begun head, and an answer that is kept is one that
+  -- the service gives
+  abbrev pub IsWorkMade : BegunCall → K → WorkState W → Type 0
+  IsWorkMade begun credential w = IsWorkKept (m.work_started credential) (m.work_gives credential) begun.head w
+
+  -- the desk has the call's record with the same state, and load or work were made for the call
+  abbrev pub IsStateMade : {D : Type 0} → BegunCall → DeskState K D → SignState K L W → Type 0
+  IsStateMade begun desk Waiting = IsWaiting begun desk
+  IsStateMade begun desk (Loading provider l) = IsAsking begun provider desk × IsLoadMade provider l
+  IsStateMade begun desk (Signing credential w) = IsSigning begun desk × IsWorkMade begun credential w
+
+-- this signer made this state
+abbrev pub IsMadeBy : {P S K C L W : Type 0} → Meanings P S K C L W → SignerState P S K C → Sign P S K C L C W K → Type 0
+IsMadeBy m signer sign =
+    IsSomeAnd (objects_of signer sign.begun.id.handle) (λ o. IsStateMade (call_meaning m sign.begun o) sign.begun signer.desk sign.state)

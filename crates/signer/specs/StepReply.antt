@@ -1,0 +1,42 @@
+-- How a poll goes on by a reply of its desk.
+use Rattle.std.specs.Prelude.{ℕ, None}
+use Rattle.sequential_signer.specs.declared.event.Reply.{Reply}
+use Rattle.sequential_signer.specs.declared.event.Reply.TheVariants as reply
+use Rattle.sequential_signer.specs.declared.event.Why.{Why}
+use Rattle.sequential_signer.specs.declared.event.Why.TheVariants as why
+use Rattle.signer.specs.declared.refusal.Refusal.{Refusal}
+use Rattle.signer.specs.declared.refusal.Refusal.TheVariants as refusal
+use Rattle.desk_parts.specs.declared.load_state.LoadState.TheVariants as load
+use Rattle.signer.specs.declared.sign.WorkState.TheVariants as work
+use Rattle.signer.specs.declared.sign.SignState.TheVariants.{Waiting, Loading, Signing}
+use Rattle.signer.specs.declared.went.StepEnd.TheVariants as end
+use Rattle.signer.specs.declared.went.Went.TheVariants.{On, Over}
+use Rattle.signer.specs.declared.went.StepTaken.{StepTaken}
+
+-- the refusal for a cause that names no error
+abbrev pub plain_refusal : Why → Refusal
+plain_refusal (why.Short deadline) = refusal.Short deadline
+plain_refusal why.Range = refusal.Range
+plain_refusal _ = refusal.Missing
+
+module _ {K L W : Type 0} where
+  -- a poll of a call that waits
+  abbrev pub taken_after_poll : Reply K → StepTaken K L W
+  taken_after_poll reply.Pending = record { went = Over (end.Pending Waiting); wake = None }
+  taken_after_poll (reply.Ask provider) = record { went = On (Loading provider load.Unstarted); wake = None }
+  taken_after_poll (reply.Sign credential wake) = record { went = On (Signing credential work.Unstarted); wake = wake }
+  taken_after_poll (reply.Refused cause wake) = record { went = Over (end.Refused (plain_refusal cause)); wake = wake }
+  taken_after_poll _ = record { went = Over (end.OutOfMemory Waiting); wake = None }
+
+  -- a credential that was found
+  abbrev pub taken_after_found : ℕ → K → Reply K → StepTaken K L W
+  taken_after_found provider found (reply.Sign credential wake) = record { went = On (Signing credential work.Unstarted); wake = wake }
+  taken_after_found provider found (reply.Refused cause wake) = record { went = Over (end.Refused (plain_refusal cause)); wake = wake }
+  taken_after_found provider found _ = record { went = Over (end.OutOfMemory (Loading provider (load.Found found))); wake = None }
+
+  -- an answer that is no credential; this is the refusal of a single provider
+  abbrev pub taken_after_none : Refusal → Reply K → StepTaken K L W
+  taken_after_none failure (reply.Ask provider) = record { went = On (Loading provider load.Unstarted); wake = None }
+  taken_after_none failure (reply.Refused why.Missing wake) = record { went = Over (end.Refused refusal.Missing); wake = wake }
+  taken_after_none failure (reply.Refused cause wake) = record { went = Over (end.Refused failure); wake = wake }
+  taken_after_none failure _ = record { went = Over (end.Refused failure); wake = None }

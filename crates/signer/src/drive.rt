@@ -1,0 +1,232 @@
+//! The steps that a signer makes of a call. It knows where the call is, so each step has few replies.
+ghost use Rattle.std.specs.Prelude.{◌≡◌, IsSome, IfOk, IfSome, OnOk, OnErr, None, true, slice_get};
+ghost use Rattle.sequential_signer.specs.Policy.{policy_of};
+ghost use Rattle.sequential_signer.specs.declared.event.Answer.TheVariants as answer;
+ghost use Rattle.sequential_signer.specs.declared.event.Event.TheVariants.{Begin, Cancel, Poll, Provided, Signed};
+ghost use Rattle.sequential_signer.specs.declared.event.Reply.TheVariants.{Begun, Cancelled, Refused};
+ghost use Rattle.sequential_signer.specs.declared.event.Verdict.TheVariants as verdict;
+ghost use Rattle.sequential_signer.specs.declared.event.Why.TheVariants as why;
+ghost use Rattle.sign_desk.specs.Steps.{IsStep};
+ghost use Rattle.desk_parts.specs.CallAt.{IsLive, IsWaiting, IsAsking, IsSigning, LeavesOthers};
+ghost use Rattle.signer.specs.CallStep.{IsBegun, AfterPoll, AfterFound, AfterNone, AfterAccepted, begun_in_event, found_in_event, accepted_in_event};
+ghost use Rattle.sequential_signer.specs.LiveCall.{is_above};
+
+use credentials::{DeadlineRule, SigningCredential};
+use desk_parts::BegunCall;
+use sequential_signer::{Answer, Event, Reply, Verdict};
+use sign_base::{Head, NoMemory, Timestamp};
+use sign_desk::Desk;
+use std::time::Duration;
+use wake_lock::CallId;
+
+/// The number of an error in the desk's events. The error itself stays with the signer.
+const ERROR: u64 = 0;
+
+/// Begins the call of this name, with a number above all of its handle. The head is handed back.
+///
+/// Where there is no memory, nothing changes.
+pub(crate) fn begin_call<K: SigningCredential, D: DeadlineRule<Credential = K>>(
+    desk: &mut Desk<K, D>,
+    call: CallId,
+    head: Head,
+    expires_in: Option<Duration>,
+) -> Result<Head, NoMemory<()>>
+    requires there { IsSome (slice_get desk.old.handles call.handle) }
+    requires above { IfSome (slice_get desk.old.greatest call.handle) (λ greatest. is_above call.number greatest ≡ true) }
+    ensures back { IfOk result (λ back. back ≡ head) }
+    ensures step { OnOk result (IsStep (policy_of K.valid K.valid_at D.deadline) (Begin call head expires_in) desk.old Begun desk.new) }
+    ensures begun { OnOk result (IsBegun (record { id = call; head = head; expires_in = expires_in }) desk.old desk.new) }
+    ensures unchanged { OnErr result (desk.new ≡ desk.old) }
+{
+    let event = Event::Begin {
+        call,
+        head,
+        expires_in,
+    };
+    match desk.advance(&event) {
+        Reply::Begun => Ok(begun_in(event).unwrap()),
+        _ => Err(NoMemory { back: () }),
+    }
+}
+
+/// Cancels a live call, and names the one that has its turn by this.
+pub(crate) fn cancel_call<K: SigningCredential, D: DeadlineRule<Credential = K>>(
+    desk: &mut Desk<K, D>,
+    begun: &BegunCall<Head>,
+) -> Option<CallId>
+    requires there { IsSome (slice_get desk.old.handles begun.now.id.handle) }
+    requires live { IsLive begun.now desk.old }
+    ensures step { IsStep (policy_of K.valid K.valid_at D.deadline) (Cancel begun.now.id) desk.old (Cancelled result) desk.new }
+    ensures others { LeavesOthers begun.now.id desk.old desk.new }
+{
+    let event = Event::Cancel { call: begun.id };
+    match desk.advance(&event) {
+        Reply::Cancelled { wake } => wake,
+        _ => unreachable!(),
+    }
+}
+
+/// A poll of a call that waits.
+pub(crate) fn poll_call<K: SigningCredential, D: DeadlineRule<Credential = K>>(
+    desk: &mut Desk<K, D>,
+    begun: &BegunCall<Head>,
+    now: Timestamp,
+) -> Reply<K>
+    requires there { IsSome (slice_get desk.old.handles begun.now.id.handle) }
+    requires waiting { IsWaiting begun.now desk.old }
+    ensures step { IsStep (policy_of K.valid K.valid_at D.deadline) (Poll begun.now.id now) desk.old result desk.new }
+    ensures after { AfterPoll begun.now result desk.new }
+    ensures others { LeavesOthers begun.now.id desk.old desk.new }
+{
+    let event = Event::Poll {
+        call: begun.id,
+        now,
+    };
+    desk.advance(&event)
+}
+
+/// A credential that the asked provider found, which is handed back beside the reply.
+pub(crate) fn give_found<K: SigningCredential, D: DeadlineRule<Credential = K>>(
+    desk: &mut Desk<K, D>,
+    begun: &BegunCall<Head>,
+    provider: u32,
+    now: Timestamp,
+    credential: K,
+) -> (Reply<K>, K)
+    requires there { IsSome (slice_get desk.old.handles begun.now.id.handle) }
+    requires asking { IsAsking begun.now provider desk.old }
+    ensures step { IsStep (policy_of K.valid K.valid_at D.deadline)
+        (Provided begun.now.id now (answer.Found credential)) desk.old result.0 desk.new }
+    ensures after { AfterFound begun.now provider result.0 desk.new }
+    ensures others { LeavesOthers begun.now.id desk.old desk.new }
+    ensures back { result.1 ≡ credential }
+{
+    let answer = Answer::Found(credential);
+    let event = Event::Provided {
+        call: begun.id,
+        now,
+        answer,
+    };
+    let reply = desk.advance(&event);
+    (reply, found_in(event).unwrap())
+}
+
+/// The asked provider has no credential.
+pub(crate) fn give_missing<K: SigningCredential, D: DeadlineRule<Credential = K>>(
+    desk: &mut Desk<K, D>,
+    begun: &BegunCall<Head>,
+    provider: u32,
+    now: Timestamp,
+) -> Reply<K>
+    requires there { IsSome (slice_get desk.old.handles begun.now.id.handle) }
+    requires asking { IsAsking begun.now provider desk.old }
+    ensures step { IsStep (policy_of K.valid K.valid_at D.deadline)
+        (Provided begun.now.id now answer.Missing) desk.old result desk.new }
+    ensures after { AfterNone begun.now provider why.Missing result desk.new }
+    ensures others { LeavesOthers begun.now.id desk.old desk.new }
+{
+    let event = Event::Provided {
+        call: begun.id,
+        now,
+        answer: Answer::Missing,
+    };
+    desk.advance(&event)
+}
+
+/// The asked provider failed.
+pub(crate) fn give_failed<K: SigningCredential, D: DeadlineRule<Credential = K>>(
+    desk: &mut Desk<K, D>,
+    begun: &BegunCall<Head>,
+    provider: u32,
+    now: Timestamp,
+) -> Reply<K>
+    requires there { IsSome (slice_get desk.old.handles begun.now.id.handle) }
+    requires asking { IsAsking begun.now provider desk.old }
+    ensures step { IsStep (policy_of K.valid K.valid_at D.deadline)
+        (Provided begun.now.id now (answer.Failed ERROR)) desk.old result desk.new }
+    ensures after { AfterNone begun.now provider (why.Loader ERROR) result desk.new }
+    ensures others { LeavesOthers begun.now.id desk.old desk.new }
+{
+    let event = Event::Provided {
+        call: begun.id,
+        now,
+        answer: Answer::Failed(ERROR),
+    };
+    desk.advance(&event)
+}
+
+/// The service signed this head, which is handed back beside the reply.
+pub(crate) fn give_accepted<K: SigningCredential, D: DeadlineRule<Credential = K>>(
+    desk: &mut Desk<K, D>,
+    begun: &BegunCall<Head>,
+    candidate: Head,
+) -> (Reply<K>, Head)
+    requires there { IsSome (slice_get desk.old.handles begun.now.id.handle) }
+    requires signing { IsSigning begun.now desk.old }
+    ensures step { IsStep (policy_of K.valid K.valid_at D.deadline)
+        (Signed begun.now.id (verdict.Accepted candidate)) desk.old result.0 desk.new }
+    ensures after { AfterAccepted begun.now result.0 desk.new }
+    ensures others { LeavesOthers begun.now.id desk.old desk.new }
+    ensures back { result.1 ≡ candidate }
+{
+    let event = Event::Signed {
+        call: begun.id,
+        answer: Verdict::Accepted(candidate),
+    };
+    let reply = desk.advance(&event);
+    (reply, accepted_in(event).unwrap())
+}
+
+/// The service failed.
+pub(crate) fn give_rejected<K: SigningCredential, D: DeadlineRule<Credential = K>>(
+    desk: &mut Desk<K, D>,
+    begun: &BegunCall<Head>,
+)
+    requires there { IsSome (slice_get desk.old.handles begun.now.id.handle) }
+    requires signing { IsSigning begun.now desk.old }
+    ensures step { IsStep (policy_of K.valid K.valid_at D.deadline)
+        (Signed begun.now.id (verdict.Failed ERROR)) desk.old (Refused (why.Service ERROR) None) desk.new }
+    ensures others { LeavesOthers begun.now.id desk.old desk.new }
+{
+    let event = Event::Signed {
+        call: begun.id,
+        answer: Verdict::Failed(ERROR),
+    };
+    let _refused = desk.advance(&event);
+}
+
+/// The head that a call began with.
+fn begun_in<K: Drop>(event: Event<K>) -> Option<Head>
+    ensures { result ≡ begun_in_event event }
+{
+    match event {
+        Event::Begin { head, .. } => Some(head),
+        _ => None,
+    }
+}
+
+/// The credential that a provider found.
+fn found_in<K: Drop>(event: Event<K>) -> Option<K>
+    ensures { result ≡ found_in_event event }
+{
+    match event {
+        Event::Provided {
+            answer: Answer::Found(credential),
+            ..
+        } => Some(credential),
+        _ => None,
+    }
+}
+
+/// The head that a service signed.
+fn accepted_in<K: Drop>(event: Event<K>) -> Option<Head>
+    ensures { result ≡ accepted_in_event event }
+{
+    match event {
+        Event::Signed {
+            answer: Verdict::Accepted(candidate),
+            ..
+        } => Some(candidate),
+        _ => None,
+    }
+}

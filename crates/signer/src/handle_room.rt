@@ -1,0 +1,79 @@
+//! Room for a handle more in what a signer keeps, which is taken before anything is added.
+ghost use Rattle.std.specs.Prelude.{◌≡◌, ◌<◌, [], ◌∷◌, length, OnOk, IfOk};
+ghost use Rattle.std.specs.Vec.{vec_len, vec_capacity};
+ghost use Rattle.desk_parts.specs.Adding.{late_refusal, AddAnswer};
+
+use credentials::{DeadlineRule, Providers, SigningCredential};
+use desk_parts::AddError;
+use sequential_signer::Loader;
+use sign_desk::Desk;
+use std::alloc::Global;
+
+/// A desk with one empty cache, and room for the objects of its first handle.
+#[derive(Drop)]
+pub(crate) struct FirstRoom<P, C, K, D>
+where
+    K: SigningCredential,
+    D: DeadlineRule<Credential = K>,
+{
+    pub(crate) desk: Desk<K, D>,
+    pub(crate) providers: Vec<Providers<P>>,
+    pub(crate) contexts: Vec<C>,
+    pub(crate) context_places: Vec<usize>,
+}
+
+impl<P: Drop, C: Drop, K, D> FirstRoom<P, C, K, D>
+where
+    K: SigningCredential,
+    D: DeadlineRule<Credential = K>,
+{
+    ghost use Rattle.sequential_signer.specs.Policy.{policy_of};
+    ghost use Rattle.sign_desk.specs.DeskState.{Represents};
+    ghost use Rattle.desk_parts.specs.Tables.{setup_of};
+
+    pub(crate) fn new(alloc: Global, loader: Loader) -> Result<Self, AddError>
+        ensures setup { IfOk result (λ room. setup_of room.desk ≡ record { loaders = loader ∷ []; rules = []; handles = [] }) }
+        ensures fresh { IfOk result (λ room. Represents (policy_of K.valid K.valid_at D.deadline) room.desk []) }
+        ensures providers { IfOk result (λ room. (room.providers.items ≡ []) × (vec_len room.providers < vec_capacity room.providers)) }
+        ensures contexts { IfOk result (λ room. (room.contexts.items ≡ []) × (vec_len room.contexts < vec_capacity room.contexts)) }
+        ensures places { IfOk result (λ room. (room.context_places.items ≡ []) × (vec_len room.context_places < vec_capacity room.context_places)) }
+    {
+        let mut desk = Desk::new(alloc);
+        desk.add_cache(loader)?;
+        Ok(FirstRoom {
+            desk,
+            providers: Vec::with_capacity(alloc, 1)?,
+            contexts: Vec::with_capacity(alloc, 1)?,
+            context_places: Vec::with_capacity(alloc, 1)?,
+        })
+    }
+}
+
+/// Makes room for the objects of one more handle, and returns its number.
+///
+/// Errors: `Late` where a call was begun, `OutOfMemory`.
+pub(crate) fn make_room<P, C, K, D>(
+    desk: &Desk<K, D>,
+    providers: &mut Vec<Providers<P>>,
+    contexts: &mut Vec<C>,
+    context_places: &mut Vec<usize>,
+) -> Result<u32, AddError>
+where
+    K: SigningCredential,
+    D: DeadlineRule<Credential = K>,
+    ensures answer { AddAnswer (late_refusal desk.now) (length desk.now.handles) result }
+    ensures providers { providers.new.items ≡ providers.old.items }
+    ensures contexts { contexts.new.items ≡ contexts.old.items }
+    ensures places { context_places.new.items ≡ context_places.old.items }
+    ensures providers_room { OnOk result (vec_len providers.new < vec_capacity providers.new) }
+    ensures contexts_room { OnOk result (vec_len contexts.new < vec_capacity contexts.new) }
+    ensures places_room { OnOk result (vec_len context_places.new < vec_capacity context_places.new) }
+{
+    if !desk.is_fresh() {
+        return Err(AddError::Late);
+    }
+    providers.reserve(1)?;
+    contexts.reserve(1)?;
+    context_places.reserve(1)?;
+    Ok(desk.handles())
+}

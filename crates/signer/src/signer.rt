@@ -1,0 +1,339 @@
+//! The signer on one thread: a desk, and the providers, services and contexts that answer it.
+//!
+//! Contracts see a signer as the record `SignerState`. A call's state is in its caller's hands between
+//! polls; `IsMadeBy` says that this signer made it.
+ghost use Rattle.std.specs.Prelude.{◌≡◌, ◌<◌, Some, None, [], length, OnOk, OnErr, IfOk, IfErr, IfSome, IsSome, option_and_then, option_copied, slice_get, slice_index};
+ghost use Rattle.sequential_signer.specs.Policy.{policy_of};
+ghost use Rattle.sequential_signer.specs.declared.event.Event.TheVariants.{Cancel};
+ghost use Rattle.sequential_signer.specs.declared.event.Reply.TheVariants.{Cancelled};
+ghost use Rattle.desk_parts.specs.Adding.{late_refusal, AddAnswer, AddAnswerBack, with_handle, with_rule};
+ghost use Rattle.sign_desk.specs.DeskState.{with_cache};
+ghost use Rattle.signer.specs.Course.{IsPoll, polled_call};
+ghost use Rattle.sign_desk.specs.DeskState.{Represents};
+ghost use Rattle.signer.specs.MadeBy.{IsMadeBy};
+ghost use Rattle.signer.specs.SignerCalls.{Begins, RefusesToBegin, KeepsOthers, IsAnswerMadeBy};
+ghost use Rattle.desk_parts.specs.ProviderList.{AreFew, loader_for};
+ghost use Rattle.signer.specs.SignerInvariant.{IsNewSigner, with_context_handle, with_service_handle, with_cache_handle};
+ghost use Rattle.signer.specs.SignerObjects.{Objects, meanings_of, objects_of};
+ghost use Rattle.sign_desk.specs.Steps.{IsStep};
+
+use crate::call_objects::CallObjects;
+use crate::drive::{begin_call, cancel_call};
+use crate::drive_call::drive;
+use crate::handle_room::{FirstRoom, make_room};
+use crate::sign::{Sign, SignState};
+use crate::sign_poll::SignPoll;
+use credentials::{DeadlineRule, ProvideCredential, Providers, SignRequest, SigningCredential};
+use desk_parts::{AddRefused, BegunCall, loader_of};
+use http::request::Parts;
+use sign_base::{Error, NoMemory, Timestamp};
+use sign_desk::Desk;
+use sign_request::{HeaderKeys, head_of};
+use std::alloc::Global;
+use std::fmt;
+use std::marker::Model;
+use std::time::Duration;
+use wake_lock::CallId;
+
+const USED_UP: &str = "call numbers are used up";
+
+/// Calls of one thread, each under a handle: a cache with its providers, a context, and a service.
+#[derive(Drop)]
+pub struct Signer<P, S>
+where
+    P: ProvideCredential,
+    P::Credential: SigningCredential,
+    S: SignRequest<Credential = P::Credential, Ctx = P::Ctx>,
+{
+    pub(crate) alloc: Global,
+    pub(crate) keys: HeaderKeys,
+    pub(crate) desk: Desk<P::Credential, S>,
+    /// The providers of each cache.
+    pub(crate) providers: Vec<Providers<P>>,
+    pub(crate) contexts: Vec<P::Ctx>,
+    /// The place of each handle's context.
+    pub(crate) context_places: Vec<usize>,
+    /// The number of calls that were begun, which is the number of the next one.
+    pub(crate) begun: u64,
+}
+
+impl<P, S> Model for Signer<P, S>
+where
+    P: ProvideCredential,
+    P::Credential: SigningCredential,
+    S: SignRequest<Credential = P::Credential, Ctx = P::Ctx>,
+{
+    ghost use Rattle.signer.specs.SignerInvariant.{SignerState, IsSigner};
+
+    ghost Value = { SignerState P S P.Credential P.Ctx };
+
+    ghost view = { λ s. record {
+      desk = s.desk;
+      providers = s.providers.items;
+      contexts = s.contexts.items;
+      context_places = s.context_places.items;
+      begun = s.begun;
+    } };
+
+    ghost invariant = { λ s. IsSigner (record {
+      desk = s.desk;
+      providers = s.providers.items;
+      contexts = s.contexts.items;
+      context_places = s.context_places.items;
+      begun = s.begun;
+    }) };
+}
+
+impl<P, S> Signer<P, S>
+where
+    P: ProvideCredential,
+    P::Credential: SigningCredential,
+    S: SignRequest<Credential = P::Credential, Ctx = P::Ctx>,
+{
+    /// A signer with handle 0: an empty cache with these providers, this context and this service.
+    ///
+    /// Where there is no memory, all three come back.
+    pub fn new(
+        alloc: Global,
+        ctx: P::Ctx,
+        loader: Providers<P>,
+        builder: S,
+    ) -> Result<Self, NoMemory<(P::Ctx, Providers<P>, S)>>
+        requires { AreFew loader }
+        ensures ok { IfOk result (IsNewSigner (policy_of P.Credential.valid P.Credential.valid_at S.deadline) ctx loader builder) }
+        ensures back { IfErr result (λ e. e.back ≡ (ctx, loader, builder)) }
+    {
+        let loads = loader_of(&loader);
+        let Ok(room) = FirstRoom::new(alloc, loads) else {
+            return Err(NoMemory {
+                back: (ctx, loader, builder),
+            });
+        };
+        let FirstRoom {
+            mut desk,
+            mut providers,
+            mut contexts,
+            mut context_places,
+        } = room;
+        match desk.add_handle_with_rule(0, builder) {
+            Ok(_) => {
+                providers.push_reserved(loader);
+                contexts.push_reserved(ctx);
+                context_places.push_reserved(0);
+                Ok(Signer {
+                    alloc,
+                    keys: HeaderKeys::default(),
+                    desk,
+                    providers,
+                    contexts,
+                    context_places,
+                    begun: 0,
+                })
+            }
+            Err(refused) => Err(NoMemory {
+                back: (ctx, loader, refused.back),
+            }),
+        }
+    }
+
+    /// The signer with these keys for the header maps that its requests get, where the names of headers
+    /// come from outside. Nothing else depends on them.
+    pub fn with_header_keys(self, keys: HeaderKeys) -> Self
+        ensures { result ≡ self }
+    {
+        Signer { keys, ..self }
+    }
+
+    /// Adds a handle on the same cache and service as this one, with another context, and returns its
+    /// number.
+    ///
+    /// Errors: `Late` where a call was begun, `OutOfMemory`. An error changes nothing, and hands the
+    /// context back.
+    pub fn with_context(&mut self, handle: u32, ctx: P::Ctx) -> Result<u32, AddRefused<P::Ctx>>
+        requires handle { handle < length self.old.desk.handles }
+        requires room { length self.old.desk.handles < 4294967295 }
+        ensures answer { AddAnswerBack (late_refusal self.old.desk) (length self.old.desk.handles) result }
+        ensures added { OnOk result (IfSome (slice_get self.old.desk.handles handle) (λ like. self.new ≡ with_context_handle like ctx self.old)) }
+        ensures fresh { OnOk result (Represents (policy_of P.Credential.valid P.Credential.valid_at S.deadline) self.new.desk []) }
+        ensures unchanged { IfErr result (λ refused. (refused.back ≡ ctx) × (self.new ≡ self.old)) }
+    {
+        let like = self.desk.handle_at(handle).unwrap();
+        if let Err(why) = make_room(
+            &self.desk,
+            &mut self.providers,
+            &mut self.contexts,
+            &mut self.context_places,
+        ) {
+            return Err(AddRefused { why, back: ctx });
+        }
+        match self.desk.add_handle(like.cache, like.rule) {
+            Ok(number) => {
+                self.context_places.push_reserved(self.contexts.len());
+                self.contexts.push_reserved(ctx);
+                Ok(number)
+            }
+            Err(why) => Err(AddRefused { why, back: ctx }),
+        }
+    }
+
+    /// Adds a handle on the same cache and context as this one, with another service, and returns its
+    /// number.
+    ///
+    /// Errors: `Late` where a call was begun, `OutOfMemory`. An error changes nothing, and hands the
+    /// service back.
+    pub fn with_request_signer(&mut self, handle: u32, builder: S) -> Result<u32, AddRefused<S>>
+        requires handle { handle < length self.old.desk.handles }
+        requires room { length self.old.desk.handles < 4294967295 }
+        ensures answer { AddAnswerBack (late_refusal self.old.desk) (length self.old.desk.handles) result }
+        ensures added { OnOk result (IfSome (slice_get self.old.desk.handles handle) (λ like.
+            self.new ≡ with_service_handle like (slice_index self.old.context_places handle) builder self.old)) }
+        ensures fresh { OnOk result (Represents (policy_of P.Credential.valid P.Credential.valid_at S.deadline) self.new.desk []) }
+        ensures unchanged { IfErr result (λ refused. (refused.back ≡ builder) × (self.new ≡ self.old)) }
+    {
+        let like = self.desk.handle_at(handle).unwrap();
+        let place = self.context_places[handle as usize];
+        if let Err(why) = make_room(
+            &self.desk,
+            &mut self.providers,
+            &mut self.contexts,
+            &mut self.context_places,
+        ) {
+            return Err(AddRefused { why, back: builder });
+        }
+        let number = self.desk.add_handle_with_rule(like.cache, builder)?;
+        self.context_places.push_reserved(place);
+        Ok(number)
+    }
+
+    /// Adds a handle on a new empty cache with these providers, with the context and the service of
+    /// this one, and returns its number.
+    ///
+    /// Errors: `Late` where a call was begun, `OutOfMemory`. An error changes nothing, and hands the
+    /// providers back.
+    pub fn with_credential_provider(
+        &mut self,
+        handle: u32,
+        loader: Providers<P>,
+    ) -> Result<u32, AddRefused<Providers<P>>>
+        requires handle { handle < length self.old.desk.handles }
+        requires room { length self.old.desk.handles < 4294967295 }
+        requires few { AreFew loader }
+        ensures answer { AddAnswerBack (late_refusal self.old.desk) (length self.old.desk.handles) result }
+        ensures added { OnOk result (IfSome (slice_get self.old.desk.handles handle) (λ like.
+            self.new ≡ with_cache_handle like (slice_index self.old.context_places handle) loader self.old)) }
+        ensures fresh { OnOk result (Represents (policy_of P.Credential.valid P.Credential.valid_at S.deadline) self.new.desk []) }
+        ensures unchanged { IfErr result (λ refused. (refused.back ≡ loader) × (self.new ≡ self.old)) }
+    {
+        let like = self.desk.handle_at(handle).unwrap();
+        let place = self.context_places[handle as usize];
+        if let Err(why) = make_room(
+            &self.desk,
+            &mut self.providers,
+            &mut self.contexts,
+            &mut self.context_places,
+        ) {
+            return Err(AddRefused { why, back: loader });
+        }
+        let loads = loader_of(&loader);
+        match self.desk.add_handle_with_cache(loads, like.rule) {
+            Ok(number) => {
+                self.context_places.push_reserved(place);
+                self.providers.push_reserved(loader);
+                Ok(number)
+            }
+            Err(why) => Err(AddRefused { why, back: loader }),
+        }
+    }
+
+    /// Begins a call under this handle, to sign this request for so long.
+    ///
+    /// `RequestInvalid` where the version of the request is unknown, or where 18,446,744,073,709,551,615
+    /// calls were begun. `OutOfMemory` where an allocation failed. An error begins nothing.
+    pub fn sign(
+        &mut self,
+        handle: u32,
+        req: &Parts,
+        expires_in: Option<Duration>,
+    ) -> Result<Sign<P, S>, Error>
+        requires { handle < length self.old.desk.handles }
+        ensures ok { IfOk result (λ sign. (sign.begun.id.handle ≡ handle) × (sign.begun.expires_in ≡ expires_in)
+            × Begins (meanings_of P.ProvideCredential S.SignRequest.own) (policy_of P.Credential.valid P.Credential.valid_at S.deadline) (record { old = self.old; new = self.new }) req.now sign) }
+        ensures err { IfErr result (RefusesToBegin req.now self.old.begun) }
+        ensures unchanged { OnErr result (self.new ≡ self.old) }
+    {
+        let head = head_of(self.alloc, req)?;
+        if self.begun == u64::MAX {
+            return Err(Error::request_invalid(self.alloc, USED_UP)?);
+        }
+        let id = CallId {
+            handle,
+            number: self.begun,
+        };
+        let head = begin_call(&mut self.desk, id, head, expires_in)?;
+        self.begun += 1;
+        let begun = BegunCall {
+            id,
+            head,
+            expires_in,
+        };
+        Ok(Sign {
+            begun,
+            state: SignState::Waiting,
+        })
+    }
+
+    /// Goes on with a call, as far as its objects answer now. `now` is the moment of all that happens
+    /// in this poll. On `Done` the request has the signed URI and headers; on every other answer it is
+    /// as it was.
+    pub fn poll(&mut self, sign: Sign<P, S>, req: &mut Parts, now: Timestamp) -> SignPoll<P, S>
+        requires { IsMadeBy (meanings_of P.ProvideCredential S.SignRequest.own) self.old sign }
+        ensures poll { (o : Objects P S P.Ctx) → objects_of self.old sign.begun.id.handle ≡ Some o
+            → IsPoll (polled_call (policy_of P.Credential.valid P.Credential.valid_at S.deadline) (meanings_of P.ProvideCredential S.SignRequest.own) o sign.begun now) sign.state self.old.desk self.new.desk
+            (record { poll = result; before = req.old; after = req.new }) }
+        ensures made { IsAnswerMadeBy (meanings_of P.ProvideCredential S.SignRequest.own) self.new sign.begun.id result.answer }
+        ensures same { self.new ≡ record self.old { desk = self.new.desk } }
+        ensures others { KeepsOthers (meanings_of P.ProvideCredential S.SignRequest.own) sign.begun.id (record { old = self.old; new = self.new }) }
+    {
+        let handle = sign.begun.id.handle;
+        let cache = self.desk.cache_of(handle).unwrap();
+        let place = self.context_places[handle as usize];
+        let objects = CallObjects {
+            alloc: self.alloc,
+            providers: &self.providers[cache as usize],
+            ctx: &self.contexts[place],
+            keys: self.keys,
+        };
+        drive(&mut self.desk, &objects, sign, req, now)
+    }
+
+    /// Gives a call up, and names the call that has its turn by this. It takes no memory.
+    pub fn cancel(&mut self, sign: Sign<P, S>) -> Option<CallId>
+        requires { IsMadeBy (meanings_of P.ProvideCredential S.SignRequest.own) self.old sign }
+        ensures step { IsStep (policy_of P.Credential.valid P.Credential.valid_at S.deadline) (Cancel sign.begun.id) self.old.desk (Cancelled result) self.new.desk }
+        ensures same { self.new ≡ record self.old { desk = self.new.desk } }
+        ensures others { KeepsOthers (meanings_of P.ProvideCredential S.SignRequest.own) sign.begun.id (record { old = self.old; new = self.new }) }
+    {
+        cancel_call(&mut self.desk, &sign.begun)
+    }
+
+    /// The desk that the signer drives.
+    pub fn desk(&self) -> &Desk<P::Credential, S>
+        ensures { result.now ≡ self.now.desk }
+    {
+        &self.desk
+    }
+}
+
+/// Shows the type of the credentials, and neither a credential nor a head.
+impl<P, S> fmt::Debug for Signer<P, S>
+where
+    P: ProvideCredential,
+    P::Credential: SigningCredential,
+    S: SignRequest<Credential = P::Credential, Ctx = P::Ctx>,
+{
+    fn fmt<W: fmt::Write>(&self, f: &mut fmt::Formatter<W>) -> fmt::Result {
+        let mut parts = f.debug_struct("Signer");
+        parts.field("credential", &P::Credential::NAME);
+        parts.finish()
+    }
+}

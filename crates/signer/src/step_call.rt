@@ -1,0 +1,236 @@
+//! One step of a call: the desk is polled, or the object that was asked, whose answer goes to the desk.
+ghost use Rattle.std.specs.Prelude.{◌≡◌, None, Some, IsSome};
+ghost use Rattle.desk_parts.specs.CallAt.{loader_of};
+ghost use Rattle.desk_parts.specs.ProviderList.{loader_for};
+ghost use Rattle.http.specs.declared.request.Parts.{Parts};
+ghost use Rattle.sequential_signer.specs.Policy.{policy_of};
+ghost use Rattle.signer.specs.Driving.{IsMadeFor, IsStepTaken};
+ghost use Rattle.signer.specs.ObjectAnswer.{KeepsWork};
+ghost use Rattle.signer.specs.SignerObjects.{meanings_of, service_of};
+ghost use Rattle.desk_parts.specs.ProviderList.{provider_at};
+ghost use Rattle.signer.specs.declared.sign.SignState.TheVariants.{Loading, Signing};
+ghost use Rattle.signer.specs.declared.sign.WorkState.{WorkState};
+ghost use Rattle.signer.specs.declared.sign.WorkState.TheVariants as work_state;
+ghost use Rattle.signer.specs.declared.went.StepEnd.TheVariants.{OutOfMemory};
+ghost use Rattle.signer.specs.declared.went.Went.TheVariants.{Over};
+
+use crate::call_objects::CallObjects;
+use crate::drive::{give_failed, give_found, give_missing, give_rejected, poll_call};
+use crate::object_answer::WorkAnswer;
+use crate::refusal::Refusal;
+use crate::sign::{SignState, WorkState};
+use crate::signer_objects::poll_service;
+use crate::step_reply::{after_found, after_none, after_poll};
+use crate::target::{hand_in, target_of};
+use crate::went::{StepEnd, StepTaken};
+use credentials::{ProvideCredential, SignRequest, SigningCredential};
+use desk_parts::{BegunCall, LoadAnswer, LoadState, poll_provider, provider_at};
+use http::request::Parts;
+use sign_base::{ErrorKind, Head, Timestamp};
+use sign_desk::Desk;
+
+/// One step of a call in this state.
+pub(crate) fn step<P, S>(
+    desk: &mut Desk<P::Credential, S>,
+    objects: &CallObjects<'_, P, P::Ctx>,
+    begun: &BegunCall<Head>,
+    now: Timestamp,
+    state: SignState<P::Credential, P::Load, S::Work>,
+    req: &mut Parts,
+) -> StepTaken<P::Credential, P::Load, S::Work>
+where
+    P: ProvideCredential,
+    P::Credential: SigningCredential,
+    S: SignRequest<Credential = P::Credential, Ctx = P::Ctx>,
+    requires there { IsSome (service_of desk.old begun.now.id.handle) }
+    requires loads { loader_of desk.old begun.now.id.handle ≡ Some (loader_for objects.now.providers.now) }
+    requires made { IsMadeFor (record {
+      policy = policy_of P.Credential.valid P.Credential.valid_at S.deadline;
+      meanings = meanings_of P.ProvideCredential S.SignRequest.own;
+      objects = objects.now;
+      begun = begun.now;
+      now = now;
+    }) desk.old state }
+    ensures { IsStepTaken (record {
+      policy = policy_of P.Credential.valid P.Credential.valid_at S.deadline;
+      meanings = meanings_of P.ProvideCredential S.SignRequest.own;
+      objects = objects.now;
+      begun = begun.now;
+      now = now;
+    }) state
+        (record { old = desk.old; new = desk.new; before = req.old; after = req.new }) result }
+{
+    match state {
+        SignState::Waiting => after_poll(poll_call(desk, begun, now)),
+        SignState::Loading(provider, load) => {
+            step_loading(desk, objects, begun, now, provider, load)
+        }
+        SignState::Signing(credential, work) => {
+            step_signing(desk, objects, begun, now, credential, work, req)
+        }
+    }
+}
+
+/// The provider that was asked is polled.
+fn step_loading<P, S>(
+    desk: &mut Desk<P::Credential, S>,
+    objects: &CallObjects<'_, P, P::Ctx>,
+    begun: &BegunCall<Head>,
+    now: Timestamp,
+    provider: u32,
+    load: LoadState<P::Credential, P::Load>,
+) -> StepTaken<P::Credential, P::Load, S::Work>
+where
+    P: ProvideCredential,
+    P::Credential: SigningCredential,
+    S: SignRequest<Credential = P::Credential, Ctx = P::Ctx>,
+    requires there { IsSome (service_of desk.old begun.now.id.handle) }
+    requires loads { loader_of desk.old begun.now.id.handle ≡ Some (loader_for objects.now.providers.now) }
+    requires made { IsMadeFor (record {
+      policy = policy_of P.Credential.valid P.Credential.valid_at S.deadline;
+      meanings = meanings_of P.ProvideCredential S.SignRequest.own;
+      objects = objects.now;
+      begun = begun.now;
+      now = now;
+    }) desk.old (Loading provider load) }
+    ensures { (request : Parts) → IsStepTaken (record {
+      policy = policy_of P.Credential.valid P.Credential.valid_at S.deadline;
+      meanings = meanings_of P.ProvideCredential S.SignRequest.own;
+      objects = objects.now;
+      begun = begun.now;
+      now = now;
+    }) (Loading provider load)
+        (record { old = desk.old; new = desk.new; before = request; after = request }) result }
+{
+    let asked = provider_at(objects.providers, provider).unwrap();
+    match poll_provider(objects.alloc, asked, objects.ctx, load) {
+        LoadAnswer::Pending(load) => {
+            let state = SignState::Loading(provider, LoadState::Started(load));
+            StepTaken::over(StepEnd::Pending(state))
+        }
+        LoadAnswer::OutOfMemory(load) => {
+            StepTaken::over(StepEnd::OutOfMemory(SignState::Loading(provider, load)))
+        }
+        LoadAnswer::Found(credential) => {
+            let (reply, found) = give_found(desk, begun, provider, now, credential);
+            after_found(provider, found, reply)
+        }
+        LoadAnswer::Missing => {
+            after_none(Refusal::Missing, give_missing(desk, begun, provider, now))
+        }
+        LoadAnswer::Failed(e) => {
+            after_none(Refusal::Loader(e), give_failed(desk, begun, provider, now))
+        }
+    }
+}
+
+/// The service is polled.
+fn step_signing<P, S>(
+    desk: &mut Desk<P::Credential, S>,
+    objects: &CallObjects<'_, P, P::Ctx>,
+    begun: &BegunCall<Head>,
+    now: Timestamp,
+    credential: P::Credential,
+    work: WorkState<S::Work>,
+    req: &mut Parts,
+) -> StepTaken<P::Credential, P::Load, S::Work>
+where
+    P: ProvideCredential,
+    P::Credential: SigningCredential,
+    S: SignRequest<Credential = P::Credential, Ctx = P::Ctx>,
+    requires there { IsSome (service_of desk.old begun.now.id.handle) }
+    requires made { IsMadeFor (record {
+      policy = policy_of P.Credential.valid P.Credential.valid_at S.deadline;
+      meanings = meanings_of P.ProvideCredential S.SignRequest.own;
+      objects = objects.now;
+      begun = begun.now;
+      now = now;
+    }) desk.old (Signing credential work) }
+    ensures { IsStepTaken (record {
+      policy = policy_of P.Credential.valid P.Credential.valid_at S.deadline;
+      meanings = meanings_of P.ProvideCredential S.SignRequest.own;
+      objects = objects.now;
+      begun = begun.now;
+      now = now;
+    }) (Signing credential work)
+        (record { old = desk.old; new = desk.new; before = req.old; after = req.new }) result }
+{
+    let service = desk.rule_of(begun.id.handle).unwrap();
+    match poll_service(
+        objects.alloc,
+        service,
+        objects.ctx,
+        begun,
+        &credential,
+        work,
+    ) {
+        WorkAnswer::Pending(work, candidate) => {
+            let state = SignState::Signing(credential, WorkState::Started(work, candidate));
+            StepTaken::over(StepEnd::Pending(state))
+        }
+        WorkAnswer::OutOfMemory(work) => {
+            StepTaken::over(StepEnd::OutOfMemory(SignState::Signing(credential, work)))
+        }
+        WorkAnswer::Failed(e) => {
+            give_rejected(desk, begun);
+            StepTaken::refused(Refusal::Service(e), None)
+        }
+        WorkAnswer::Signed(candidate) => {
+            accept(desk, objects, begun, now, credential, candidate, req)
+        }
+    }
+}
+
+/// The service signed this head. All memory is taken before the desk ends the call.
+fn accept<P, S>(
+    desk: &mut Desk<P::Credential, S>,
+    objects: &CallObjects<'_, P, P::Ctx>,
+    begun: &BegunCall<Head>,
+    _now: Timestamp,
+    credential: P::Credential,
+    candidate: Head,
+    req: &mut Parts,
+) -> StepTaken<P::Credential, P::Load, S::Work>
+where
+    P: ProvideCredential,
+    P::Credential: SigningCredential,
+    S: SignRequest<Credential = P::Credential, Ctx = P::Ctx>,
+    requires there { IsSome (service_of desk.old begun.now.id.handle) }
+    requires made { IsMadeFor (record {
+      policy = policy_of P.Credential.valid P.Credential.valid_at S.deadline;
+      meanings = meanings_of P.ProvideCredential S.SignRequest.own;
+      objects = objects.now;
+      begun = begun.now;
+      now = _now;
+    }) desk.old (Signing credential (work_state.Signed candidate)) }
+    ensures { (work : WorkState S.Work) → KeepsWork work (work_state.Signed candidate) → IsStepTaken (record {
+      policy = policy_of P.Credential.valid P.Credential.valid_at S.deadline;
+      meanings = meanings_of P.ProvideCredential S.SignRequest.own;
+      objects = objects.now;
+      begun = begun.now;
+      now = _now;
+    }) (Signing credential work)
+        (record { old = desk.old; new = desk.new; before = req.old; after = req.new }) result }
+{
+    match target_of(objects.alloc, &candidate, objects.keys) {
+        Ok(target) => match hand_in(desk, begun, candidate, target, req) {
+            None => StepTaken::over(StepEnd::Done),
+            Some(candidate) => keep(credential, candidate),
+        },
+        Err(e) => match e.kind() {
+            ErrorKind::OutOfMemory => keep(credential, candidate),
+            _ => {
+                give_rejected(desk, begun);
+                StepTaken::refused(Refusal::Service(e), None)
+            }
+        },
+    }
+}
+
+/// There was no memory to take the head that the service signed.
+fn keep<K, L, W>(credential: K, candidate: Head) -> StepTaken<K, L, W>
+    ensures { result ≡ record { went = Over (OutOfMemory (Signing credential (work_state.Signed candidate))); wake = None } }
+{
+    let state = SignState::Signing(credential, WorkState::Signed(candidate));
+    StepTaken::over(StepEnd::OutOfMemory(state))
+}

@@ -1,0 +1,56 @@
+//! The URI and the headers of a head that a service signed, and how they get into the request.
+ghost use Rattle.std.specs.Prelude.{◌≡◌, ◌⊎◌, None, Some, IfOk, IfErr, IfSome, IsSome, slice_get};
+ghost use Rattle.sequential_signer.specs.Policy.{policy_of};
+ghost use Rattle.sign_request.specs.PlainHead.{RefusesTarget};
+ghost use Rattle.sign_request.specs.Refusal.{IsOutOfMemory, RefusedAs};
+ghost use Rattle.desk_parts.specs.CallAt.{IsSigning, LeavesOthers};
+ghost use Rattle.signer.specs.Target.{IsTargetOf, IsHandedIn, IsKept};
+
+use crate::drive::give_accepted;
+use credentials::{DeadlineRule, SigningCredential};
+use desk_parts::BegunCall;
+use http::request::Parts;
+use sequential_signer::Reply;
+use sign_base::{Error, Head};
+use sign_desk::Desk;
+use sign_request::{HeaderKeys, commit_keyed};
+use std::alloc::Global;
+
+/// A head of `http` with the URI and the headers of this one.
+///
+/// `RequestInvalid` where `http` does not accept them.
+pub(crate) fn target_of(alloc: Global, candidate: &Head, keys: HeaderKeys) -> Result<Parts, Error>
+    ensures ok { IfOk result (IsTargetOf candidate.now) }
+    ensures err { IfErr result (λ e. IsOutOfMemory e ⊎ RefusedAs (RefusesTarget candidate.now) e) }
+{
+    let mut target = Parts::new(alloc);
+    commit_keyed(alloc, &mut target, candidate, keys)?;
+    Ok(target)
+}
+
+/// Hands the signed head to the desk, and puts its target into the request, or neither. The head comes
+/// back where there was no memory.
+pub(crate) fn hand_in<K: SigningCredential, D: DeadlineRule<Credential = K>>(
+    desk: &mut Desk<K, D>,
+    begun: &BegunCall<Head>,
+    candidate: Head,
+    target: Parts,
+    req: &mut Parts,
+) -> Option<Head>
+    requires there { IsSome (slice_get desk.old.handles begun.now.id.handle) }
+    requires signing { IsSigning begun.now desk.old }
+    requires target { IsTargetOf candidate target }
+    ensures done { result ≡ None → IsHandedIn (policy_of K.valid K.valid_at D.deadline) begun.now.id candidate
+        (record { old = desk.old; new = desk.new; before = req.old; after = req.new }) }
+    ensures kept { IfSome result (λ head. IsKept candidate head (record { old = desk.old; new = desk.new; before = req.old; after = req.new })) }
+    ensures others { LeavesOthers begun.now.id desk.old desk.new }
+{
+    match give_accepted(desk, begun, candidate) {
+        (Reply::Done { .. }, _) => {
+            req.uri = target.uri;
+            req.headers = target.headers;
+            None
+        }
+        (_, candidate) => Some(candidate),
+    }
+}
