@@ -11,8 +11,8 @@ use credentials::{
 };
 use http::request::Parts;
 use sign_base::{Error, ErrorKind, Field, Fields, Head, Octets, Timestamp, Version};
-use signer::{AddError, AddRefused, Refusal, SignAnswer, SignPoll, Signer};
 use sign_request::parts_of;
+use signer::{AddError, AddRefused, Refusal, SignAnswer, SignPoll, Signer};
 use std::alloc::Global;
 use std::fmt::{self, Write};
 use std::test::Fail;

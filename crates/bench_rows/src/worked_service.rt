@@ -15,8 +15,8 @@ use http::request::Parts;
 use sign_base::{
     Error, ErrorKind, Field, Fields, Head, NoMemory, Octets, Redact, Timestamp, Version,
 };
-use signer::Signer;
 use sign_request::{SigningRequest, parts_of};
+use signer::Signer;
 use std::alloc::Global;
 use std::collections::HashMap;
 use std::fmt;

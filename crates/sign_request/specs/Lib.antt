@@ -6,6 +6,7 @@ pub mod PairForm
 pub mod Target
 pub mod Request
 pub mod Headers
+pub mod Keys
 pub mod PlainHead
 pub mod Refusal
 pub mod Crossing

@@ -1,5 +1,6 @@
 //! The keys of the header maps that the bridge makes.
 ghost use Rattle.std.specs.Prelude.{◌≡◌, []};
+ghost use Rattle.sign_request.specs.Keys.{drawn};
 
 use http::header::HeaderMap;
 use std::alloc::Global;
@@ -17,7 +18,9 @@ pub struct HeaderKeys {
 
 impl HeaderKeys {
     /// Keys that were drawn at random, once for a program: `RandomState::new`.
-    pub fn new(keys: RandomState) -> HeaderKeys {
+    pub fn new(keys: RandomState) -> HeaderKeys
+        ensures { result ≡ drawn keys }
+    {
         HeaderKeys { keys: Some(keys) }
     }
 

@@ -5,6 +5,7 @@ use Rattle.std.proofs.lemmas.List.{length-append}
 use Rattle.std.proofs.lemmas.Bool.Decides.{nat_tests}
 use Rattle.wake_lock.proofs.Truth.{and_left, and_right}
 use Rattle.credentials.specs.declared.providers.Providers.{Providers}
+use Rattle.sign_request.specs.declared.header_keys.HeaderKeys.{HeaderKeys}
 use Rattle.sequential_signer.specs.LiveCall.{is_above}
 use Rattle.sequential_signer.specs.Policy.{Policy}
 use Rattle.sequential_signer.specs.Setup.{Setup, Handle}
@@ -183,10 +184,10 @@ first-handle : {X Y : Type 0} (x : X) (y : Y) (i : ℕ) → IfSome (slice_get (l
 first-handle x y zero = (omega arith, omega arith)
 first-handle x y (suc i) = tt
 
-module _ {P S K C : Type 0} (policy : Policy K S) (desk : DeskState K S) (loader : Providers P) (ctx : C) (service : S) where
+module _ {P S K C : Type 0} (policy : Policy K S) (desk : DeskState K S) (loader : Providers P) (ctx : C) (service : S) (keys : HeaderKeys) where
   -- a desk with one cache and no calls, with its first handle, has a signer round it
   pub signer-new : setup_of desk ≡ record { loaders = loader_for loader ∷ []; rules = []; handles = [] } → Represents policy desk []
-      → IsSigner (let s : SignerState P S K C = record { desk = with_handle 0 (length desk.rules) (with_rule service desk); providers = loader ∷ []; contexts = ctx ∷ []; context_places = 0 ∷ []; begun = 0 } in s)
+      → IsSigner (let s : SignerState P S K C = record { desk = with_handle 0 (length desk.rules) (with_rule service desk); providers = loader ∷ []; contexts = ctx ∷ []; context_places = 0 ∷ []; begun = 0; keys = keys } in s)
   signer-new setup stood =
       let loaders : desk.loaders ≡ loader_for loader ∷ [] = ap (λ (x : Setup S). x.loaders) setup in
       let rules : desk.rules ≡ [] = ap (λ (x : Setup S). x.rules) setup in

@@ -1,6 +1,8 @@
 -- What a signer keeps, and what holds of every signer.
 use Rattle.std.specs.Prelude.{◌≡◌, ℕ, ◌<◌, ◌≤◌, ◌++◌, List, [], ◌∷◌, Option, Bool, true, ◌&&◌, length, map, slice_get, IfSome}
 use Rattle.credentials.specs.declared.providers.Providers.{Providers}
+use Rattle.sign_request.specs.Keys.{no_keys}
+use Rattle.sign_request.specs.declared.header_keys.HeaderKeys.{HeaderKeys}
 use Rattle.sequential_signer.specs.LiveCall.{is_above}
 use Rattle.sequential_signer.specs.Setup.{Handle}
 use Rattle.sequential_signer.specs.Policy.{Policy}
@@ -11,13 +13,15 @@ use Rattle.desk_parts.specs.Adding.{with_rule, with_handle}
 use Rattle.desk_parts.specs.ProviderList.{loader_for}
 use Rattle.desk_parts.specs.SetUp.{IsSetUp}
 
--- the desk, the providers of each cache, the contexts, the place of each handle's context, and the number of calls begun
+-- the desk, the providers of each cache, the contexts, the place of each handle's context, the number of calls begun, and the keys of
+-- header maps
 pub record SignerState (P S K C : Type 0) : Type 0 where
   pub desk : DeskState K S
   pub providers : List (Providers P)
   pub contexts : List C
   pub context_places : List ℕ
   pub begun : ℕ
+  pub keys : HeaderKeys
 
 -- whether the number is above each of these, where there is one
 abbrev pub is_above_all : ℕ → List (Option ℕ) → Bool
@@ -43,6 +47,7 @@ module _ {P S K C : Type 0} where
     pub contexts_are : signer.contexts ≡ ctx ∷ []
     pub places_are : signer.context_places ≡ 0 ∷ []
     pub begun_none : signer.begun ≡ 0
+    pub keys_none : signer.keys ≡ no_keys
 
   -- the signer with a handle more, like one that there is but for its context
   abbrev pub with_context_handle : Handle → C → SignerState P S K C → SignerState P S K C

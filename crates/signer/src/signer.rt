@@ -73,6 +73,7 @@ where
       contexts = s.contexts.items;
       context_places = s.context_places.items;
       begun = s.begun;
+      keys = s.keys;
     } };
 
     ghost invariant = { λ s. IsSigner (record {
@@ -81,6 +82,7 @@ where
       contexts = s.contexts.items;
       context_places = s.context_places.items;
       begun = s.begun;
+      keys = s.keys;
     }) };
 }
 
@@ -137,9 +139,9 @@ where
     }
 
     /// The signer with these keys for the header maps that its requests get, where the names of headers
-    /// come from outside. Nothing else depends on them.
+    /// come from outside. No answer depends on them.
     pub fn with_header_keys(self, keys: HeaderKeys) -> Self
-        ensures { result ≡ self }
+        ensures { result ≡ record self { keys = keys } }
     {
         Signer { keys, ..self }
     }

@@ -12,7 +12,7 @@ pub cancel_call-requires-clause-there : goal.cancel_call-requires-clause-there
 cancel_call-requires-clause-there g c =
     let m = meanings_of g.P.ProvideCredential g.S.SignRequest in
     let handle = c.args.sign.begun.id.handle in
-    let s : SignerState g.row.P.Denot g.row.S.Denot g.row.P-Credential.Denot g.row.P-Ctx.Denot = record { desk = c.self.inside.desk; providers = c.self.inside.providers.items; contexts = c.self.inside.contexts.items; context_places = c.self.inside.context_places.items; begun = c.self.inside.begun } in
+    let s : SignerState g.row.P.Denot g.row.S.Denot g.row.P-Credential.Denot g.row.P-Ctx.Denot = record { desk = c.self.inside.desk; providers = c.self.inside.providers.items; contexts = c.self.inside.contexts.items; context_places = c.self.inside.context_places.items; begun = c.self.inside.begun; keys = c.self.inside.keys } in
     for-objects (objects_of s handle) (λ o. IsStateMade (call_meaning m c.args.sign.begun o) c.args.sign.begun s.desk c.args.sign.state)
     (IsSome (slice_get s.desk.handles handle))
     (subst (λ x. IsMadeBy m x c.args.sign) (sym c.self.view_is) c.requires)
@@ -24,7 +24,7 @@ pub cancel_call-requires-clause-live : goal.cancel_call-requires-clause-live
 cancel_call-requires-clause-live g c =
     let m = meanings_of g.P.ProvideCredential g.S.SignRequest in
     let handle = c.args.sign.begun.id.handle in
-    let s : SignerState g.row.P.Denot g.row.S.Denot g.row.P-Credential.Denot g.row.P-Ctx.Denot = record { desk = c.self.inside.desk; providers = c.self.inside.providers.items; contexts = c.self.inside.contexts.items; context_places = c.self.inside.context_places.items; begun = c.self.inside.begun } in
+    let s : SignerState g.row.P.Denot g.row.S.Denot g.row.P-Credential.Denot g.row.P-Ctx.Denot = record { desk = c.self.inside.desk; providers = c.self.inside.providers.items; contexts = c.self.inside.contexts.items; context_places = c.self.inside.context_places.items; begun = c.self.inside.begun; keys = c.self.inside.keys } in
     for-objects (objects_of s handle) (λ o. IsStateMade (call_meaning m c.args.sign.begun o) c.args.sign.begun s.desk c.args.sign.state)
     (IsLive c.args.sign.begun s.desk)
     (subst (λ x. IsMadeBy m x c.args.sign) (sym c.self.view_is) c.requires)
@@ -34,12 +34,12 @@ cancel_call-requires-clause-live g c =
 pub invariant_of-self : goal.invariant_of-self
 invariant_of-self g c =
     let l = c.cancel_call.ensures.others in
-    let s : SignerState g.row.P.Denot g.row.S.Denot g.row.P-Credential.Denot g.row.P-Ctx.Denot = record { desk = c.self.inside.desk; providers = c.self.inside.providers.items; contexts = c.self.inside.contexts.items; context_places = c.self.inside.context_places.items; begun = c.self.inside.begun } in
+    let s : SignerState g.row.P.Denot g.row.S.Denot g.row.P-Credential.Denot g.row.P-Ctx.Denot = record { desk = c.self.inside.desk; providers = c.self.inside.providers.items; contexts = c.self.inside.contexts.items; context_places = c.self.inside.context_places.items; begun = c.self.inside.begun; keys = c.self.inside.keys } in
     signer-desk s c.self.invariant c.cancel_call.new.desk s.begun l.loaders l.rules l.handles (ap (is_above_all s.begun) l.greatest ∙ c.self.invariant.numbers)
 
 pub returns-clause-others : goal.returns-clause-others
 returns-clause-others g c = λ other apart made.
     let m = meanings_of g.P.ProvideCredential g.S.SignRequest in
     let handle = c.args.sign.begun.id.handle in
-    let s : SignerState g.row.P.Denot g.row.S.Denot g.row.P-Credential.Denot g.row.P-Ctx.Denot = record { desk = c.self.inside.desk; providers = c.self.inside.providers.items; contexts = c.self.inside.contexts.items; context_places = c.self.inside.context_places.items; begun = c.self.inside.begun } in
+    let s : SignerState g.row.P.Denot g.row.S.Denot g.row.P-Credential.Denot g.row.P-Ctx.Denot = record { desk = c.self.inside.desk; providers = c.self.inside.providers.items; contexts = c.self.inside.contexts.items; context_places = c.self.inside.context_places.items; begun = c.self.inside.begun; keys = c.self.inside.keys } in
     keeps-others m c.args.sign.begun.id s c.cancel_call.new.desk c.cancel_call.ensures.others other apart (subst (λ x. IsMadeBy m x other) (sym c.self.view_is) made)

@@ -17,7 +17,7 @@ pub drive-requires-clause-loads : goal.drive-requires-clause-loads
 drive-requires-clause-loads g c =
     let m = meanings_of g.P.ProvideCredential g.S.SignRequest in
     let handle = c.args.sign.begun.id.handle in
-    let s : SignerState g.row.P.Denot g.row.S.Denot g.row.P-Credential.Denot g.row.P-Ctx.Denot = record { desk = c.self.inside.desk; providers = c.self.inside.providers.items; contexts = c.self.inside.contexts.items; context_places = c.self.inside.context_places.items; begun = c.self.inside.begun } in
+    let s : SignerState g.row.P.Denot g.row.S.Denot g.row.P-Credential.Denot g.row.P-Ctx.Denot = record { desk = c.self.inside.desk; providers = c.self.inside.providers.items; contexts = c.self.inside.contexts.items; context_places = c.self.inside.context_places.items; begun = c.self.inside.begun; keys = c.self.inside.keys } in
     for-objects (objects_of s handle) (λ o. IsStateMade (call_meaning m c.args.sign.begun o) c.args.sign.begun s.desk c.args.sign.state)
     (loader_of c.self.inside.desk handle ≡ Some (loader_for c.index.result.now))
     (subst (λ x. IsMadeBy m x c.args.sign) (sym c.self.view_is) c.requires)
@@ -31,7 +31,7 @@ pub drive-requires-clause-made : goal.drive-requires-clause-made
 drive-requires-clause-made g c = λ service found.
     let m = meanings_of g.P.ProvideCredential g.S.SignRequest in
     let handle = c.args.sign.begun.id.handle in
-    let s : SignerState g.row.P.Denot g.row.S.Denot g.row.P-Credential.Denot g.row.P-Ctx.Denot = record { desk = c.self.inside.desk; providers = c.self.inside.providers.items; contexts = c.self.inside.contexts.items; context_places = c.self.inside.context_places.items; begun = c.self.inside.begun } in
+    let s : SignerState g.row.P.Denot g.row.S.Denot g.row.P-Credential.Denot g.row.P-Ctx.Denot = record { desk = c.self.inside.desk; providers = c.self.inside.providers.items; contexts = c.self.inside.contexts.items; context_places = c.self.inside.context_places.items; begun = c.self.inside.begun; keys = c.self.inside.keys } in
     for-objects (objects_of s handle) (λ o. IsStateMade (call_meaning m c.args.sign.begun o) c.args.sign.begun s.desk c.args.sign.state)
     (IsStateMade (call_meaning m c.args.sign.begun (let q : Objects g.row.P.Denot g.row.S.Denot g.row.P-Ctx.Denot = record { providers = c.index.result.now; ctx = c.index-2.result.now; service = service } in q)) c.args.sign.begun c.self.inside.desk c.args.sign.state)
     (subst (λ x. IsMadeBy m x c.args.sign) (sym c.self.view_is) c.requires)
@@ -51,7 +51,7 @@ pub invariant_of-self : goal.invariant_of-self
 invariant_of-self g c =
     let m = meanings_of g.P.ProvideCredential g.S.SignRequest in
     let handle = c.args.sign.begun.id.handle in
-    let s : SignerState g.row.P.Denot g.row.S.Denot g.row.P-Credential.Denot g.row.P-Ctx.Denot = record { desk = c.self.inside.desk; providers = c.self.inside.providers.items; contexts = c.self.inside.contexts.items; context_places = c.self.inside.context_places.items; begun = c.self.inside.begun } in
+    let s : SignerState g.row.P.Denot g.row.S.Denot g.row.P-Credential.Denot g.row.P-Ctx.Denot = record { desk = c.self.inside.desk; providers = c.self.inside.providers.items; contexts = c.self.inside.contexts.items; context_places = c.self.inside.context_places.items; begun = c.self.inside.begun; keys = c.self.inside.keys } in
     for-objects (objects_of s handle) (λ o. IsStateMade (call_meaning m c.args.sign.begun o) c.args.sign.begun s.desk c.args.sign.state)
     (IsSigner (let x : SignerState g.row.P.Denot g.row.S.Denot g.row.P-Credential.Denot g.row.P-Ctx.Denot = record s { desk = c.drive.new.desk } in x))
     (subst (λ x. IsMadeBy m x c.args.sign) (sym c.self.view_is) c.requires)
@@ -64,7 +64,7 @@ pub returns-clause-poll : goal.returns-clause-poll
 returns-clause-poll g c = λ o is.
     let m = meanings_of g.P.ProvideCredential g.S.SignRequest in
     let handle = c.args.sign.begun.id.handle in
-    let s : SignerState g.row.P.Denot g.row.S.Denot g.row.P-Credential.Denot g.row.P-Ctx.Denot = record { desk = c.self.inside.desk; providers = c.self.inside.providers.items; contexts = c.self.inside.contexts.items; context_places = c.self.inside.context_places.items; begun = c.self.inside.begun } in
+    let s : SignerState g.row.P.Denot g.row.S.Denot g.row.P-Credential.Denot g.row.P-Ctx.Denot = record { desk = c.self.inside.desk; providers = c.self.inside.providers.items; contexts = c.self.inside.contexts.items; context_places = c.self.inside.context_places.items; begun = c.self.inside.begun; keys = c.self.inside.keys } in
     let policy = policy_of g.P.Credential.SigningCredential.valid g.P.Credential.SigningCredential.valid_at g.S.DeadlineRule.deadline in
     let h = has-objects s handle o (ap (λ x. objects_of x handle) c.self.view_is ∙ is) in
     let cache : c.unwrap-cache.result ≡ h.at.cache = cache-is _ h.at c.cache_of.result c.unwrap-cache.result h.handle_is c.cache_of.ensures c.unwrap-cache.ensures in
@@ -85,7 +85,7 @@ pub returns-clause-made : goal.returns-clause-made
 returns-clause-made g c =
     let m = meanings_of g.P.ProvideCredential g.S.SignRequest in
     let handle = c.args.sign.begun.id.handle in
-    let s : SignerState g.row.P.Denot g.row.S.Denot g.row.P-Credential.Denot g.row.P-Ctx.Denot = record { desk = c.self.inside.desk; providers = c.self.inside.providers.items; contexts = c.self.inside.contexts.items; context_places = c.self.inside.context_places.items; begun = c.self.inside.begun } in
+    let s : SignerState g.row.P.Denot g.row.S.Denot g.row.P-Credential.Denot g.row.P-Ctx.Denot = record { desk = c.self.inside.desk; providers = c.self.inside.providers.items; contexts = c.self.inside.contexts.items; context_places = c.self.inside.context_places.items; begun = c.self.inside.begun; keys = c.self.inside.keys } in
     for-objects (objects_of s handle) (λ o. IsStateMade (call_meaning m c.args.sign.begun o) c.args.sign.begun s.desk c.args.sign.state)
     (IsAnswerMadeBy m (record s { desk = c.drive.new.desk }) c.args.sign.begun.id c.drive.result.answer)
     (subst (λ x. IsMadeBy m x c.args.sign) (sym c.self.view_is) c.requires)
@@ -106,7 +106,7 @@ pub returns-clause-others : goal.returns-clause-others
 returns-clause-others g c = λ other apart made.
     let m = meanings_of g.P.ProvideCredential g.S.SignRequest in
     let handle = c.args.sign.begun.id.handle in
-    let s : SignerState g.row.P.Denot g.row.S.Denot g.row.P-Credential.Denot g.row.P-Ctx.Denot = record { desk = c.self.inside.desk; providers = c.self.inside.providers.items; contexts = c.self.inside.contexts.items; context_places = c.self.inside.context_places.items; begun = c.self.inside.begun } in
+    let s : SignerState g.row.P.Denot g.row.S.Denot g.row.P-Credential.Denot g.row.P-Ctx.Denot = record { desk = c.self.inside.desk; providers = c.self.inside.providers.items; contexts = c.self.inside.contexts.items; context_places = c.self.inside.context_places.items; begun = c.self.inside.begun; keys = c.self.inside.keys } in
     for-objects (objects_of s handle) (λ o. IsStateMade (call_meaning m c.args.sign.begun o) c.args.sign.begun s.desk c.args.sign.state)
     (IsMadeBy m (record s { desk = c.drive.new.desk }) other)
     (subst (λ x. IsMadeBy m x c.args.sign) (sym c.self.view_is) c.requires)
