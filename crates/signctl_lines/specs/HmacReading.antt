@@ -1,5 +1,5 @@
 -- What a line of `hmac` says: its grammar as a function.
-use Rattle.std.specs.Prelude.{ℕ, List, Option, Some, None, if◌then◌else◌, codes}
+use Rattle.std.specs.Prelude.{◌≡◌, ℕ, List, ◌∷◌, Option, Some, None, IsSome, if◌then◌else◌, codes}
 use Rattle.std.specs.Str.{bytes_eq}
 use Rattle.signctl_format.specs.Words.{is_silent, words}
 use Rattle.signctl_format.specs.Steps.{◌>>=◌, first_word, at_end_of_line}
@@ -26,6 +26,10 @@ call_named name =
     else (if bytes_eq name (codes "base64_hmac_sha1") then Some (of.Keyed Base64HmacSha1)
     else (if bytes_eq name (codes "base64_hmac_sha256") then Some (of.Keyed Base64HmacSha256)
     else None))))))))
+
+-- the first word of the line names a call
+abbrev pub NamesCall : List ℕ → Type 0
+NamesCall line = (name : List ℕ) × (rest : List (List ℕ)) × (words line ≡ name ∷ rest) × IsSome (call_named name)
 
 -- `NAME CONTENT`
 unfoldable pub unkeyed_form : UnkeyedCall → List (List ℕ) → Option HmacItem

@@ -1,7 +1,7 @@
 //! Reading a line of `hmac`: one function for each form, by the arguments of the call that it names.
-ghost use Rattle.std.specs.Prelude.{◌≡◌, IfOk};
-ghost use Rattle.signctl_format.specs.Readers.{words_after, Reads, Gives};
-ghost use Rattle.signctl_lines.specs.HmacReading.{call_named, unkeyed_form, keyed_form, decode_form, hmac_item_of};
+ghost use Rattle.std.specs.Prelude.{◌≡◌, IfOk, OnErr};
+ghost use Rattle.signctl_format.specs.Readers.{words_after, Reads, Gives, NeedsMemory};
+ghost use Rattle.signctl_lines.specs.HmacReading.{NamesCall, call_named, unkeyed_form, keyed_form, decode_form, hmac_item_of};
 
 use crate::bytes_word::{bytes, text};
 use crate::{HashCall, HmacItem, KeyedCall, UnkeyedCall};
@@ -12,9 +12,11 @@ use std::alloc::Global;
 
 /// The item that a line without its newline spells, None where it spells none.
 ///
-/// Nothing of the line is copied but what the item keeps.
+/// Nothing of the line is copied but what the item keeps, so only a line whose first word names a call can
+/// run out of memory.
 pub fn read_hmac_line(alloc: Global, line: &[u8]) -> Result<Option<HmacItem>, NoMemory<()>>
-    ensures { IfOk result (λ r. r ≡ hmac_item_of line.now) }
+    ensures item { IfOk result (λ r. r ≡ hmac_item_of line.now) }
+    ensures memory { OnErr result (NamesCall line.now) }
 {
     match item(alloc, line) {
         Ok(item) => Ok(Some(item)),
@@ -25,7 +27,8 @@ pub fn read_hmac_line(alloc: Global, line: &[u8]) -> Result<Option<HmacItem>, No
 
 #[tactic(auto, unfolding(crate::specs::HmacReading::hmac_item_of, crate::specs::HmacReading::hmac_words_say))]
 fn item(alloc: Global, line: &[u8]) -> Result<HmacItem, ReadError>
-    ensures { Gives (λ i. i) result (hmac_item_of line.now) }
+    ensures item { Gives (λ i. i) result (hmac_item_of line.now) }
+    ensures memory { NeedsMemory result (NamesCall line.now) }
 {
     if is_silent(line) {
         return Ok(HmacItem::Silent);
