@@ -19,3 +19,4 @@ pub mod Caches
 pub mod ProviderList
 pub mod LoadAnswer
 pub mod CallAt
+pub mod RefusalText

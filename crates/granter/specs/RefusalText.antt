@@ -1,35 +1,18 @@
--- The errors of refusals.
-use Rattle.std.specs.Prelude.{ℕ, ℤ, pos, int_div, List, [], ◌∷◌, ◌++◌, codes}
-use Rattle.std.specs.Fmt.{signed_decimal}
-use Rattle.sign_base.specs.Error.{ErrorParts, new_error}
-use Rattle.sign_base.specs.declared.error_kind.ErrorKind.TheVariants.{CredentialInvalid, RequestInvalid}
-
--- the line that names the type of the credentials
-abbrev pub type_line : List ℕ → List ℕ
-type_line name = codes "credential_type: " ++ name
-
--- the line that names a deadline, in whole seconds
-abbrev pub deadline_line : ℤ → List ℕ
-deadline_line deadline = codes "required_valid_until: " ++ signed_decimal (int_div deadline (pos 1000000000))
-
--- the line that names the moment of a check, in whole seconds
-abbrev pub check_line : ℤ → List ℕ
-check_line moment = codes "validated_at: " ++ signed_decimal (int_div moment (pos 1000000000))
+-- The errors of a granter's refusals.
+use Rattle.std.specs.Prelude.{ℕ, ℤ, List, codes}
+use Rattle.sign_base.specs.Error.{ErrorParts}
+use Rattle.desk_parts.specs.RefusalText.{credential_error, credential_error_with, moment_line}
 
 -- no provider has a source
 abbrev pub missing_error : List ℕ → ErrorParts
-missing_error name = record (new_error CredentialInvalid (codes "failed to load source credential")) { context = type_line name ∷ [] }
+missing_error name = credential_error (codes "failed to load source credential") name
 
 -- the loaded source does not last to the deadline
 abbrev pub short_error : List ℕ → ℤ → ErrorParts
 short_error name deadline =
-    record (new_error CredentialInvalid (codes "refreshed source credential expires before the granting deadline")) { context = type_line name ∷ deadline_line deadline ∷ [] }
-
--- the deadline is out of range
-abbrev pub range_error : List ℕ → ErrorParts
-range_error name = record (new_error RequestInvalid (codes "operation deadline is out of range")) { context = type_line name ∷ [] }
+    credential_error_with (codes "refreshed source credential expires before the granting deadline") name (moment_line (codes "required_valid_until") deadline)
 
 -- the granted credential is not valid at this moment
 abbrev pub stale_error : List ℕ → ℤ → ErrorParts
 stale_error name moment =
-    record (new_error CredentialInvalid (codes "granted credential is not currently usable")) { context = type_line name ∷ check_line moment ∷ [] }
+    credential_error_with (codes "granted credential is not currently usable") name (moment_line (codes "validated_at") moment)

@@ -11,7 +11,6 @@ mod granter_objects;
 mod handle_room;
 mod object_answer;
 mod refusal;
-mod refusal_error;
 mod step_call;
 mod step_reply;
 mod went;

@@ -2,9 +2,15 @@
 ghost use Rattle.std.specs.Prelude.{◌≡◌, IfOk, IfErr};
 ghost use Rattle.granter.specs.RefusalError.{error_of};
 
-use crate::refusal_error::{missing, range, short, stale};
+use desk_parts::{credential_refused, credential_refused_at, range_refused};
 use sign_base::{Error, NoMemory, Timestamp};
 use std::alloc::Global;
+
+const MISSING: &str = "failed to load source credential";
+
+const SHORT: &str = "refreshed source credential expires before the granting deadline";
+
+const STALE: &str = "granted credential is not currently usable";
 
 /// Why a call was refused.
 #[derive(Debug, Drop)]
@@ -33,19 +39,21 @@ impl GrantRefusal {
         ensures back { IfErr result (λ refused. refused.back ≡ self) }
     {
         match self {
-            GrantRefusal::Missing => match missing(alloc, name) {
+            GrantRefusal::Missing => match credential_refused(alloc, MISSING, name) {
                 Ok(e) => Ok(e),
                 Err(_) => Err(NoMemory {
                     back: GrantRefusal::Missing,
                 }),
             },
-            GrantRefusal::Short(deadline) => match short(alloc, name, deadline) {
-                Ok(e) => Ok(e),
-                Err(_) => Err(NoMemory {
-                    back: GrantRefusal::Short(deadline),
-                }),
-            },
-            GrantRefusal::Range => match range(alloc, name) {
+            GrantRefusal::Short(deadline) => {
+                match credential_refused_at(alloc, SHORT, name, "required_valid_until", deadline) {
+                    Ok(e) => Ok(e),
+                    Err(_) => Err(NoMemory {
+                        back: GrantRefusal::Short(deadline),
+                    }),
+                }
+            }
+            GrantRefusal::Range => match range_refused(alloc, name) {
                 Ok(e) => Ok(e),
                 Err(_) => Err(NoMemory {
                     back: GrantRefusal::Range,
@@ -53,12 +61,14 @@ impl GrantRefusal {
             },
             GrantRefusal::Loader(e) => Ok(e),
             GrantRefusal::Service(e) => Ok(e),
-            GrantRefusal::Stale(moment) => match stale(alloc, name, moment) {
-                Ok(e) => Ok(e),
-                Err(_) => Err(NoMemory {
-                    back: GrantRefusal::Stale(moment),
-                }),
-            },
+            GrantRefusal::Stale(moment) => {
+                match credential_refused_at(alloc, STALE, name, "validated_at", moment) {
+                    Ok(e) => Ok(e),
+                    Err(_) => Err(NoMemory {
+                        back: GrantRefusal::Stale(moment),
+                    }),
+                }
+            }
         }
     }
 }

@@ -7,7 +7,6 @@ mod drive_call;
 mod handle_room;
 mod object_answer;
 mod refusal;
-mod refusal_error;
 mod sign;
 mod sign_poll;
 mod signer;

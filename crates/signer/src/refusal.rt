@@ -2,9 +2,13 @@
 ghost use Rattle.std.specs.Prelude.{◌≡◌, IfOk, IfErr};
 ghost use Rattle.signer.specs.RefusalError.{error_of};
 
-use crate::refusal_error::{missing, range, short};
+use desk_parts::{credential_refused, credential_refused_at, range_refused};
 use sign_base::{Error, NoMemory, Timestamp};
 use std::alloc::Global;
+
+const MISSING: &str = "failed to load signing credential";
+
+const SHORT: &str = "refreshed signing credential expires before the requested operation deadline";
 
 /// Why a call was refused.
 #[derive(Debug, Drop)]
@@ -31,19 +35,21 @@ impl Refusal {
         ensures back { IfErr result (λ refused. refused.back ≡ self) }
     {
         match self {
-            Refusal::Missing => match missing(alloc, name) {
+            Refusal::Missing => match credential_refused(alloc, MISSING, name) {
                 Ok(e) => Ok(e),
                 Err(_) => Err(NoMemory {
                     back: Refusal::Missing,
                 }),
             },
-            Refusal::Short(deadline) => match short(alloc, name, deadline) {
-                Ok(e) => Ok(e),
-                Err(_) => Err(NoMemory {
-                    back: Refusal::Short(deadline),
-                }),
-            },
-            Refusal::Range => match range(alloc, name) {
+            Refusal::Short(deadline) => {
+                match credential_refused_at(alloc, SHORT, name, "required_valid_until", deadline) {
+                    Ok(e) => Ok(e),
+                    Err(_) => Err(NoMemory {
+                        back: Refusal::Short(deadline),
+                    }),
+                }
+            }
+            Refusal::Range => match range_refused(alloc, name) {
                 Ok(e) => Ok(e),
                 Err(_) => Err(NoMemory {
                     back: Refusal::Range,
