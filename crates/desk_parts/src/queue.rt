@@ -68,6 +68,16 @@ impl CallQueue {
         }
     }
 
+    /// The call that gets its turn where this call leaves, which stays as it is.
+    pub fn next_after(&self, call: CallId) -> Option<CallId>
+        ensures { result ≡ next_holder call self.now.line }
+    {
+        match self.lock.holder() {
+            Some(holder) if call == holder => self.lock.first(),
+            _ => None,
+        }
+    }
+
     /// A first poll by which the call takes its place, in the room that was taken for it.
     pub fn enter(&mut self, call: CallId)
         requires room { 0 < self.old.unpolled }

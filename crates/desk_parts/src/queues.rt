@@ -61,6 +61,14 @@ impl<K: SigningCredential, D: DeadlineRule<Credential = K>, H: Drop> Tables<K, D
         self.queues[cache as usize].is_held_by(call)
     }
 
+    /// The call that gets its turn where this call leaves the line of a cache.
+    pub fn next_after(&self, cache: u32, call: CallId) -> Option<CallId>
+        requires { cache < length self.now.queues }
+        ensures { result ≡ next_holder call (line_at cache self.now.queues) }
+    {
+        self.queues[cache as usize].next_after(call)
+    }
+
     /// Puts a call that is first polled into the line of its cache.
     pub fn enter(&mut self, cache: u32, call: CallId)
         requires there { cache < length self.old.queues }

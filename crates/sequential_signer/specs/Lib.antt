@@ -11,6 +11,7 @@ pub mod Wake
 pub mod ExpectedReply
 pub mod Legal
 pub mod LiveCall
+pub mod Clones
 pub mod GrantTranscript
 pub mod GrantSource
 pub mod ExpectedGrantReply

@@ -3,6 +3,7 @@
 #![tactic(auto)]
 
 pub mod event;
+mod event_clone;
 pub mod grant_event;
 pub mod grant_laws;
 

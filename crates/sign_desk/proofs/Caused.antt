@@ -25,6 +25,7 @@ use Rattle.desk_parts.specs.HoldProgress.{desk_lookup, desk_load}
 use Rattle.sign_desk.specs.HoldAction.{Hold, first_hold, waited_hold, loading_hold, hold_action}
 use Rattle.sign_desk.specs.Transition.{first_poll_action, later_poll_action, poll_action, load_action, provided_action, accept_action, signed_action, cancel_action, live_action, action_of, Transition}
 use Rattle.desk_parts.specs.HoldProgress.{with_answer}
+use Rattle.sign_desk.specs.Previews.{Previews}
 use Rattle.sign_desk.specs.Cause.{Cause, progress_cause, poll_cause, provided_cause, signed_cause, cause_of, IsCaused}
 use Rattle.desk_parts.specs.Cause.{DoesNotFit, MustWait, Proceeds, TakesMemory, live_cause}
 use Rattle.sign_desk.specs.Records.{CallRecord}
@@ -113,6 +114,16 @@ module _ {K D : Type 0} where
         (λ h r f. provided_caused (progress_cause (desk_load policy desk now (stored_view call h r) answer)) (load_action policy desk now answer (stored_view call h r)) (hold_caused (loading_hold desk (stored_view call h r)) (with_answer (stored_view call h r)) (desk_load policy desk now (stored_view call h r) answer)) r.stage)
     action_caused (Signed call answer) = live_caused call (λ view. signed_cause answer view.stage) (λ view. signed_action desk answer view view.stage) (λ h r f. signed_caused answer (stored_view call h r) r f r.stage)
     action_caused (Cancel call) = live_caused call (λ view. Proceeds) (λ view. cancel_action desk view view.stage) (λ h r f. cancel_caused (stored_view call h r) r.stage)
+
+  previewed : (cause : Cause) (action : Action K D) → HasCause cause action → (reply : Reply K) → Previews action reply → IsCaused cause reply
+  previewed cause (Leaves given) k reply h = rw h k
+  previewed cause (Does effect) k reply h = rw h k
+  previewed cause (Allocates effect) k reply (inl h) = rw h (k.0)
+  previewed cause (Allocates effect) k reply (inr h) = rw h (k.1)
+
+  -- what is previewed has its cause
+  pub previewed-caused : (policy : Policy K D) (event : Event K) (old : DeskState K D) (reply : Reply K) → Previews (action_of policy old event) reply → IsCaused (cause_of policy old event) reply
+  previewed-caused policy event old reply h = previewed (cause_of policy old event) (action_of policy old event) (action_caused policy old event) reply h
 
   -- what a step replies has its cause
   pub caused : (policy : Policy K D) (event : Event K) (old : DeskState K D) (reply : Reply K) (new : DeskState K D) → Transition policy event old reply new → IsCaused (cause_of policy old event) reply

@@ -14,3 +14,6 @@ pub mod NewDesk
 pub mod DeskInvariant
 pub mod OneStep
 pub mod RunLemmas
+pub mod LiveCounts
+pub mod ReplyKinds
+pub mod PreviewedStep

@@ -8,6 +8,9 @@ pub mod Action
 pub mod BeginAction
 pub mod HoldAction
 pub mod Transition
+pub mod Previews
+pub mod LiveCount
+pub mod ReplyKinds
 pub mod Cause
 pub mod Memory
 pub mod CachesAfter

@@ -10,7 +10,7 @@
 //!
 //! Contracts see a desk as the record `DeskState`, and compare it with the transcript of all events and
 //! replies by `Represents`: the desk replies what a signer would that serves one call at a time.
-ghost use Rattle.std.specs.Prelude.{◌≡◌, ◌<◌, ◌++◌, ◌∷◌, [], ℕ, List, IsOk, IsSome, true, not, OnOk, OnErr, IfOk, IfErr, length, option_map, option_and_then, option_copied, slice_get};
+ghost use Rattle.std.specs.Prelude.{◌≡◌, ◌<◌, ◌++◌, ◌∷◌, [], ℕ, List, IsOk, IsSome, true, not, OnOk, OnErr, IfOk, IfErr, length, IsTrue, option_map, option_and_then, option_copied, slice_get};
 
 use crate::state::State;
 use credentials::{DeadlineRule, SigningCredential};
@@ -44,6 +44,8 @@ impl<K: SigningCredential, D: DeadlineRule<Credential = K>> Desk<K, D> {
     ghost use Rattle.desk_parts.specs.Adding.{late_refusal, handle_refusal, AddAnswer, AddAnswerBack, with_rule, with_handle};
     ghost use Rattle.sign_desk.specs.DeskState.{with_cache};
     ghost use Rattle.sign_desk.specs.Change.{UnchangedBy};
+    ghost use Rattle.sign_desk.specs.LiveCount.{LiveAfter};
+    ghost use Rattle.sign_desk.specs.ReplyKinds.{is_reply_to};
     ghost use Rattle.sign_desk.specs.Cause.{cause_of, IsCaused};
     ghost use Rattle.sign_desk.specs.CachesAfter.{CachesAfter};
     ghost use Rattle.desk_parts.specs.Memory.{ClonesAreFree};
@@ -238,6 +240,11 @@ impl<K: SigningCredential, D: DeadlineRule<Credential = K>> Desk<K, D> {
         self.state.tables.handle_count() as u32
     }
 
+    /// The allocator of what the desk keeps.
+    pub fn alloc(&self) -> Global {
+        self.state.tables.alloc()
+    }
+
     /// The number of calls that were begun and are not over.
     pub fn live(&self) -> usize
         ensures { result ≡ length self.now.calls }
@@ -271,9 +278,23 @@ impl<K: SigningCredential, D: DeadlineRule<Credential = K>> Desk<K, D> {
         ensures caches { CachesAfter event.now result self.old self.new }
         ensures setup { setup_of self.new ≡ setup_of self.old }
         ensures unchanged { UnchangedBy result self.old self.new }
+        ensures live { LiveAfter result (length self.old.calls) (length self.new.calls) }
         ensures memory { ClonesAreFree K.clones_freely → RunsOutAtHeads event.now result }
     {
         self.advance(event)
+    }
+
+    /// The reply that a step would give now. Nothing changes.
+    ///
+    /// `OutOfMemory` is answered only where a step could answer it.
+    pub fn preview(&self, event: &Event<K>) -> Reply<K>
+        ensures expected { (entries : List (Entry K)) → Represents (policy_of K.valid K.valid_at D.deadline) self.now entries
+            → IsLegalEntry (policy_of K.valid K.valid_at D.deadline) (setup_of self.now) (committed_entries entries)
+            (record { event = event.now; reply = result }) }
+        ensures causes { IsCaused (cause_of (policy_of K.valid K.valid_at D.deadline) self.now event.now) result }
+        ensures kind { IsTrue (is_reply_to event.now result) }
+    {
+        self.state.preview(event)
     }
 
     /// The same step, by an event that is handed over: its head is moved, so a begin takes the room of the
@@ -293,6 +314,7 @@ impl<K: SigningCredential, D: DeadlineRule<Credential = K>> Desk<K, D> {
     pub fn advance(&mut self, event: &Event<K>) -> Reply<K>
         ensures step { IsStep (policy_of K.valid K.valid_at D.deadline) event.now self.old result self.new }
         ensures transition { Transition (policy_of K.valid K.valid_at D.deadline) event.now self.old result self.new }
+        ensures live { LiveAfter result (length self.old.calls) (length self.new.calls) }
         ensures memory { ClonesAreFree K.clones_freely → RunsOutAtHeads event.now result }
         ensures sound { StepPrecondition self.old }
         ensures numbered { (handle : ℕ) → IsSome (slice_get self.old.handles handle) → IsSome (slice_get self.old.greatest handle) }

@@ -5,6 +5,7 @@ mod desk;
 pub mod laws;
 mod load;
 mod poll;
+mod preview;
 mod replies;
 mod state;
 mod step;

@@ -1,9 +1,11 @@
-use Rattle.std.proofs.Common.{◌≡◌, ℕ, Option, Some, None, IsSome, option_map, slice_get, refl, sym, subst}
+use Rattle.std.proofs.Common.{◌≡◌, ℕ, Option, Some, None, IsSome, option_map, slice_get, length, refl, sym, subst}
 use Rattle.sequential_signer.specs.Policy.{policy_of}
 use Rattle.sign_desk.specs.DeskState.{DeskState}
 use Rattle.sign_desk.specs.StepPrecondition.{StepPrecondition}
+use Rattle.sign_desk.specs.LiveCount.{LiveAfter}
 use Rattle.sign_desk.specs.Steps.{IsStep}
 use Rattle.sign_desk.specs.Transition.{Transition}
+use Rattle.sign_desk.proofs.LiveCounts.{live-after}
 use Rattle.sign_desk.proofs.OneStep.{desk-sound, desk-after, is-step}
 use Rattle.sign_desk.proofs.desk.Desk.advance.Goals as goal
 
@@ -24,6 +26,12 @@ pub returns-clause-transition : goal.returns-clause-transition
 returns-clause-transition g c =
     let policy = policy_of g.K.SigningCredential.valid g.K.SigningCredential.valid_at g.D.DeadlineRule.deadline in
     subst (λ (k : DeskState g.row.K.Denot g.row.D.Denot). Transition policy c.args.event.now k c.step.result c.step.new.self) c.self.view_is c.step.ensures.done
+
+pub returns-clause-live : goal.returns-clause-live
+returns-clause-live g c =
+    let policy = policy_of g.K.SigningCredential.valid g.K.SigningCredential.valid_at g.D.DeadlineRule.deadline in
+    subst (λ (k : DeskState g.row.K.Denot g.row.D.Denot). LiveAfter c.step.result (length k.calls) (length c.step.new.self.calls)) c.self.view_is
+    (live-after policy c.self.inside.state c.step.result c.step.new.self c.args.event.now c.step.ensures.done)
 
 pub returns-clause-sound : goal.returns-clause-sound
 returns-clause-sound g c =

@@ -1,0 +1,219 @@
+//! The reply that an event would get, with nothing changed.
+ghost use Rattle.std.specs.Prelude.{◌≡◌, IsSome, IfOk, slice_get};
+
+use crate::state::State;
+use credentials::{DeadlineRule, SigningCredential};
+use desk_parts::{LiveCallView, Lookup, Stage};
+use sequential_signer::{Answer, Event, Loader, Reply, Verdict, Why};
+use sign_base::{Head, NoMemory, Timestamp};
+use std::alloc::Global;
+use wake_lock::CallId;
+
+impl<K: SigningCredential, D: DeadlineRule<Credential = K>> State<K, D> {
+    ghost use Rattle.wake_lock.specs.Calls.{is_first};
+    ghost use Rattle.sequential_signer.specs.Policy.{policy_of};
+    ghost use Rattle.sequential_signer.specs.declared.event.Event.TheVariants.{Poll, Provided, Signed, Cancel};
+    ghost use Rattle.sequential_signer.specs.declared.event.Answer.TheVariants.{Found};
+    ghost use Rattle.desk_parts.specs.Queue.{is_held_line, line_at};
+    ghost use Rattle.desk_parts.specs.Tables.{find_call};
+    ghost use Rattle.desk_parts.specs.Places.{HasPlaces};
+    ghost use Rattle.desk_parts.specs.HoldProgress.{desk_lookup, desk_load, next_load};
+    ghost use Rattle.desk_parts.specs.declared.call_record.Stage.TheVariants.{Loading};
+    ghost use Rattle.sign_desk.specs.StepPrecondition.{StepPrecondition, IsPlaced};
+    ghost use Rattle.sign_desk.specs.HoldAction.{hold_action, loading_hold};
+    ghost use Rattle.sign_desk.specs.Transition.{action_of, first_poll_action, later_poll_action, load_action, accept_action};
+    ghost use Rattle.sign_desk.specs.Previews.{Previews};
+
+    /// The reply to one event.
+    pub fn preview(&self, event: &Event<K>) -> Reply<K>
+        requires { StepPrecondition self.now }
+        ensures { Previews (action_of (policy_of K.valid K.valid_at D.deadline) self.now event.now) result }
+    {
+        match event {
+            Event::Begin { call, .. } => {
+                if self.tables.begin_fits(*call) {
+                    Reply::Begun
+                } else {
+                    Reply::NotNow
+                }
+            }
+            Event::Poll { call, now } => self.preview_poll(*call, *now),
+            Event::Provided { call, now, answer } => self.preview_provided(*call, *now, answer),
+            Event::Signed { call, answer } => self.preview_signed(*call, answer),
+            Event::Cancel { call } => self.preview_cancel(*call),
+        }
+    }
+
+    /// The reply to a poll.
+    fn preview_poll(&self, call: CallId, now: Timestamp) -> Reply<K>
+        requires { StepPrecondition self.now }
+        ensures { Previews (action_of (policy_of K.valid K.valid_at D.deadline) self.now (Poll call now)) result }
+    {
+        let Some(view) = self.find(call) else {
+            return Reply::NotNow;
+        };
+        match view.stage {
+            Stage::Unpolled => self.preview_first_poll(view, now),
+            Stage::Queued => self.preview_later_poll(view, now),
+            Stage::Loading | Stage::Signing => Reply::Pending,
+        }
+    }
+
+    /// The reply to a first poll.
+    fn preview_first_poll(&self, view: LiveCallView, now: Timestamp) -> Reply<K>
+        requires { IsPlaced self.now view }
+        ensures { Previews (first_poll_action self.now view (is_held_line (line_at view.cache self.now.queues))
+            (desk_lookup (policy_of K.valid K.valid_at D.deadline) self.now now view)) result }
+    {
+        if self.tables.is_held(view.cache) {
+            return Reply::Pending;
+        }
+        match self.tables.look(view, now) {
+            Lookup::OutOfMemory => Reply::OutOfMemory,
+            Lookup::Miss => Reply::Ask { provider: 0 },
+            Lookup::Hit(credential) => Reply::Sign {
+                credential,
+                wake: None,
+            },
+            Lookup::Refused(why) => Reply::Refused { why, wake: None },
+        }
+    }
+
+    /// The reply to a later poll of a call that waited.
+    fn preview_later_poll(&self, view: LiveCallView, now: Timestamp) -> Reply<K>
+        requires { IsPlaced self.now view }
+        ensures { Previews (later_poll_action self.now view (is_first view.call (line_at view.cache self.now.queues))
+            (desk_lookup (policy_of K.valid K.valid_at D.deadline) self.now now view)) result }
+    {
+        if !self.tables.is_held_by(view.cache, view.call) {
+            return Reply::Pending;
+        }
+        let wake = self.tables.next_after(view.cache, view.call);
+        match self.tables.look(view, now) {
+            Lookup::OutOfMemory => Reply::OutOfMemory,
+            Lookup::Miss => Reply::Ask { provider: 0 },
+            Lookup::Hit(credential) => Reply::Sign { credential, wake },
+            Lookup::Refused(why) => Reply::Refused { why, wake },
+        }
+    }
+
+    /// The reply to a provider's answer.
+    fn preview_provided(&self, call: CallId, now: Timestamp, answer: &Answer<K>) -> Reply<K>
+        requires { StepPrecondition self.now }
+        ensures { Previews (action_of (policy_of K.valid K.valid_at D.deadline) self.now (Provided call now answer.now)) result }
+    {
+        let Some(view) = self.find(call) else {
+            return Reply::NotNow;
+        };
+        match view.stage {
+            Stage::Loading => self.preview_load(view, now, answer),
+            Stage::Unpolled | Stage::Queued | Stage::Signing => Reply::NotNow,
+        }
+    }
+
+    /// The reply to a provider's answer to a call that loads.
+    fn preview_load(&self, view: LiveCallView, now: Timestamp, answer: &Answer<K>) -> Reply<K>
+        requires placed { IsPlaced self.now view }
+        requires loading { view.stage ≡ Loading }
+        ensures { Previews (load_action (policy_of K.valid K.valid_at D.deadline) self.now now answer.now view) result }
+    {
+        let view = self.tables.with_answer(view);
+        match answer {
+            Answer::Found(found) => self.preview_found(view, now, found),
+            Answer::Missing => self.preview_load_on(view, Why::Missing),
+            Answer::Failed(e) => self.preview_load_on(view, Why::Loader(*e)),
+        }
+    }
+
+    /// The reply to a credential that was found.
+    fn preview_found(&self, view: LiveCallView, now: Timestamp, found: &K) -> Reply<K>
+        requires { HasPlaces self.now view.cache view.rule }
+        ensures { Previews (hold_action (loading_hold self.now view) view
+            (desk_load (policy_of K.valid K.valid_at D.deadline) self.now now view (Found found.now))) result }
+    {
+        let wake = self.tables.next_after(view.cache, view.call);
+        if let Err(why) = self.tables.check(view, now, found) {
+            return Reply::Refused { why, wake };
+        }
+        match found.try_clone(self.tables.alloc()) {
+            Ok(credential) => Reply::Sign { credential, wake },
+            Err(_) => Reply::OutOfMemory,
+        }
+    }
+
+    /// The reply to an answer without a credential.
+    fn preview_load_on(&self, view: LiveCallView, single: Why) -> Reply<K>
+        requires { HasPlaces self.now view.cache view.rule }
+        ensures { Previews (hold_action (loading_hold self.now view) view
+            (next_load (slice_get self.now.loaders view.cache) view.answers single)) result }
+    {
+        let wake = self.tables.next_after(view.cache, view.call);
+        match self.tables.loader_at(view.cache) {
+            Loader::Single => Reply::Refused { why: single, wake },
+            Loader::Chain(n) if view.answers < n => Reply::Ask {
+                provider: view.answers,
+            },
+            Loader::Chain(_) => Reply::Refused {
+                why: Why::Missing,
+                wake,
+            },
+        }
+    }
+
+    /// The reply to a service's answer.
+    fn preview_signed(&self, call: CallId, answer: &Verdict) -> Reply<K>
+        requires { StepPrecondition self.now }
+        ensures { Previews (action_of (policy_of K.valid K.valid_at D.deadline) self.now (Signed call answer.now)) result }
+    {
+        let Some(view) = self.find(call) else {
+            return Reply::NotNow;
+        };
+        match (view.stage, answer) {
+            (Stage::Signing, Verdict::Accepted(candidate)) => self.preview_accept(call, candidate),
+            (Stage::Signing, Verdict::Failed(e)) => Reply::Refused {
+                why: Why::Service(*e),
+                wake: None,
+            },
+            (Stage::Unpolled | Stage::Queued | Stage::Loading, _) => Reply::NotNow,
+        }
+    }
+
+    /// The reply to an accepted head.
+    fn preview_accept(&self, call: CallId, candidate: &Head) -> Reply<K>
+        requires { IsSome (find_call call self.now.calls) }
+        ensures { Previews (accept_action self.now candidate.now (find_call call self.now.calls)) result }
+    {
+        let live = self.tables.record_of(call).unwrap();
+        match done_copy(self.tables.alloc(), &live.head, candidate) {
+            Ok(head) => Reply::Done { head },
+            Err(_) => Reply::OutOfMemory,
+        }
+    }
+
+    /// The reply to a cancel.
+    fn preview_cancel(&self, call: CallId) -> Reply<K>
+        requires { StepPrecondition self.now }
+        ensures { Previews (action_of (policy_of K.valid K.valid_at D.deadline) self.now (Cancel call)) result }
+    {
+        let Some(view) = self.find(call) else {
+            return Reply::NotNow;
+        };
+        let wake = match view.stage {
+            Stage::Queued | Stage::Loading => self.tables.next_after(view.cache, call),
+            Stage::Unpolled | Stage::Signing => None,
+        };
+        Reply::Cancelled { wake }
+    }
+}
+
+/// The begun head with the URI and the headers of an accepted one.
+fn done_copy(alloc: Global, begun: &Head, candidate: &Head) -> Result<Head, NoMemory<()>>
+    ensures { IfOk result (λ h. h ≡ record begun.now { uri = candidate.now.uri; headers = candidate.now.headers }) }
+{
+    Ok(Head {
+        method: begun.method.try_clone(alloc)?,
+        uri: candidate.uri.try_clone(alloc)?,
+        version: begun.version,
+        headers: candidate.headers.try_clone(alloc)?,
+    })
+}

@@ -1,0 +1,4 @@
+pub mod FreshBook
+pub mod OpenBegins
+pub mod ReceiptRoom
+pub mod Applying

@@ -1,0 +1,2 @@
+pub mod OpenBegins
+pub mod BookState
