@@ -6,7 +6,7 @@ use Rattle.signctl_driver.specs.Command.{Command}
 use Rattle.signctl_driver.specs.Run.{StopsEarly}
 use Rattle.signctl_driver.specs.declared.status.Status.{Status}
 use Rattle.signctl_core.specs.Commands.{Runs}
-use Rattle.signctl_core.specs.Load.{LoadAdds}
+use Rattle.signctl_script.specs.Load.{LoadAdds}
 use Rattle.signctl_core.specs.declared.commands.CommandName.TheVariants.{Load}
 
 pub nothing-consumed : (left : Option (List ℕ)) → Consumes left left []

@@ -9,8 +9,8 @@ use Rattle.signctl_lines.specs.HmacAnswers.{hmac_command}
 use Rattle.signctl_lines.specs.ViewAnswers.{view_command}
 use Rattle.signctl_format.specs.Words.{number_of}
 use Rattle.signctl_grant.specs.GrantOutput.{grant_command}
-use Rattle.signctl_core.specs.ScriptOutput.{script_command}
-use Rattle.signctl_core.specs.Load.{most_calls, LoadAdds}
+use Rattle.signctl_script.specs.ScriptOutput.{script_command}
+use Rattle.signctl_script.specs.Load.{most_calls, LoadAdds}
 use Rattle.signctl_core.specs.declared.commands.CommandName.{CommandName}
 use Rattle.signctl_core.specs.declared.commands.CommandName.TheVariants.{Script, Hmac, View, Grant, Load}
 

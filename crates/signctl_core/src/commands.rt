@@ -4,15 +4,17 @@ ghost use Rattle.sign_base.specs.Faults.{CountsFault};
 ghost use Rattle.signctl_driver.specs.Status.{is_read_fault, is_write_fault};
 ghost use Rattle.signctl_core.specs.Commands.{command_by_word, command_by_number, command_named, reads_source, Runs};
 
-use crate::load::{MOST_CALLS, run_load};
-use crate::session::Session;
 use sign_base::{Sink, Source};
 use sign_request::HeaderKeys;
 use signctl_driver::{Status, drive};
 use signctl_format::word::number;
 use signctl_grant::GrantSession;
 use signctl_lines::{HmacCommand, ViewCommand};
+use signctl_script::{Session, run_load};
 use std::alloc::Global;
+
+/// The most calls that `load` runs.
+const MOST_CALLS: u64 = 100_000;
 
 /// A command of the program.
 #[derive(Clone, Copy, Debug, PartialEq, Eq)]

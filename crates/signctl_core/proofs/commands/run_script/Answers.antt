@@ -1,6 +1,6 @@
 use Rattle.signctl_core.proofs.NothingRan.{nothing-consumed, nothing-appended, nothing-stops_early}
 use Rattle.std.proofs.Common.{[], arith}
-use Rattle.signctl_core.specs.ScriptOutput.{script_command}
+use Rattle.signctl_script.specs.ScriptOutput.{script_command}
 use Rattle.signctl_core.proofs.commands.run_script.Goals as goal
 
 pub returns-in-Err-clause-bytes : goal.returns-in-Err-clause-bytes
