@@ -20,15 +20,11 @@ item_in (Says item) = Some item
 unfoldable pub items_in : List ScriptLine → List ScriptItem
 items_in lines = filter_map item_in lines
 
--- the version that a first line makes
-abbrev pub version_by : ScriptLine → ScriptVersion
-version_by VersionTwo = Two
-version_by (Says item) = One
-
--- the version of a script, once it has a line
+-- the version of a script, which its first line makes
 abbrev pub version_after : List ScriptLine → Option ScriptVersion
 version_after [] = None
-version_after (first ∷ rest) = Some (version_by first)
+version_after (VersionTwo ∷ rest) = Some Two
+version_after (Says item ∷ rest) = Some One
 
 -- the version that a line is read in, behind these
 abbrev pub version_in : List ScriptLine → ScriptVersion
