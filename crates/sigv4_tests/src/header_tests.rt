@@ -1,9 +1,15 @@
-//! Signatures in headers: published examples, values from another implementation, refusals, and that
-//! each call succeeds with ample memory.
+//! Signatures in headers: published examples, values from another implementation, refusals, secrets
+//! in print, and that each call succeeds with ample memory.
 //!
-//! Values that are not published were computed by botocore 1.43 (`SigV4Auth`, with the host added and
-//! every header signed) for the same request.
+//! The values that AWS does not publish were computed by botocore 1.43: `SigV4Auth` at a fixed moment,
+//! with every header signed and, for an object store, the path as it stands.
+mod canonical_texts;
+mod calls;
+mod heads;
+mod inputs;
+mod moments;
 mod published;
+mod secrets;
 
 use sign_base::{Field, Fields, Head, Octets, Timestamp, Version};
 use sigv4_core::{Payload, SigCredential, SigError, SigScope, sign_head};
@@ -12,7 +18,11 @@ use std::process::Abort;
 
 type Headers<'a> = &'a [(&'a str, &'a str)];
 
+/// The digest of no bytes.
+const EMPTY: &str = "e3b0c44298fc1c149afbf4c8996fb92427ae41e4649b934ca495991b7852b855";
+
 /// Who signs, for what and when.
+#[derive(Drop)]
 struct Signing<'a> {
     access: &'a str,
     secret: &'a str,
@@ -21,6 +31,20 @@ struct Signing<'a> {
     /// Seconds after the start of 1970.
     second: i64,
 }
+
+/// 2015-08-30T12:36:00Z, the moment of the published test suite.
+const SUITE: Signing<'static> = Signing {
+    access: "AKIDEXAMPLE",
+    secret: "wJalrXUtnFEMI/K7MDENG+bPxRfiCYEXAMPLEKEY",
+    region: "us-east-1",
+    service: "service",
+    second: 1_440_938_160,
+};
+
+const IAM: Signing<'static> = Signing {
+    service: "iam",
+    ..SUITE
+};
 
 fn octets(rt: &impl Abort, alloc: Global, text: &str) -> Octets {
     Octets::from_slice(alloc, text.as_bytes()).expect(rt, "memory")
@@ -60,15 +84,32 @@ fn payload(rt: &impl Abort, alloc: Global, word: &str) -> Payload {
 }
 
 fn credential(rt: &impl Abort, alloc: Global, by: &Signing<'_>) -> SigCredential {
-    SigCredential::new(alloc, by.access.as_bytes(), by.secret.as_bytes(), None).expect(rt, "a credential")
+    let made = SigCredential::new(alloc, by.access.as_bytes(), by.secret.as_bytes(), None);
+    made.expect(rt, "a credential")
 }
 
 fn scope(rt: &impl Abort, alloc: Global, by: &Signing<'_>) -> SigScope {
-    SigScope::new(alloc, by.region.as_bytes(), by.service.as_bytes()).expect(rt, "a scope")
+    let made = SigScope::new(alloc, by.region.as_bytes(), by.service.as_bytes());
+    made.expect(rt, "a scope")
 }
 
 fn moment(rt: &impl Abort, alloc: Global, second: i64) -> Timestamp {
     Timestamp::from_second(alloc, second).expect(rt, "a moment")
+}
+
+/// A head signed at a moment, with this word for its payload.
+fn sign_at(
+    rt: &impl Abort,
+    alloc: Global,
+    by: &Signing<'_>,
+    head: &Head,
+    word: &str,
+    now: Timestamp,
+) -> Result<Head, SigError> {
+    let credential = credential(rt, alloc, by);
+    let scope = scope(rt, alloc, by);
+    let payload = payload(rt, alloc, word);
+    sign_head(alloc, head, &credential, &scope, &payload, now)
 }
 
 fn sign(
@@ -78,11 +119,8 @@ fn sign(
     head: &Head,
     word: &str,
 ) -> Result<Head, SigError> {
-    let credential = credential(rt, alloc, by);
-    let scope = scope(rt, alloc, by);
-    let payload = payload(rt, alloc, word);
     let now = moment(rt, alloc, by.second);
-    sign_head(alloc, head, &credential, &scope, &payload, now)
+    sign_at(rt, alloc, by, head, word, now)
 }
 
 fn push_text(rt: &impl Abort, text: &mut Vec<u8>, bytes: &[u8]) {
@@ -104,5 +142,13 @@ fn header_lines(rt: &impl Abort, alloc: Global, fields: &Fields) -> Vec<u8> {
 /// Whether the headers are these, a line each.
 fn has_headers(rt: &impl Abort, alloc: Global, head: &Head, lines: &str) {
     let text = header_lines(rt, alloc, &head.headers);
-    assert_eq!(rt; text.as_slice(), lines.as_bytes());
+    assert_eq!(rt; text.as_slice(), lines.as_bytes(), "{lines}");
+}
+
+/// Whether the last header, `authorization`, ends with these names and this signature.
+fn has_signature(rt: &impl Abort, alloc: Global, head: &Head, names: &str, signature: &str) {
+    let text = header_lines(rt, alloc, &head.headers);
+    let end = format!(in alloc; ", SignedHeaders={names}, Signature={signature}\n");
+    let end = end.expect(rt, "memory");
+    assert!(rt; text.as_slice().ends_with(end.as_bytes()), "{end}");
 }
