@@ -1,5 +1,7 @@
 //! When a signature is made.
-ghost use Rattle.std.specs.Prelude.{◌≡◌, ℤ, not};
+ghost use Rattle.std.specs.Prelude.{◌≡◌, ℤ};
+ghost use Rattle.std.specs.Bool.{OnFalse};
+ghost use Rattle.sign_base.specs.Calendar.{IsFourDigitYear};
 ghost use Rattle.sigv4_core.specs.SignedHead.{is_before_year_0};
 
 use sign_base::Timestamp;
@@ -31,7 +33,8 @@ impl Moment for FixedMoment {
 
 /// Whether the moment lies before the year 0, whose dates a signature cannot name.
 pub fn is_before_year_0(now: Timestamp) -> bool
-    ensures { result ≡ is_before_year_0 now }
+    ensures value { result ≡ is_before_year_0 now }
+    ensures year { OnFalse result (IsFourDigitYear now) }
 {
     now.as_nanos() < YEAR_0
 }

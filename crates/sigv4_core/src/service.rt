@@ -80,7 +80,7 @@ impl<X: Moment> SignRequest for SigService<X> {
     ghost ready = { λ service ctx work. ⊤ };
 
     ghost gives = { λ service ctx operation head outcome. GivesSigned
-      (signing_of operation.credential service.scope service.payload (X.moment_of ctx) head) head outcome };
+        (signing_of operation.credential service.scope service.payload (X.moment_of ctx) head) head outcome };
 
     fn sign_request(
         &self,

@@ -3,7 +3,7 @@ ghost use Rattle.std.specs.Prelude.{◌≡◌, IfOk, bytes_eq};
 ghost use Rattle.sign_base.specs.Calendar.{IsFourDigitYear};
 ghost use Rattle.sigv4_core.specs.Signature.{derived_key, date_of, signature_under};
 
-use crate::signature::{signature_under, signing_key};
+use crate::request_signature::{signature_under, signing_key};
 use crate::{SigCredential, SigScope};
 use sign_base::{NoMemory, Octets, Timestamp};
 use std::alloc::Global;

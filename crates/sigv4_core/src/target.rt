@@ -1,5 +1,5 @@
 //! The target of a head that is to be signed, and why there is none.
-ghost use Rattle.std.specs.Prelude.{◌≡◌, ◌≢◌, ◌⊎◌, ◌==◌, Ok, Err, [], IfOk, IfErr, unwrap_or};
+ghost use Rattle.std.specs.Prelude.{◌≡◌, ◌≢◌, ◌⊎◌, ◌==◌, Ok, Err, [], IfOk, IfErr, is_some, unwrap_or};
 ghost use Rattle.std.specs.List.{list_any};
 ghost use Rattle.http_uri.specs.Grammar.{path_of, query_of};
 ghost use Rattle.http_uri.specs.Uri.{uri_authority, uri_data};
@@ -31,13 +31,19 @@ pub fn target_to_sign(
         Ok(parts) => parts.uri,
         Err(e) => return Err(head_refused(&e)),
     };
-    if uri.authority().is_none() {
+    if !has_authority(&uri) {
         return Err(SigError::Authority);
     }
     if is_refused_path(scope, path_of(&uri)) {
         return Err(SigError::Path);
     }
     Ok(uri)
+}
+
+fn has_authority(uri: &Uri) -> bool
+    ensures { result ≡ is_some (uri_authority uri.now) }
+{
+    uri.authority().is_some()
 }
 
 /// The authority of a target, or the empty text.

@@ -3,8 +3,9 @@
 //!
 //! The values that AWS does not publish were computed by botocore 1.43: `SigV4Auth` at a fixed moment,
 //! with every header signed and, for an object store, the path as it stands.
-mod canonical_texts;
 mod calls;
+mod canonical_texts;
+mod environment;
 mod heads;
 mod inputs;
 mod moments;

@@ -1,7 +1,5 @@
 //! Each call that no other test makes succeeds with ample memory, and a derived key signs alike.
-use super::{
-    EMPTY, SUITE, credential, has_signature, head, moment, octets, payload, scope, sign,
-};
+use super::{EMPTY, SUITE, credential, has_signature, head, moment, octets, payload, scope, sign};
 use credentials::SigningCredential;
 use sign_base::{Head, Timestamp};
 use sign_request::HeaderKeys;
@@ -26,7 +24,9 @@ fn keys_of_maps_change_no_signature(rt: HostRuntime) {
     let alloc = rt.alloc();
     let credential = credential(&rt, alloc, &SUITE);
     let copy = credential.try_clone(alloc).expect(&rt, "memory");
-    let scope = scope(&rt, alloc, &SUITE).try_clone(alloc).expect(&rt, "memory");
+    let scope = scope(&rt, alloc, &SUITE)
+        .try_clone(alloc)
+        .expect(&rt, "memory");
     let now = moment(&rt, alloc, SUITE.second);
     let head = plain_head(&rt, alloc);
     let payload = payload(&rt, alloc, EMPTY);
@@ -42,7 +42,8 @@ fn a_request_is_signed_alone(rt: HostRuntime) {
     let alloc = rt.alloc();
     let now = moment(&rt, alloc, SUITE.second);
     assert!(rt; !is_before_year_0(now));
-    let request = "GET\n/\n\nhost:example.amazonaws.com\nx-amz-date:20150830T123600Z\n\nhost;x-amz-date\ne3b0c44298fc1c149afbf4c8996fb92427ae41e4649b934ca495991b7852b855";
+    let request =
+        "GET\n/\n\nhost:example.amazonaws.com\nx-amz-date:20150830T123600Z\n\nhost;x-amz-date\ne3b0c44298fc1c149afbf4c8996fb92427ae41e4649b934ca495991b7852b855";
     let made = signature(
         alloc,
         &credential(&rt, alloc, &SUITE),
@@ -86,7 +87,11 @@ fn a_key_is_derived_once_a_day(rt: HostRuntime) {
         (1_440_979_200, false),
     ] {
         let now = moment(&rt, alloc, second);
-        assert_eq!(rt; sign_with(&rt, alloc, &key, now).is_some(), of_the_day, "{second}");
+        assert_eq!(rt;
+            sign_with(&rt, alloc, &key, now).is_some(),
+            of_the_day,
+            "{second}"
+        );
     }
     let signed = sign_with(&rt, alloc, &key, moment(&rt, alloc, SUITE.second));
     let signed = signed.expect(&rt, "of the day");

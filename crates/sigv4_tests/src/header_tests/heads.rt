@@ -69,7 +69,12 @@ fn an_escape_is_signed_for_an_object_store(rt: HostRuntime) {
 }
 
 const REFUSED: [(&str, &str, Headers<'static>, SigError); 10] = [
-    ("GET", "https://iam.amazonaws.com/a%2Fb", &[], SigError::Path),
+    (
+        "GET",
+        "https://iam.amazonaws.com/a%2Fb",
+        &[],
+        SigError::Path,
+    ),
     ("GET", "https://iam.amazonaws.com/a%", &[], SigError::Path),
     ("GET", "/relative", &[], SigError::Authority),
     ("GET", "/relative%2F", &[], SigError::Authority),

@@ -25,7 +25,13 @@ fn credentials(rt: HostRuntime) {
     ] {
         match SigCredential::new(alloc, access.as_bytes(), secret.as_bytes(), None) {
             Ok(_) => assert!(rt; false, "{access}"),
-            Err(error) => is_error(&rt, alloc, &error, ErrorKind::CredentialInvalid, "invalid key"),
+            Err(error) => is_error(
+                &rt,
+                alloc,
+                &error,
+                ErrorKind::CredentialInvalid,
+                "invalid key",
+            ),
         }
     }
     assert!(rt; SigCredential::new(alloc, b"!~", b" ", None).is_ok());
@@ -44,7 +50,13 @@ fn scopes(rt: HostRuntime) {
     ] {
         match SigScope::new(alloc, region.as_bytes(), service.as_bytes()) {
             Ok(_) => assert!(rt; false, "{region} {service}"),
-            Err(error) => is_error(&rt, alloc, &error, ErrorKind::ConfigInvalid, "invalid scope"),
+            Err(error) => is_error(
+                &rt,
+                alloc,
+                &error,
+                ErrorKind::ConfigInvalid,
+                "invalid scope",
+            ),
         }
     }
     assert!(rt; SigScope::new(alloc, b"-", b"09-az").is_ok());
@@ -98,6 +110,8 @@ fn refusals_as_errors(rt: HostRuntime) {
         let error = why.into_error(alloc).expect(&rt, "memory");
         is_error(&rt, alloc, &error, ErrorKind::RequestInvalid, text);
     }
-    let error = SigError::OutOfMemory.into_error(alloc).expect(&rt, "memory");
+    let error = SigError::OutOfMemory
+        .into_error(alloc)
+        .expect(&rt, "memory");
     is_error(&rt, alloc, &error, ErrorKind::OutOfMemory, "");
 }

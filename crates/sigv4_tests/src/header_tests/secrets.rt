@@ -38,7 +38,11 @@ fn debug_forms(rt: HostRuntime) {
     assert!(rt; !is_before_year_0(now));
     hides(&rt, alloc, &credential);
     hides(&rt, alloc, &scope);
-    hides(&rt, alloc, &SigningKey::derive(alloc, &credential, &scope, now).expect(&rt, "memory"));
+    hides(
+        &rt,
+        alloc,
+        &SigningKey::derive(alloc, &credential, &scope, now).expect(&rt, "memory"),
+    );
 }
 
 #[test]

@@ -8,7 +8,7 @@ ghost use Rattle.sigv4_core.specs.SignedHead.{authorization, signed_with, signed
 use crate::canonical_request::canonical_texts;
 use crate::headers_to_sign::headers_to_sign;
 use crate::moment::is_before_year_0;
-use crate::signature::push_scope;
+use crate::request_signature::push_scope;
 use crate::target::{authority_of, path_of, query_of, target_to_sign};
 use crate::{Payload, SigCredential, SigError, SigScope, SigningKey};
 use http::uri::Uri;
@@ -108,7 +108,15 @@ fn signed_head(
         method: head.method.try_clone(alloc)?,
         uri: head.uri.try_clone(alloc)?,
         version: head.version,
-        headers: signed_with(alloc, head, uri, key, payload, now, Fields::from_vec(headers))?,
+        headers: signed_with(
+            alloc,
+            head,
+            uri,
+            key,
+            payload,
+            now,
+            Fields::from_vec(headers),
+        )?,
     })
 }
 
@@ -137,7 +145,13 @@ fn signed_with(
         payload.word(),
     )?;
     let signature = key.signature(alloc, now, texts.request.as_slice())?;
-    let value = authorization(alloc, key, now, texts.names.as_slice(), signature.as_slice())?;
+    let value = authorization(
+        alloc,
+        key,
+        now,
+        texts.names.as_slice(),
+        signature.as_slice(),
+    )?;
     let mut fields = headers.into_vec();
     fields.push(Field {
         name: Octets::from_slice(alloc, b"authorization")?,
