@@ -21,7 +21,7 @@ use Rattle.signctl_format.specs.declared.credential.ScriptRule.{ScriptRule}
 use Rattle.signctl_format.specs.declared.credential.ScriptRule.TheVariants.{Now}
 use Rattle.signctl_format.specs.Policy.{script_policy}
 use Rattle.signctl_format.specs.Words.{line_of}
-use Rattle.signctl_lines.specs.LineByLine.{with_newline}
+use Rattle.signctl_format.specs.Lines.{with_newline}
 use Rattle.signctl_core.specs.LoadRound.{calls_in_round, asking_events, accepting_events}
 use Rattle.signctl_core.specs.declared.load.counts.Counts.{Counts}
 

@@ -6,7 +6,7 @@ use Rattle.sequential_signer.specs.Legal.{expected_entries}
 use Rattle.sequential_signer.specs.declared.event.Entry.{Entry}
 use Rattle.signctl_driver.specs.Command.{Command}
 use Rattle.signctl_driver.specs.Lines.{Ending}
-pub use Rattle.signctl_lines.specs.LineByLine.{with_newline}
+pub use Rattle.signctl_format.specs.Lines.{with_newline}
 use Rattle.signctl_driver.specs.Output.{output}
 use Rattle.signctl_format.specs.declared.credential.ScriptCredential.{ScriptCredential}
 use Rattle.signctl_format.specs.declared.item.Item.TheVariants as item

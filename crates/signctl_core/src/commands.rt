@@ -9,6 +9,7 @@ use crate::session::Session;
 use sign_base::{Sink, Source};
 use sign_request::HeaderKeys;
 use signctl_driver::{Status, drive};
+use signctl_each_line::LineByLine;
 use signctl_format::word::number;
 use signctl_grant::GrantSession;
 use signctl_lines::{HmacCommand, ViewCommand};
@@ -81,8 +82,8 @@ pub(crate) fn run_keyed<S: Source, D: Sink>(
     match command_of(words) {
         None => Status::Usage,
         Some(CommandName::Script) => run_script(alloc, source, sink),
-        Some(CommandName::Hmac) => drive(alloc, HmacCommand, source, sink),
-        Some(CommandName::View) => drive(alloc, ViewCommand { keys }, source, sink),
+        Some(CommandName::Hmac) => drive(alloc, LineByLine(HmacCommand), source, sink),
+        Some(CommandName::View) => drive(alloc, LineByLine(ViewCommand { keys }), source, sink),
         Some(CommandName::Grant) => run_grant(alloc, source, sink),
         Some(CommandName::Load(calls)) => run_load(alloc, calls, sink),
     }

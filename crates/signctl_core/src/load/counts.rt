@@ -2,7 +2,7 @@
 ghost use Rattle.std.specs.Prelude.{◌≡◌, ◌++◌, ◌∷◌, [], OnOk, decimal};
 ghost use Rattle.sign_base.specs.Faults.{one_more};
 ghost use Rattle.signctl_format.specs.Words.{spaced_words};
-ghost use Rattle.signctl_lines.specs.LineByLine.{with_newline};
+ghost use Rattle.signctl_format.specs.Lines.{with_newline};
 ghost use Rattle.signctl_core.specs.Load.{counts_of, counts_line};
 ghost use Rattle.signctl_core.specs.LoadState.{with_reply};
 

@@ -1,5 +1,5 @@
 use Rattle.std.proofs.Common.{◌≡◌, ◌++◌, [], ℕ, List, ap, ◌∙◌, rules}
-use Rattle.signctl_lines.specs.LineByLine.{with_newline}
+use Rattle.signctl_format.specs.Lines.{with_newline}
 use Rattle.signctl_core.specs.Load.{counts_of, counts_line, load_transcript, load_output}
 use Rattle.signctl_core.specs.declared.load.counts.Counts.{Counts}
 use Rattle.signctl_core.proofs.LoadLengths.{transcript-fits}
