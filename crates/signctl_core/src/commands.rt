@@ -8,6 +8,7 @@ ghost use Rattle.signctl_core.specs.Commands.{command_by_word, command_by_number
 use sign_base::{NoMemory, Sink, Source};
 use sign_request::HeaderKeys;
 use signctl_driver::{LineCommand, Status, drive};
+use signctl_each_line::LineByLine;
 use signctl_format::word::number;
 use signctl_grant::GrantSession;
 use signctl_lines::{HmacCommand, ViewCommand};
@@ -45,8 +46,8 @@ pub fn run<S: Source, D: Sink>(
     match command_of(words) {
         None => Status::Usage,
         Some(CommandName::Script) => run_lines(alloc, Session::new(alloc), source, sink),
-        Some(CommandName::Hmac) => drive(alloc, HmacCommand, source, sink),
-        Some(CommandName::View) => drive(alloc, ViewCommand { keys }, source, sink),
+        Some(CommandName::Hmac) => drive(alloc, LineByLine(HmacCommand), source, sink),
+        Some(CommandName::View) => drive(alloc, LineByLine(ViewCommand { keys }), source, sink),
         Some(CommandName::Grant) => run_lines(alloc, GrantSession::new(alloc), source, sink),
         Some(CommandName::Load(calls)) => run_load(alloc, calls, sink),
     }

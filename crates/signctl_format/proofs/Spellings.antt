@@ -96,7 +96,8 @@ visible_time : (version : ScriptVersion) (limit : ℕ) (time : Duration) → lim
 visible_time One limit time wide fits = visible_number time.secs (omega (arith, fits.within))
 visible_time Two limit time wide fits = all_both is_visible (decimal time.secs) (fraction_word time.nanos) (visible_number time.secs (omega (arith, fits.within))) (visible_fraction time.nanos fits.below)
 
-visible_moment : (version : ScriptVersion) (t : ℤ) → IsLineMoment version t → is_visible_word (moment_word version t) ≡ true
+-- the word of a moment is visible
+pub visible_moment : (version : ScriptVersion) (t : ℤ) → IsLineMoment version t → is_visible_word (moment_word version t) ≡ true
 visible_moment version (pos n) fits = ap is_visible_word (moment_word-pos version n) ∙ visible_time version last_second (in_nanos n) (lit< tt) fits
 visible_moment version (negsuc n) fits = absurd fits
 

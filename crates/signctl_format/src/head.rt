@@ -139,9 +139,9 @@ fn first_colon(word: &[u8]) -> Option<usize>
     word.iter().position(|b| *b == b':')
 }
 
-/// The value that a word spells. A word with no escape is copied at once.
+/// The value of a header that a word spells. A word with no escape is copied at once.
 #[tactic(auto, using(crate::proofs::HeadWords::value_of_plain_word))]
-fn value(alloc: Global, word: &[u8]) -> Result<Octets, ReadError>
+pub fn value(alloc: Global, word: &[u8]) -> Result<Octets, ReadError>
     ensures { Gives (λ v. v) result (value_of word.now) }
 {
     if all_plain(word) {

@@ -11,6 +11,7 @@ use crate::escape::{Escaping, push_escaped};
 use crate::text::{push, push_word};
 use sign_base::{Field, Head, NoMemory, Version};
 
+/// Adds the words of a head, each after a space.
 pub fn push_head(text: &mut Vec<u8>, head: &Head) -> Result<(), NoMemory<()>>
     ensures ok { OnOk result (text.new.items ≡ text.old.items ++ spaced_words (head_words head.now)) }
     ensures err { OnErr result (RunsShort text.old text.new (spaced_words (head_words head.now))) }

@@ -7,7 +7,7 @@ mod byte;
 pub mod credential;
 pub mod escape;
 pub mod head;
-mod head_text;
+pub mod head_text;
 pub mod item;
 pub mod laws;
 pub mod line_error;

@@ -1,5 +1,5 @@
 -- What a line of `hmac` is answered: the digest that its call gives.
-use Rattle.std.specs.Prelude.{ℕ, List, [], Result, Ok, Err, codes}
+use Rattle.std.specs.Prelude.{ℕ, List, Option, Result, Ok, Err, codes}
 use Rattle.base64.specs.Engines.{standard}
 use Rattle.base64.specs.GeneralPurpose.{encode_of, decode_of}
 use Rattle.base64.specs.declared.decode.DecodeError.{DecodeError}
@@ -8,16 +8,17 @@ use Rattle.sha1.specs.Sha1.{sha1}
 use Rattle.sha2.specs.Sha256.{sha256}
 use Rattle.hmac_core.specs.Hmac.{hmac_of}
 use Rattle.signctl_driver.specs.Command.{Command}
+use Rattle.signctl_each_line.specs.LineByLine.{line_by_line}
+use Rattle.signctl_format.specs.Lines.{with_newline}
 use Rattle.signctl_format.specs.declared.line_error.LineError.{LineError}
 use Rattle.signctl_lines.specs.declared.hmac_item.HmacItem.{HmacItem}
-use Rattle.signctl_lines.specs.declared.hmac_item.HmacItem.TheVariants.{Silent, Unkeyed, Keyed, Base64Decode}
+use Rattle.signctl_lines.specs.declared.hmac_item.HmacItem.TheVariants.{Unkeyed, Keyed, Base64Decode}
 use Rattle.signctl_lines.specs.declared.hmac_item.KeyedCall.{KeyedCall}
 use Rattle.signctl_lines.specs.declared.hmac_item.KeyedCall.TheVariants.{HmacSha256, HexHmacSha1, HexHmacSha256, Base64HmacSha1, Base64HmacSha256}
 use Rattle.signctl_lines.specs.declared.hmac_item.UnkeyedCall.{UnkeyedCall}
 use Rattle.signctl_lines.specs.declared.hmac_item.UnkeyedCall.TheVariants.{Base64Encode, HexSha1, HexSha256}
 use Rattle.signctl_lines.specs.BytesWords.{text_word, hex_word}
 use Rattle.signctl_lines.specs.HmacReading.{hmac_item_of}
-use Rattle.signctl_lines.specs.LineByLine.{with_newline, line_by_line}
 
 -- the text that a call on bytes alone gives
 abbrev pub unkeyed_text : UnkeyedCall → List ℕ → List ℕ
@@ -40,11 +41,10 @@ decoded_word (Err why) = codes "refused"
 
 -- the answer to an item
 abbrev pub hmac_answer : HmacItem → List ℕ
-hmac_answer Silent = []
 hmac_answer (Unkeyed call content) = with_newline (text_word (unkeyed_text call content))
 hmac_answer (Keyed call key content) = with_newline (text_word (keyed_text call key content))
 hmac_answer (Base64Decode content) = with_newline (decoded_word (decode_of standard content))
 
 -- the command `hmac`
-abbrev pub hmac_command : Command HmacItem LineError
+abbrev pub hmac_command : Command (Option HmacItem) LineError
 hmac_command = line_by_line hmac_item_of hmac_answer

@@ -1,12 +1,12 @@
 -- What a line of `hmac` says: its grammar as a function.
 use Rattle.std.specs.Prelude.{◌≡◌, ℕ, List, ◌∷◌, Option, Some, None, IsSome, if◌then◌else◌, codes}
 use Rattle.std.specs.Str.{bytes_eq}
-use Rattle.signctl_format.specs.Words.{is_silent, words}
+use Rattle.signctl_format.specs.Words.{words}
 use Rattle.signctl_format.specs.Steps.{◌>>=◌, first_word, at_end_of_line}
 use Rattle.signctl_lines.specs.declared.hmac_item.HashCall.{HashCall}
 use Rattle.signctl_lines.specs.declared.hmac_item.HashCall.TheVariants as of
 use Rattle.signctl_lines.specs.declared.hmac_item.HmacItem.{HmacItem}
-use Rattle.signctl_lines.specs.declared.hmac_item.HmacItem.TheVariants.{Silent, Unkeyed, Keyed, Base64Decode}
+use Rattle.signctl_lines.specs.declared.hmac_item.HmacItem.TheVariants.{Unkeyed, Keyed, Base64Decode}
 use Rattle.signctl_lines.specs.declared.hmac_item.KeyedCall.{KeyedCall}
 use Rattle.signctl_lines.specs.declared.hmac_item.KeyedCall.TheVariants.{HmacSha256, HexHmacSha1, HexHmacSha256, Base64HmacSha1, Base64HmacSha256}
 use Rattle.signctl_lines.specs.declared.hmac_item.UnkeyedCall.{UnkeyedCall}
@@ -63,5 +63,5 @@ hmac_words_say words = do
   hmac_form call.0 call.1
 
 -- the item that a line spells, if it spells one
-unfoldable pub hmac_item_of : List ℕ → Option HmacItem
-hmac_item_of line = if is_silent line then Some Silent else hmac_words_say (words line)
+abbrev pub hmac_item_of : List ℕ → Option HmacItem
+hmac_item_of line = hmac_words_say (words line)

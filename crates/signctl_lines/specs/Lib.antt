@@ -1,7 +1,6 @@
 pub mod BytesWords
 pub mod HmacGrammar
 pub mod HmacReading
-pub mod LineByLine
 pub mod HmacAnswers
 pub mod ViewGrammar
 pub mod ViewAnswers

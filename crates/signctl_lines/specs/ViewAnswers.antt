@@ -1,18 +1,18 @@
 -- What a line of `view` is answered: what a service signs of its head, line by line.
-use Rattle.std.specs.Prelude.{ℕ, List, [], ◌∷◌, ◌++◌, Result, Ok, Err, map, flat_map, codes, decimal}
+use Rattle.std.specs.Prelude.{ℕ, List, [], ◌∷◌, ◌++◌, Option, Result, Ok, Err, map, flat_map, codes, decimal}
 use Rattle.sign_request.specs.PlainView.{PlainView, view_query, view_of}
 use Rattle.sign_request.specs.Query.{Pair, query_length}
 use Rattle.sign_request.specs.declared.head_view.ViewRefusal.{ViewRefusal}
 use Rattle.sign_request.specs.declared.head_view.ViewRefusal.TheVariants as refusal
+use Rattle.sign_base.specs.declared.head.Head.{Head}
 use Rattle.signctl_driver.specs.Command.{Command}
+use Rattle.signctl_each_line.specs.LineByLine.{line_by_line}
 use Rattle.signctl_format.specs.Bytes.{space, equals_sign}
 use Rattle.signctl_format.specs.Escapes.{with_escapes, is_plain, is_pair_plain}
+use Rattle.signctl_format.specs.Lines.{with_newline}
 use Rattle.signctl_format.specs.Words.{line_of}
 use Rattle.signctl_format.specs.declared.line_error.LineError.{LineError}
-use Rattle.signctl_lines.specs.declared.view_item.ViewItem.{ViewItem}
-use Rattle.signctl_lines.specs.declared.view_item.ViewItem.TheVariants as item
-use Rattle.signctl_lines.specs.LineByLine.{with_newline, line_by_line}
-use Rattle.signctl_lines.specs.ViewGrammar.{view_item_of}
+use Rattle.signctl_lines.specs.ViewGrammar.{head_of_line}
 
 -- a name, and a text after one space
 abbrev pub named_line : List ℕ → List ℕ → List ℕ
@@ -63,11 +63,10 @@ abbrev pub shown_lines : Result PlainView ViewRefusal → List (List ℕ)
 shown_lines (Ok view) = view_lines view
 shown_lines (Err why) = refusal_line why ∷ []
 
--- the answer to an item
-abbrev pub view_answer : ViewItem → List ℕ
-view_answer item.Silent = []
-view_answer (item.Head head) = flat_map with_newline (shown_lines (view_of head))
+-- the answer to a head
+abbrev pub view_answer : Head → List ℕ
+view_answer head = flat_map with_newline (shown_lines (view_of head))
 
 -- the command `view`
-abbrev pub view_command : Command ViewItem LineError
-view_command = line_by_line view_item_of view_answer
+abbrev pub view_command : Command (Option Head) LineError
+view_command = line_by_line head_of_line view_answer

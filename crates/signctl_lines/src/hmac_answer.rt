@@ -6,10 +6,10 @@ ghost use Rattle.std.specs.String.{string_bytes};
 ghost use Rattle.base64.specs.Engines.{standard};
 ghost use Rattle.base64.specs.GeneralPurpose.{decode_of};
 ghost use Rattle.signctl_format.specs.Bytes.{is_visible};
+ghost use Rattle.signctl_format.specs.Lines.{with_newline};
 ghost use Rattle.signctl_lines.specs.BytesWords.{text_word};
 ghost use Rattle.signctl_lines.specs.HmacGrammar.{IsHmacItem};
 ghost use Rattle.signctl_lines.specs.HmacAnswers.{unkeyed_text, keyed_text, decoded_word, hmac_answer};
-ghost use Rattle.signctl_lines.specs.LineByLine.{with_newline};
 
 use crate::{HmacItem, KeyedCall, UnkeyedCall};
 use hmac_core::hash;
@@ -27,7 +27,6 @@ pub(crate) fn push_answer(
     ensures { OnOk result (text.new.items ≡ text.old.items ++ hmac_answer item.now) }
 {
     match item {
-        HmacItem::Silent => Ok(()),
         HmacItem::Unkeyed { call, content } => {
             push_line(
                 text,

@@ -1,49 +1,35 @@
 //! The command `hmac`: digests of bytes, line by line.
-ghost use Rattle.signctl_lines.specs.HmacAnswers.{hmac_command};
+ghost use Rattle.signctl_lines.specs.HmacReading.{hmac_item_of};
+ghost use Rattle.signctl_lines.specs.HmacAnswers.{hmac_answer};
 
 use crate::hmac_answer::push_answer;
 use crate::{HmacItem, read_hmac_line};
 use sign_base::NoMemory;
-use signctl_driver::LineCommand;
-use signctl_format::LineError;
+use signctl_each_line::EachLine;
+use signctl_format::ReadError;
 use std::alloc::Global;
 
-/// The command `hmac`, which keeps nothing of the lines so far.
+/// The command `hmac`.
 #[derive(Clone, Copy, Debug)]
 pub struct HmacCommand;
 
-impl LineCommand for HmacCommand {
+impl EachLine for HmacCommand {
     type Item = HmacItem;
 
-    type Cause = LineError;
+    ghost item_of = { hmac_item_of };
 
-    ghost command = { hmac_command };
+    ghost answer_to = { hmac_answer };
 
-    ghost represents = { λ command items. Unit {0} };
-
-    fn read(
-        &self,
-        alloc: Global,
-        line: &[u8],
-    ) -> Result<Result<HmacItem, LineError>, NoMemory<()>> {
-        Ok(read_hmac_line(alloc, line)?.ok_or(LineError::NotUnderstood))
+    fn read(alloc: Global, line: &[u8]) -> Result<HmacItem, ReadError> {
+        read_hmac_line(alloc, line)
     }
 
     fn answer(
-        &mut self,
+        &self,
         alloc: Global,
-        item: HmacItem,
+        item: &HmacItem,
         text: &mut Vec<u8>,
     ) -> Result<(), NoMemory<()>> {
-        push_answer(alloc, &item, text)
-    }
-
-    fn push_cause(cause: LineError, text: &mut Vec<u8>) -> Result<(), NoMemory<()>> {
-        text.extend_from_slice(cause.as_str().as_bytes())?;
-        Ok(())
-    }
-
-    fn close(&self, _alloc: Global, _text: &mut Vec<u8>) -> Result<(), NoMemory<()>> {
-        Ok(())
+        push_answer(alloc, item, text)
     }
 }

@@ -27,11 +27,9 @@ pub enum HashCall {
     Base64Decode,
 }
 
-/// A good line.
+/// What a good line says: a call of `hash` with its arguments.
 #[derive(Debug, Drop)]
 pub enum HmacItem {
-    /// An empty line, or one that begins with `#`.
-    Silent,
     Unkeyed {
         call: UnkeyedCall,
         content: Octets,

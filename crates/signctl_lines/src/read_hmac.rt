@@ -1,38 +1,22 @@
 //! Reading a line of `hmac`: one function for each form, by the arguments of the call that it names.
-ghost use Rattle.std.specs.Prelude.{◌≡◌, IfOk, OnErr};
 ghost use Rattle.signctl_format.specs.Readers.{words_after, Reads, Gives, NeedsMemory};
 ghost use Rattle.signctl_lines.specs.HmacReading.{NamesCall, call_named, unkeyed_form, keyed_form, decode_form, hmac_item_of};
 
 use crate::bytes_word::{bytes, text};
 use crate::{HashCall, HmacItem, KeyedCall, UnkeyedCall};
-use sign_base::NoMemory;
 use signctl_format::read_error::{NotUnderstood, ReadError};
-use signctl_format::word::{at_end_of_line, is_silent, split_word, word_at};
+use signctl_format::word::{at_end_of_line, split_word, word_at};
 use std::alloc::Global;
 
-/// The item that a line without its newline spells, None where it spells none.
+/// The item that a line without its newline spells.
 ///
 /// Nothing of the line is copied but what the item keeps, so only a line whose first word names a call can
 /// run out of memory.
-pub fn read_hmac_line(alloc: Global, line: &[u8]) -> Result<Option<HmacItem>, NoMemory<()>>
-    ensures item { IfOk result (λ r. r ≡ hmac_item_of line.now) }
-    ensures memory { OnErr result (NamesCall line.now) }
-{
-    match item(alloc, line) {
-        Ok(item) => Ok(Some(item)),
-        Err(ReadError::NotUnderstood) => Ok(None),
-        Err(ReadError::OutOfMemory) => Err(NoMemory { back: () }),
-    }
-}
-
-#[tactic(auto, unfolding(crate::specs::HmacReading::hmac_item_of, crate::specs::HmacReading::hmac_words_say))]
-fn item(alloc: Global, line: &[u8]) -> Result<HmacItem, ReadError>
+#[tactic(auto, unfolding(crate::specs::HmacReading::hmac_words_say))]
+pub fn read_hmac_line(alloc: Global, line: &[u8]) -> Result<HmacItem, ReadError>
     ensures item { Gives (λ i. i) result (hmac_item_of line.now) }
     ensures memory { NeedsMemory result (NamesCall line.now) }
 {
-    if is_silent(line) {
-        return Ok(HmacItem::Silent);
-    }
     let (name, rest) = split_word(line);
     match call(name)? {
         HashCall::Unkeyed(call) => unkeyed(alloc, call, rest),

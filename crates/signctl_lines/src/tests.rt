@@ -1,11 +1,12 @@
 //! Lines of both commands with their answers, through the driver: whole inputs, and inputs that
 //! end at a bad line.
-ghost use Rattle.std.specs.Prelude.{[], ◌<◌};
+ghost use Rattle.std.specs.Prelude.{◌<◌};
 
 use super::*;
 use sign_base::{FaultySink, FaultySource};
 use sign_request::HeaderKeys;
-use signctl_driver::{LineCommand, Status, drive};
+use signctl_driver::{Status, drive};
+use signctl_each_line::{EachLine, LineByLine};
 use std::alloc::{AllocError, Global};
 use std::test::Fail;
 
@@ -135,19 +136,18 @@ const NO_VIEW: [&str; 6] = [
 
 /// What a command answers to some bytes, and how it ends, where the source gives, and the sink takes, at
 /// most this many bytes at a time.
-fn driven<C: LineCommand>(
+fn driven<C: EachLine>(
     alloc: Global,
     command: C,
     input: &str,
     piece: usize,
 ) -> Result<(FaultySink, Status), Fail>
-    requires new { C.represents command [] }
-    requires piece { 0 < piece }
+    requires { 0 < piece }
 {
     let bytes = Vec::from_slice(alloc, input.as_bytes())?;
     let mut source = FaultySource::new(bytes, piece, Vec::new(alloc));
     let mut sink = FaultySink::new(alloc, ROOM, piece, Vec::new(alloc)).map_err(|_| AllocError)?;
-    let status = drive(alloc, command, &mut source, &mut sink);
+    let status = drive(alloc, LineByLine(command), &mut source, &mut sink);
     Ok((sink, status))
 }
 

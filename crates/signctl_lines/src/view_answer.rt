@@ -3,34 +3,30 @@
 ghost use Rattle.std.specs.Prelude.{◌≡◌, ◌++◌, ◌∷◌, [], OnOk, codes, decimal, map, flat_map};
 ghost use Rattle.sign_request.specs.PlainView.{view_query};
 ghost use Rattle.sign_request.specs.Query.{text_pair, text_pairs};
+ghost use Rattle.signctl_format.specs.Lines.{with_newline};
 ghost use Rattle.signctl_format.specs.Words.{spaced_words, line_of};
-ghost use Rattle.signctl_lines.specs.LineByLine.{with_newline};
 ghost use Rattle.signctl_lines.specs.ViewAnswers.{named_line, target_lines, pair_word, pair_line, query_words, summary_lines, view_lines, refusal_line, view_answer};
 
-use crate::ViewItem;
 use sign_base::{Head, NoMemory};
 use sign_request::{HeadView, HeaderKeys, ViewRefusal};
 use signctl_format::escape::{Escaping, push_escaped};
 use signctl_format::text::{push, push_number, push_word};
 use std::alloc::Global;
 
-/// Adds the answer to an item.
+/// Adds the answer to a head.
 pub(crate) fn push_answer(
     alloc: Global,
     keys: HeaderKeys,
-    item: &ViewItem,
+    head: &Head,
     text: &mut Vec<u8>,
 ) -> Result<(), NoMemory<()>>
-    ensures { OnOk result (text.new.items ≡ text.old.items ++ view_answer item.now) }
+    ensures { OnOk result (text.new.items ≡ text.old.items ++ view_answer head.now) }
 {
-    match item {
-        ViewItem::Silent => Ok(()),
-        ViewItem::Head(head) => match HeadView::build_keyed(alloc, head, keys) {
-            Ok(view) => push_view(alloc, view, text),
-            Err(ViewRefusal::Head) => push_line(text, b"refused head"),
-            Err(ViewRefusal::Authority) => push_line(text, b"refused authority"),
-            Err(ViewRefusal::OutOfMemory) => Err(NoMemory { back: () }),
-        },
+    match HeadView::build_keyed(alloc, head, keys) {
+        Ok(view) => push_view(alloc, view, text),
+        Err(ViewRefusal::Head) => push_line(text, b"refused head"),
+        Err(ViewRefusal::Authority) => push_line(text, b"refused authority"),
+        Err(ViewRefusal::OutOfMemory) => Err(NoMemory { back: () }),
     }
 }
 

@@ -1,52 +1,34 @@
 //! The command `view`: what a service signs of a request head, line by line.
-ghost use Rattle.signctl_lines.specs.ViewAnswers.{view_command};
+ghost use Rattle.signctl_lines.specs.ViewGrammar.{head_of_line};
+ghost use Rattle.signctl_lines.specs.ViewAnswers.{view_answer};
 
 use crate::view_answer::push_answer;
-use crate::{ViewItem, read_view_line};
-use sign_base::NoMemory;
+use sign_base::{Head, NoMemory};
 use sign_request::HeaderKeys;
-use signctl_driver::LineCommand;
-use signctl_format::LineError;
+use signctl_each_line::EachLine;
+use signctl_format::ReadError;
+use signctl_format::head::head_line;
 use std::alloc::Global;
 
-/// The command `view`, which keeps nothing of the lines so far. The names of headers come from outside,
-/// so the maps that are made of them have these keys; no answer depends on them.
+/// The command `view`. The names of headers come from outside, so the maps that are made of them have these
+/// keys; no answer depends on them.
 #[derive(Clone, Copy, Debug)]
 pub struct ViewCommand {
     pub keys: HeaderKeys,
 }
 
-impl LineCommand for ViewCommand {
-    type Item = ViewItem;
+impl EachLine for ViewCommand {
+    type Item = Head;
 
-    type Cause = LineError;
+    ghost item_of = { head_of_line };
 
-    ghost command = { view_command };
+    ghost answer_to = { view_answer };
 
-    ghost represents = { λ command items. Unit {0} };
-
-    fn close(&self, _alloc: Global, _text: &mut Vec<u8>) -> Result<(), NoMemory<()>> {
-        Ok(())
+    fn read(alloc: Global, line: &[u8]) -> Result<Head, ReadError> {
+        head_line(alloc, line)
     }
 
-    fn read(
-        &self,
-        alloc: Global,
-        line: &[u8],
-    ) -> Result<Result<ViewItem, LineError>, NoMemory<()>> {
-        Ok(read_view_line(alloc, line)?.ok_or(LineError::NotUnderstood))
-    }
-
-    fn answer(
-        &mut self,
-        alloc: Global,
-        item: ViewItem,
-        text: &mut Vec<u8>,
-    ) -> Result<(), NoMemory<()>> {
-        push_answer(alloc, self.keys, &item, text)
-    }
-
-    fn push_cause(cause: LineError, text: &mut Vec<u8>) -> Result<(), NoMemory<()>> {
-        Ok(text.extend_from_slice(cause.as_str().as_bytes())?)
+    fn answer(&self, alloc: Global, head: &Head, text: &mut Vec<u8>) -> Result<(), NoMemory<()>> {
+        push_answer(alloc, self.keys, head, text)
     }
 }

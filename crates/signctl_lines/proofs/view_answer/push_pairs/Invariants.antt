@@ -1,6 +1,6 @@
 use Rattle.std.proofs.Common.{◌≡◌, ◌++◌, flat_map, map, take}
 use Rattle.sign_request.specs.Query.{text_pairs}
-use Rattle.signctl_lines.specs.LineByLine.{with_newline}
+use Rattle.signctl_format.specs.Lines.{with_newline}
 use Rattle.signctl_lines.specs.ViewAnswers.{pair_line}
 use Rattle.signctl_lines.proofs.view_answer.push_pairs.Given as goal
 
