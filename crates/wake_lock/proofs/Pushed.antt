@@ -1,5 +1,5 @@
 -- Where the waiters stand after one more came.
-use Rattle.std.proofs.Common.{◌≡◌, ℕ, ◌+◌, ◌-◌, ◌≤◌, ◌<◌, ◌^◌, cond, nat_lt, List, [], ◌∷◌, ◌++◌, Some, None, length, set, refl, sym, ap, subst, ◌∙◌, arith}
+use Rattle.std.proofs.Common.{◌≡◌, ℕ, ◌+◌, ◌-◌, ◌≤◌, ◌<◌, ◌^◌, cond, nat_lt, List, [], ◌∷◌, ◌++◌, Option, Some, None, length, set, refl, sym, ap, subst, ◌∙◌, arith}
 use Rattle.std.proofs.lemmas.List.{length-set, length-append, map-append}
 use Rattle.wake_lock.specs.declared.CallId.{CallId}
 use Rattle.wake_lock.specs.declared.slots.Slot.{Slot}
@@ -22,6 +22,17 @@ list_pushed list p call = record {
   free = (slot_at list.slots p).after;
   vacant = list.vacant - 1;
 }
+
+-- the parts that a push leaves are that list's
+pub list_pushed-is : (list : Inside) (p : ℕ) (call : CallId) (read : Slot) (written linked : List Slot) (head : Option ℕ)
+    → read ≡ slot_at list.slots p → written ≡ set list.slots p (record { id = call; before = list.tail; after = None })
+    → linked ≡ with_after written list.tail (Some p) → head ≡ end_with list.tail list.head (Some p)
+    → record { slots = linked; head = head; tail = Some p; free = read.after; vacant = list.vacant - 1 } ≡ list_pushed list p call
+list_pushed-is list p call read written linked head read_is written_is linked_is head_is =
+    let slot : Slot = record { id = call; before = list.tail; after = None } in
+    let all_is : linked ≡ with_after (set list.slots p slot) list.tail (Some p) =
+    linked_is ∙ ap (λ (w : List Slot). with_after w list.tail (Some p)) written_is in
+    λ i. record { slots = all_is i; head = head_is i; tail = Some p; free = (read_is i).after; vacant = list.vacant - 1 }
 
 -- what is known of the first vacant slot
 pub record IsFirstVacant (list : Inside) (p : ℕ) (waiting vacant : List ℕ) : Type 0 where

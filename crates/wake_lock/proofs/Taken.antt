@@ -1,5 +1,5 @@
 -- Where the waiters stand after one of them left.
-use Rattle.std.proofs.Common.{◌≡◌, ℕ, ◌+◌, ◌≤◌, ◌<◌, ◌^◌, cond, nat_lt, List, [], ◌∷◌, ◌++◌, Some, None, length, set, refl, sym, ap, subst, ◌∙◌, ⊎_elim, arith}
+use Rattle.std.proofs.Common.{◌≡◌, ℕ, ◌+◌, ◌≤◌, ◌<◌, ◌^◌, cond, nat_lt, List, [], ◌∷◌, ◌++◌, Option, Some, None, length, set, refl, sym, ap, subst, ◌∙◌, ⊎_elim, arith}
 use Rattle.std.proofs.lemmas.List.{length-set, length-append, map-append}
 use Rattle.std.proofs.lemmas.Bool.{cases_eq}
 use Rattle.wake_lock.specs.declared.CallId.{CallId}
@@ -31,6 +31,28 @@ list_taken list p = record {
   free = Some p;
   vacant = list.vacant + 1;
 }
+
+-- the parts that a taking leaves are that list's
+pub list_taken-is : (list : Inside) (p : ℕ) (slot : Slot) (linked past written : List Slot) (head tail : Option ℕ)
+    → slot ≡ slot_at list.slots p → linked ≡ with_after list.slots slot.before slot.after → head ≡ end_with slot.before list.head slot.after
+    → past ≡ with_before linked slot.after slot.before → tail ≡ end_with slot.after list.tail slot.before
+    → written ≡ set past p (record { id = slot.id; before = None; after = list.free })
+    → record { slots = written; head = head; tail = tail; free = Some p; vacant = list.vacant + 1 } ≡ list_taken list p
+list_taken-is list p slot linked past written head tail slot_is linked_is head_is past_is tail_is written_is =
+    let here : Slot = slot_at list.slots p in
+    let linked_all : linked ≡ with_after list.slots here.before here.after =
+    linked_is ∙ ap (λ (s : Slot). with_after list.slots s.before s.after) slot_is in
+    let past_all : past ≡ slots_past list.slots p =
+    past_is ∙ ap (λ (l : List Slot). with_before l slot.after slot.before) linked_all
+    ∙ ap (λ (s : Slot). with_before (with_after list.slots here.before here.after) s.after s.before) slot_is in
+    let written_all : written ≡ set (slots_past list.slots p) p (slot_left list p) =
+    written_is ∙ ap (λ (l : List Slot). set l p (record { id = slot.id; before = None; after = list.free })) past_all
+    ∙ ap (λ (s : Slot). set (slots_past list.slots p) p (record { id = s.id; before = None; after = list.free })) slot_is in
+    let head_all : head ≡ end_with here.before list.head here.after =
+    head_is ∙ ap (λ (s : Slot). end_with s.before list.head s.after) slot_is in
+    let tail_all : tail ≡ end_with here.after list.tail here.before =
+    tail_is ∙ ap (λ (s : Slot). end_with s.after list.tail s.before) slot_is in
+    λ i. record { slots = written_all i; head = head_all i; tail = tail_all i; free = Some p; vacant = list.vacant + 1 }
 
 length-slots_past : (slots : List Slot) (p : ℕ) → length (slots_past slots p) ≡ length slots
 length-slots_past slots p =

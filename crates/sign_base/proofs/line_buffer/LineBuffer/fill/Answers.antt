@@ -1,6 +1,6 @@
 use Rattle.std.proofs.Common.{◌≡◌, refl, ap, ◌∙◌}
 use Rattle.sign_base.specs.LineInput.{with_taken, NeedsRead}
-use Rattle.sign_base.proofs.TakingLemmas.{needed-first, takes-more}
+use Rattle.sign_base.proofs.TakingLemmas.{needed-first, takes-more, fills-at-end, fills-failed}
 use Rattle.sign_base.proofs.line_buffer.LineBuffer.fill.Goals as goal
 
 pub loop-self-preserved : goal.loop-self-preserved
@@ -14,6 +14,24 @@ loop-self-preserved g c =
       faults = c.in-Ok.ensures.faults ∙ c.loop-self.invariant.faults;
       still = λ ready. absurd (ready (needed-first _ _ _ _ c.loop-self.invariant.taken needs));
     }
+
+pub returns-in-Ok-eq0-clause-filled : goal.returns-in-Ok-eq0-clause-filled
+returns-in-Ok-eq0-clause-filled g c =
+    let now = c.loop-self.self.input in
+    let needs : NeedsRead now = c.loop-self-test.ensures.0 refl in
+    let piece = c.in-Ok-eq0.ensures.piece in
+    let new_is : c.read.new.self.input ≡ with_taken now piece.0 =
+    c.in-Ok-eq0.ensures.same ∙ ap (λ held. record now { held = held }) piece.1 in
+    fills-at-end c.args.self.now.input now c.read.new.self.input _ _ _ piece.0 c.loop-self.invariant.taken needs piece.3 new_is
+    (piece.2 ∙ c.in-Ok-eq0.field-0-test) (piece.4 c.in-Ok-eq0.field-0-test)
+
+pub returns-in-Err-clause-filled : goal.returns-in-Err-clause-filled
+returns-in-Err-clause-filled g c =
+    let now = c.loop-self.self.input in
+    let needs : NeedsRead now = c.loop-self-test.ensures.0 refl in
+    let piece = c.in-Err.ensures.piece in
+    let new_is : c.read.new.self.input ≡ now = c.in-Err.ensures.same ∙ ap (λ held. record now { held = held }) piece.0 in
+    fills-failed c.args.self.now.input now c.read.new.self.input _ _ _ c.loop-self.invariant.taken needs piece.1 new_is
 
 pub returns-in-Err-clause-still : goal.returns-in-Err-clause-still
 returns-in-Err-clause-still g c =

@@ -3,7 +3,7 @@ use Rattle.std.specs.Map.{lookup}
 use Rattle.wake_lock.specs.declared.CallId.{CallId}
 use Rattle.wake_lock.specs.Calls.{same_call, is_among, IsOnce}
 use Rattle.wake_lock.specs.Lock.{Lock, line, in_line, is_held_by, is_holder, IsLock}
-use Rattle.wake_lock.specs.declared.lock.Left.TheVariants.{Holder}
+use Rattle.wake_lock.specs.declared.lock.Left.TheVariants.{Holder, Waiter, Absent}
 use Rattle.wake_lock.specs.Links.{times}
 use Rattle.wake_lock.specs.WaitList.{calls_of, places_of, TakesOut}
 use Rattle.wake_lock.proofs.Lines.{lock-left, holder-leaves, waiter-leaves, absent-leaves}
@@ -61,6 +61,13 @@ absent-of call waiters now view none = ap (λ (l : List CallId). is_among call l
 present-of : (call : CallId) (waiters : List (CallId × ℕ)) (now : Lock) (place : ℕ) → calls_of waiters ≡ now.waiters → lookup (same_call call) waiters ≡ Some place → is_among call now.waiters ≡ true
 present-of call waiters now place view found = ap (λ (l : List CallId). is_among call l) (sym view) ∙ place-among call waiters (Some place) found
 
+-- the answers of a call that stood in the lock
+holder-stands : (next : Option CallId) → Holder next ≡ Absent → ⊥
+holder-stands next e = cc
+
+waiter-stands : Waiter ≡ Absent → ⊥
+waiter-stands e = cc
+
 pub returns-then-is_held_by-clause-does : goal.returns-then-is_held_by-clause-does
 returns-then-is_held_by-clause-does g c =
     let yes : is_held_by c.args.id c.args.self.now ≡ true = sym c.is_held_by.ensures.answer ∙ c.if-is_held_by.true in
@@ -70,7 +77,7 @@ returns-then-is_held_by-clause-does g c =
       holder = rw yes released.holder;
       waiters = rw yes released.waiters;
       line_is = released.line_is ∙ holder-leaves c.args.id c.args.self.now.holder c.args.self.now.waiters c.is_held_by.ensures.lock.once yes;
-      absent = λ e. absurd (cc);
+      absent = λ e. absurd (holder-stands _ e);
       lock = c.is_held_by.ensures.lock;
       spare = released.spare;
       spare_left = released.spare_left;
@@ -91,7 +98,7 @@ returns-in-None-clause-does g c =
       line_is = ap line c.self.view_is ∙ ap (in_line now.holder) (sym (absent-leaves id now.waiters out)) ∙ waiter-leaves id now.holder now.waiters no;
       absent = λ e. c.self.view_is;
       lock = c.is_held_by.ensures.lock;
-      spare = grind (arith, c.self.view_is);
+      spare = omega (arith, ap (λ (l : Lock). l.spare) c.self.view_is);
       spare_left = ap (λ (l : Lock). l.spare) c.self.view_is;
       slots = ap (λ (l : Lock). l.slots) c.self.view_is;
     }
@@ -113,9 +120,9 @@ returns-in-Some-clause-does g c =
       waiters = rw no (l.calls ∙ ap (λ (k : Lock). filter (λ other. not (same_call other id)) k.waiters) c.self.view_is);
       line_is = ap (in_line c.self.inside.holder) l.calls ∙ waiter-leaves id c.self.inside.holder (calls_of old) here
           ∙ ap (λ (k : Lock). filter (λ other. not (same_call other id)) (line k)) c.self.view_is;
-      absent = λ e. absurd (cc);
+      absent = λ e. absurd (waiter-stands e);
       lock = c.is_held_by.ensures.lock;
-      spare = grind (arith, c.self.view_is);
+      spare = omega (arith, ap (λ (l : Lock). l.spare) c.self.view_is);
       spare_left = ap (λ (k : Lock). k.spare) c.self.view_is;
       slots = omega (arith, l.count, ap (λ (k : Lock). k.slots) c.self.view_is);
     }

@@ -9,7 +9,7 @@ use Rattle.wake_lock.specs.WaitListView.{HasPlaces, IsWaitList, waiting_places, 
 use Rattle.wake_lock.proofs.Places.{times-append}
 use Rattle.wake_lock.proofs.Neighbours.{neighbours-on, length-with_after, length-with_before}
 use Rattle.wake_lock.proofs.WaitLists.{place-below, wait-list, waiting-found}
-use Rattle.wake_lock.proofs.Taken.{list_taken, waiter, taken, waiter-split, IsSplit, waiters-split, taken-waiters}
+use Rattle.wake_lock.proofs.Taken.{list_taken, list_taken-is, waiter, taken, waiter-split, IsSplit, waiters-split, taken-waiters}
 use Rattle.wake_lock.proofs.wait_list.WaitList.take.Goals as goal
 
 -- where the waiter stands
@@ -56,7 +56,10 @@ invariant_of-self g c =
     let place : ℕ = c.args.place in
     let split = split-of list c.args.self.now place c.self.invariant (ap (λ (w : Waiting). w.waiters) c.self.view_is) c.requires in
     let new : Inside = record { slots = c.write.new.self; head = c.link_after.new.head; tail = c.link_before.new.tail; free = Some place; vacant = list.vacant + 1 } in
-    let same : new ≡ list_taken list place = cc in
+    let same : new ≡ list_taken list place =
+    list_taken-is list place c.read-slot.result c.link_after.new.slots c.link_before.new.slots c.write.new.self c.link_after.new.head
+    c.link_before.new.tail c.read-slot.ensures.slot c.link_after.ensures.slots c.link_after.ensures.head
+    c.link_before.ensures.slots c.link_before.ensures.tail c.write.ensures.slots in
     subst IsWaitList (sym same) (wait-list (list_taken list place) (split.0 ++ split.1) (place ∷ vacant_places list) (taken list split.0 place split.1 (vacant_places list) split.2))
 
 pub returns-clause-waiters : goal.returns-clause-waiters
@@ -64,7 +67,10 @@ returns-clause-waiters g c = λ ahead waiting behind is at.
     let list : Inside = c.self.inside in
     let place : ℕ = c.args.place in
     let new : Inside = record { slots = c.write.new.self; head = c.link_after.new.head; tail = c.link_before.new.tail; free = Some place; vacant = list.vacant + 1 } in
-    let same : new ≡ list_taken list place = cc in
+    let same : new ≡ list_taken list place =
+    list_taken-is list place c.read-slot.result c.link_after.new.slots c.link_before.new.slots c.write.new.self c.link_after.new.head
+    c.link_before.new.tail c.read-slot.ensures.slot c.link_after.ensures.slots c.link_after.ensures.head
+    c.link_before.ensures.slots c.link_before.ensures.tail c.write.ensures.slots in
     let s : IsSplit list.slots (waiting_places list) ahead waiting behind =
     waiters-split list.slots (waiting_places list) ahead waiting behind (ap (λ (w : Waiting). w.waiters) c.self.view_is ∙ is) in
     let places : waiting_places list ≡ places_of ahead ++ place ∷ places_of behind = s.places_are ∙ ap (λ (x : ℕ). places_of ahead ++ x ∷ places_of behind) at in
