@@ -3,6 +3,7 @@ pub mod ChangedAt
 pub mod Leaves
 pub mod CallMap
 pub mod Views
+pub mod CausedBy
 pub mod IsSetUp
 pub mod BeginLemmas
 pub mod LiveRecord

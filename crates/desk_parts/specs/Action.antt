@@ -44,3 +44,9 @@ module _ {R K D Q H : Type 0} where
   PerformsOr lost (Leaves given) call old reply new = (reply ≡ given) × (new ≡ old)
   PerformsOr lost (Does effect) call old reply new = TakesEffect effect call reply new
   PerformsOr lost (Allocates effect) call old reply new = TakesEffect effect call reply new ⊎ ((reply ≡ lost) × (new ≡ old))
+
+  -- the reply of what would be done, or `lost` where that takes memory
+  abbrev pub PreviewsOr : R → ActionOn R K D Q H → R → Type 0
+  PreviewsOr lost (Leaves given) reply = reply ≡ given
+  PreviewsOr lost (Does effect) reply = reply ≡ effect.reply
+  PreviewsOr lost (Allocates effect) reply = (reply ≡ effect.reply) ⊎ (reply ≡ lost)

@@ -1,6 +1,5 @@
 -- Why a desk answers an event as it does.
-use Rattle.std.specs.Prelude.{Option, Some, None}
-use Rattle.desk_parts.specs.declared.tables.LiveCallView.{LiveCallView}
+use Rattle.desk_parts.specs.Action.{ActionOn, Leaves, Does, Allocates}
 
 -- what an event calls for, where a call is refused for one of these causes
 pub data CauseBy (W : Type 0) : Type 0 where
@@ -15,7 +14,8 @@ pub data CauseBy (W : Type 0) : Type 0 where
   -- its call is refused
   MustRefuse : W → CauseBy W
 
--- of an event at a live call; an event of no live call does not fit
-abbrev pub live_cause : {W : Type 0} → (LiveCallView → CauseBy W) → Option LiveCallView → CauseBy W
-live_cause cause None = DoesNotFit
-live_cause cause (Some view) = cause view
+-- the cause of what is done, by what a reply says of its call
+abbrev pub cause_by : {R W K D Q H : Type 0} → (R → CauseBy W) → ActionOn R K D Q H → CauseBy W
+cause_by said (Leaves reply) = said reply
+cause_by said (Does effect) = said effect.reply
+cause_by said (Allocates effect) = TakesMemory

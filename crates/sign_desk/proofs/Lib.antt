@@ -9,6 +9,7 @@ pub mod RefineLoad
 pub mod RefineEnd
 pub mod RefineStep
 pub mod StepPreconditionLemmas
+pub mod Actions
 pub mod Caused
 pub mod NewDesk
 pub mod DeskInvariant

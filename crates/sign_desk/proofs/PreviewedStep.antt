@@ -19,8 +19,6 @@ use Rattle.sequential_signer.specs.declared.event.Event.{Event}
 use Rattle.sequential_signer.specs.declared.event.Event.TheVariants.{Begin, Poll, Provided, Signed, Cancel}
 use Rattle.sequential_signer.specs.declared.event.Reply.{Reply}
 use Rattle.sequential_signer.specs.declared.event.Reply.TheVariants.{Begun, Pending, NotNow, OutOfMemory}
-use Rattle.sequential_signer.specs.declared.event.Verdict.{Verdict}
-use Rattle.sequential_signer.specs.declared.event.Verdict.TheVariants.{Accepted, Failed}
 use Rattle.sequential_signer.specs.ExpectedReply.{progress_reply, with_wake}
 use Rattle.sequential_signer.proofs.Lists.{list_any-more, or_true, not_true}
 use Rattle.sequential_signer.proofs.LegalStep.{LegalStep, not_now, begins, waits, pending, looks, takes_effect, accepts, fails, cancels}
@@ -28,24 +26,17 @@ use Rattle.sequential_signer.proofs.Run.{IsRun, start, more, legal_run}
 use Rattle.sequential_signer.proofs.CallInvariant.{CallInvariant, unpolled_call, queued_call, loading_call, signing_call}
 use Rattle.sequential_signer.proofs.CallInvariantSteps.{stands}
 use Rattle.sequential_signer.proofs.BegunCalls.{begun_once, begun_there, begun_calls-same, begun_calls-begun, filter-drops}
-use Rattle.desk_parts.specs.Action.{Leaves, Does, Allocates, TakesEffect}
-use Rattle.desk_parts.specs.Begin.{can_begin, new_record, with_begin}
+use Rattle.desk_parts.specs.Action.{Leaves, Does, Allocates}
 use Rattle.desk_parts.specs.Change.{ChangesOnlyCall, one_if}
-use Rattle.desk_parts.specs.HoldProgress.{desk_lookup, desk_load, with_answer}
-use Rattle.desk_parts.specs.LiveCallView.{find_view}
-use Rattle.desk_parts.specs.Queue.{is_held_line, line_at}
 use Rattle.desk_parts.specs.SetUp.{IsSetUp}
 use Rattle.desk_parts.specs.Tables.{setup_of, find_call}
 use Rattle.desk_parts.specs.declared.call_record.CallRecord.{CallRecord as Kept}
-use Rattle.desk_parts.specs.declared.call_record.Stage.{Stage}
-use Rattle.desk_parts.specs.declared.call_record.Stage.TheVariants as stage
-use Rattle.desk_parts.specs.declared.tables.LiveCallView.{LiveCallView}
-use Rattle.sign_desk.specs.Action.{Action, Effect, Performs}
+use Rattle.sign_desk.specs.Action.{Action, Performs}
 use Rattle.sign_desk.specs.DeskState.{DeskState, live_view, Represents}
-use Rattle.sign_desk.specs.HoldAction.{Hold, first_hold, waited_hold, loading_hold, hold_action}
 use Rattle.sign_desk.specs.Previews.{Previews}
 use Rattle.sign_desk.specs.Records.{CallRecord}
-use Rattle.sign_desk.specs.Transition.{first_poll_action, later_poll_action, poll_action, load_action, provided_action, accept_action, signed_action, cancel_action, live_action, action_of, Transition}
+use Rattle.sign_desk.specs.Transition.{action_of, Transition}
+use Rattle.sign_desk.proofs.Actions.{IsPlain, action-plain}
 use Rattle.sign_desk.proofs.Refine.{Refines}
 use Rattle.sign_desk.proofs.RefineStep.{refines-step, entry-legal}
 
@@ -270,20 +261,20 @@ module _ {K D : Type 0} (policy : Policy K D) (old : DeskState K D) (entries : L
   -- there is a desk where only this call changed
   changed : (base : DeskState K D) → base.calls ≡ old.calls → (call : CallId) (live : Option CallRecord) → (new : DeskState K D) × ChangesOnlyCall base call live new
   changed base same call live = (
-      record base { calls = with_record call live },
-      record {
-        loaders = refl;
-        rules = refl;
-        handles = refl;
-        caches = refl;
-        queues = refl;
-        greatest = refl;
-        started = refl;
-        this_call = this live;
-        other_calls = λ other apart. other_call live other apart ∙ ap (find_call other) (sym same);
-        count = rw same (count live);
-      },
-    )
+    record base { calls = with_record call live },
+    record {
+      loaders = refl;
+      rules = refl;
+      handles = refl;
+      caches = refl;
+      queues = refl;
+      greatest = refl;
+      started = refl;
+      this_call = this live;
+      other_calls = λ other apart. other_call live other apart ∙ ap (find_call other) (sym same);
+      count = rw same (count live);
+    },
+  )
     where
       this : (live : Option CallRecord) → find_call call (with_record call live) ≡ live
       this None = without-own call old.calls
@@ -297,87 +288,17 @@ module _ {K D : Type 0} (policy : Policy K D) (old : DeskState K D) (entries : L
       count None = let k = once_kept call in omega (arith, k)
       count (Some r) = let k = once_kept call in omega (arith, k)
 
-  -- what is done beside the call leaves the records
-  abbrev KeepsCalls : Action K D → Type 0
-  KeepsCalls (Leaves reply) = Unit {0}
-  KeepsCalls (Does effect) = effect.desk.calls ≡ old.calls
-  KeepsCalls (Allocates effect) = effect.desk.calls ≡ old.calls
-
   -- a reply that is previewed is the reply of a step
-  performed : (action : Action K D) (call : CallId) (reply : Reply K) → KeepsCalls action → Previews action reply → (new : DeskState K D) × Performs action call old reply new
+  performed : (action : Action K D) (call : CallId) (reply : Reply K) → IsPlain old call action → Previews action reply → (new : DeskState K D) × Performs action call old reply new
   performed (Leaves given) call reply k h = (old, (h, refl))
-  performed (Does effect) call reply k h = let s = changed effect.desk k call effect.live in (s.0, (h, s.1))
-  performed (Allocates effect) call reply k (inl h) = let s = changed effect.desk k call effect.live in (s.0, inl (h, s.1))
+  performed (Does effect) call reply k h = let s = changed effect.desk k.0 call effect.live in (s.0, (h, s.1))
+  performed (Allocates effect) call reply k (inl h) = let s = changed effect.desk k.0.0 call effect.live in (s.0, inl (h, s.1))
   performed (Allocates effect) call reply k (inr h) = (old, inr (h, refl))
-
-  hold_keeps : (hold : Hold K D) (view : LiveCallView) → hold.asking.calls ≡ old.calls → ((c : K) → (hold.signing c).calls ≡ old.calls) → hold.over.calls ≡ old.calls → (progress : Option (Progress K)) → KeepsCalls (hold_action hold view progress)
-  hold_keeps hold view a s o None = tt
-  hold_keeps hold view a s o (Some (Asking k)) = a
-  hold_keeps hold view a s o (Some (Over (HandOut c) left)) = s c
-  hold_keeps hold view a s o (Some (Over (Refuse why) left)) = o
-
-  poll_keeps : (now : ℤ) (view : LiveCallView) (s : Stage) → KeepsCalls (poll_action policy old now view s)
-  poll_keeps now view stage.Unpolled = by_held (is_held_line (line_at view.cache old.queues))
-    where
-      by_held : (b : Bool) → KeepsCalls (first_poll_action old view b (desk_lookup policy old now view))
-      by_held true = refl
-      by_held false = hold_keeps (first_hold old view) view refl (λ c. refl) refl (desk_lookup policy old now view)
-  poll_keeps now view stage.Queued = by_first (is_first view.call (line_at view.cache old.queues))
-    where
-      by_first : (b : Bool) → KeepsCalls (later_poll_action old view b (desk_lookup policy old now view))
-      by_first true = hold_keeps (waited_hold old view) view refl (λ c. refl) refl (desk_lookup policy old now view)
-      by_first false = tt
-  poll_keeps now view stage.Loading = tt
-  poll_keeps now view stage.Signing = tt
-
-  provided_keeps : (load : Action K D) → KeepsCalls load → (s : Stage) → KeepsCalls (provided_action load s)
-  provided_keeps load k stage.Loading = k
-  provided_keeps load k stage.Unpolled = tt
-  provided_keeps load k stage.Queued = tt
-  provided_keeps load k stage.Signing = tt
-
-  signed_keeps : (answer : Verdict) (view : LiveCallView) (s : Stage) → KeepsCalls (signed_action old answer view s)
-  signed_keeps (Accepted candidate) view stage.Signing = by_record (find_call view.call old.calls)
-    where
-      by_record : (o : Option CallRecord) → KeepsCalls (accept_action old candidate o)
-      by_record None = tt
-      by_record (Some r) = refl
-  signed_keeps (Failed e) view stage.Signing = refl
-  signed_keeps (Accepted candidate) view stage.Unpolled = tt
-  signed_keeps (Accepted candidate) view stage.Queued = tt
-  signed_keeps (Accepted candidate) view stage.Loading = tt
-  signed_keeps (Failed e) view stage.Unpolled = tt
-  signed_keeps (Failed e) view stage.Queued = tt
-  signed_keeps (Failed e) view stage.Loading = tt
-
-  cancel_keeps : (view : LiveCallView) (s : Stage) → KeepsCalls (cancel_action old view s)
-  cancel_keeps view stage.Unpolled = refl
-  cancel_keeps view stage.Queued = refl
-  cancel_keeps view stage.Loading = refl
-  cancel_keeps view stage.Signing = refl
-
-  live_keeps : (action : LiveCallView → Action K D) → ((view : LiveCallView) → KeepsCalls (action view)) → (o : Option LiveCallView) → KeepsCalls (live_action action o)
-  live_keeps action each None = tt
-  live_keeps action each (Some view) = each view
-
-  begin_keeps : (b : Bool) (call : CallId) (live : CallRecord) → KeepsCalls (cond b (Allocates (record { reply = Begun; desk = with_begin call old; live = Some live })) (Leaves NotNow))
-  begin_keeps true call live = refl
-  begin_keeps false call live = tt
-
-  action_keeps : (event : Event K) → KeepsCalls (action_of policy old event)
-  action_keeps (Begin call head expires_in) = begin_keeps (can_begin old call) call (new_record head expires_in)
-  action_keeps (Poll call now) = live_keeps (λ view. poll_action policy old now view view.stage) (λ view. poll_keeps now view view.stage) (find_view old call)
-  action_keeps (Provided call now answer) =
-      live_keeps (λ view. provided_action (load_action policy old now answer view) view.stage)
-      (λ view. provided_keeps (load_action policy old now answer view) (hold_keeps (loading_hold old view) (with_answer view) refl (λ c. refl) refl (desk_load policy old now view answer)) view.stage)
-      (find_view old call)
-  action_keeps (Signed call answer) = live_keeps (λ view. signed_action old answer view view.stage) (λ view. signed_keeps answer view view.stage) (find_view old call)
-  action_keeps (Cancel call) = live_keeps (λ view. cancel_action old view view.stage) (λ view. cancel_keeps view view.stage) (find_view old call)
 
 -- a reply that is previewed is the expected one, or out of memory at an event that allocates
 pub preview-legal : {K D : Type 0} (policy : Policy K D) (old : DeskState K D) → IsSetUp (setup_of old) → (event : Event K) (reply : Reply K) → Previews (action_of policy old event) reply
     → (entries : List (Entry K)) → Represents policy old entries → IsLegalEntry policy (setup_of old) (committed_entries entries) (record { event = event; reply = reply })
 preview-legal policy old set_up event reply h entries stood =
-    let s = performed policy old entries stood (action_of policy old event) (call_of event) reply (action_keeps policy old entries stood event) h in
+    let s = performed policy old entries stood (action_of policy old event) (call_of event) reply (action-plain old policy event) h in
     let at = refines-step policy old entries stood set_up reply s.0 event s.1 in
     entry-legal policy old s.0 entries (record { event = event; reply = reply }) at.setup at.represents

@@ -12,13 +12,15 @@ use Rattle.sequential_signer.specs.declared.event.Event.{Event}
 use Rattle.sequential_signer.specs.declared.event.Event.TheVariants.{Cancel}
 use Rattle.sequential_signer.specs.declared.event.Reply.{Reply}
 use Rattle.sequential_signer.specs.declared.event.Reply.TheVariants.{Begun, Pending, NotNow, OutOfMemory, Ask, Sign, Refused, Done, Cancelled}
-use Rattle.sequential_signer.specs.declared.event.Why.{Why}
 use Rattle.sequential_signer.proofs.Run.{expected_in_memory}
-use Rattle.desk_parts.specs.Cause.{live_cause, Proceeds}
+use Rattle.desk_parts.specs.Cause.{Proceeds, cause_by}
 use Rattle.desk_parts.specs.LiveCallView.{find_view}
+use Rattle.desk_parts.specs.declared.call_record.Stage.{Stage}
+use Rattle.desk_parts.specs.declared.call_record.Stage.TheVariants as stage
 use Rattle.desk_parts.specs.declared.tables.LiveCallView.{LiveCallView}
-use Rattle.sign_desk.specs.Cause.{Cause, cause_of, is_step, IsCaused}
+use Rattle.sign_desk.specs.Cause.{said_by, cause_of, is_step, IsCaused}
 use Rattle.sign_desk.specs.DeskState.{DeskState}
+use Rattle.sign_desk.specs.Transition.{cancel_action, live_action}
 use Rattle.sign_desk.specs.ReplyKinds.{is_reply_to}
 use Rattle.signer_shared.specs.OpenBegins.{is_cancelled}
 
@@ -48,14 +50,20 @@ module _ {K D : Type 0} (policy : Policy K D) where
   step_cancels call (Refused why wake) k s = cc
   step_cancels call (Done head) k s = cc
 
-  live_proceeds : (o : Option LiveCallView) → IsSome o → live_cause {W = Why} (λ view. Proceeds) o ≡ Proceeds
-  live_proceeds None s = cc
-  live_proceeds (Some view) s = refl
+  cancel_proceeds : (desk : DeskState K D) (view : LiveCallView) (s : Stage) → cause_by said_by (cancel_action desk view s) ≡ Proceeds
+  cancel_proceeds desk view stage.Unpolled = refl
+  cancel_proceeds desk view stage.Queued = refl
+  cancel_proceeds desk view stage.Loading = refl
+  cancel_proceeds desk view stage.Signing = refl
+
+  live_proceeds : (desk : DeskState K D) (o : Option LiveCallView) → IsSome o → cause_by said_by (live_action (λ view. cancel_action desk view view.stage) o) ≡ Proceeds
+  live_proceeds desk None s = cc
+  live_proceeds desk (Some view) s = cancel_proceeds desk view view.stage
 
   -- a live call is cancelled
   pub live-cancelled : (desk : DeskState K D) (event : Event K) (call : CallId) (reply : Reply K) → event ≡ Cancel call → IsSome (find_view desk call) → is_reply_to event reply ≡ true → IsCaused (cause_of policy desk event) reply → is_cancelled reply ≡ true
   live-cancelled desk event call reply is live kind caused =
-      let step : is_step reply ≡ true = subst (λ c. IsCaused c reply) (ap (cause_of policy desk) is ∙ live_proceeds (find_view desk call) live) caused in
+      let step : is_step reply ≡ true = subst (λ c. IsCaused c reply) (ap (cause_of policy desk) is ∙ live_proceeds desk (find_view desk call) live) caused in
       step_cancels call reply (ap (λ (x : Event K). is_reply_to x reply) (sym is) ∙ kind) step
 
   -- the entry that was kept before the step is the step's
