@@ -2,8 +2,8 @@ use Rattle.std.proofs.Common.{◌≡◌, ◌∙◌, ◌<◌, ◌+◌, ◌++◌, 
 use Rattle.std.proofs.lemmas.List.{take_more, length-append, length-take}
 use Rattle.sequential_signer.specs.declared.grant_event.GrantEvent.{GrantEvent}
 use Rattle.sequential_signer.specs.Policy.{policy_of}
-use Rattle.grant_desk.specs.GrantSteps.{IsGrantStep, paired_grants}
-use Rattle.grant_desk.proofs.GrantRunLemmas.{paired_grants-append, AreGrantSteps-more}
+use Rattle.grant_desk.specs.GrantSteps.{IsGrantStep, grant_entry_of, paired_grants}
+use Rattle.desk_parts.proofs.MoreSteps.{paired-append, steps-more}
 use Rattle.grant_desk.proofs.desk.GrantDesk.run.Goals as goal
 
 pub loop-event-preserved : goal.loop-event-preserved
@@ -25,9 +25,9 @@ loop-event-preserved g c =
       count = rw (c.push_reserved.ensures.items, length-append) (omega (arith, c.loop-event.invariant.count));
       room = omega arith;
       steps = rw (taken, c.push_reserved.ensures.items)
-          (AreGrantSteps-more policy (take c.loop-event.event-index c.args.events.now) c.loop-event.replies.items c.event-item.result c.step-reply.result c.args.self.now c.loop-event.self c.step-reply.new.self c.loop-event.invariant.steps step);
+          (steps-more (IsGrantStep policy) (take c.loop-event.event-index c.args.events.now) c.loop-event.replies.items c.event-item.result c.step-reply.result c.args.self.now c.loop-event.self c.step-reply.new.self c.loop-event.invariant.steps step);
       setup = c.step-reply.ensures.setup ∙ c.loop-event.invariant.setup;
       represents = λ entries stood.
-          rw (taken, c.push_reserved.ensures.items, sym (paired_grants-append entries (take c.loop-event.event-index c.args.events.now) c.loop-event.replies.items c.event-item.result c.step-reply.result count))
+          rw (taken, c.push_reserved.ensures.items, sym (paired-append grant_entry_of entries (take c.loop-event.event-index c.args.events.now) c.loop-event.replies.items c.event-item.result c.step-reply.result count))
           (c.step-reply.ensures.represents (entries ++ paired_grants (take c.loop-event.event-index c.args.events.now) c.loop-event.replies.items) (c.loop-event.invariant.represents entries stood));
     }
