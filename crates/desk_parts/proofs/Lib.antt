@@ -7,4 +7,8 @@ pub mod CausedBy
 pub mod IsSetUp
 pub mod BeginLemmas
 pub mod LiveRecord
+pub mod LiveCases
+pub mod OneChange
+pub mod LoadAsks
+pub mod MoreSteps
 pub mod AddAnswers

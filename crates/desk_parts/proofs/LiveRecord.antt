@@ -1,8 +1,8 @@
 -- What the record of a live call says of it.
-use Rattle.std.proofs.Common.{◌≡◌, ℕ, true, Option, Some, None, slice_get, refl, sym, ap}
+use Rattle.std.proofs.Common.{◌≡◌, ℕ, true, false, Option, Some, None, slice_get, refl, sym, ap}
 use Rattle.wake_lock.specs.declared.CallId.{CallId}
 use Rattle.sequential_signer.specs.Setup.{Handle}
-use Rattle.sequential_signer.specs.Phase.{Phase, Unknown, Unpolled, Queued, Loading, Signing, Ended, is_live}
+use Rattle.sequential_signer.specs.Phase.{Phase, Unknown, Unpolled, Queued, Loading, Signing, Ended, is_live, is_loading, is_signing}
 use Rattle.sequential_signer.specs.Hold.{BeginInput}
 use Rattle.sequential_signer.specs.LiveCall.{LiveCall, live_by}
 use Rattle.sequential_signer.specs.declared.event.Loader.{Loader}
@@ -17,6 +17,23 @@ stage_lives stage.Unpolled = refl
 stage_lives stage.Queued = refl
 stage_lives stage.Loading = refl
 stage_lives stage.Signing = refl
+
+-- a call that is not live neither loads nor signs
+pub not_loading : (p : Phase) → is_live p ≡ false → is_loading p ≡ false
+not_loading Loading h = absurd (cc)
+not_loading Unknown h = refl
+not_loading Unpolled h = refl
+not_loading Queued h = refl
+not_loading Signing h = refl
+not_loading Ended h = refl
+
+pub not_signing : (p : Phase) → is_live p ≡ false → is_signing p ≡ false
+not_signing Signing h = absurd (cc)
+not_signing Unknown h = refl
+not_signing Unpolled h = refl
+not_signing Queued h = refl
+not_signing Loading h = refl
+not_signing Ended h = refl
 
 -- what the transcript says of a call is what its record says: this phase, this number of answers, and this begin
 pub record RecordSays (l : LiveCall) (p : Phase) (n : ℕ) (b : Option BeginInput) : Type 0 where

@@ -16,6 +16,7 @@ pub mod IsCheck
 pub mod Memory
 pub mod Cause
 pub mod Caches
+pub mod StepsBy
 pub mod ProviderList
 pub mod LoadAnswer
 pub mod CallAt

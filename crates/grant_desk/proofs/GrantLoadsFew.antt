@@ -31,45 +31,14 @@ use Rattle.sequential_signer.proofs.GrantEntries.{grant_phase-other, grant_answe
 use Rattle.sequential_signer.proofs.GrantCalls.{GrantCallInvariant, unpolled_grant, grant_stands, run_grant_unpolled, run_grant_blank}
 use Rattle.sequential_signer.proofs.GrantSteps.{IsGrantRun, start, more, goes_on, GrantStep, misfits, begins, waits, takes_on, expected_is_step}
 use Rattle.desk_parts.specs.Places.{provider_count}
-
-below_true : (a b : ℕ) → nat_lt a b ≡ true → a < b
-below_true a b h = grind (arith, nat_tests)
-
-none_last : {A : Type 0} (xs : List A) → last_of xs ≡ None → length xs ≡ 0
-none_last [] h = refl
-none_last (x ∷ []) h = absurd (cc)
-none_last (x ∷ (y ∷ rest)) h = let e : length (y ∷ rest) ≡ 0 = none_last (y ∷ rest) h in absurd (omega (arith, e))
-
-module _ {K : Type 0} (cache : Option K) (k : ℕ) where
-  found_asks : (o : Outcome K) → Asking k ≡ found_progress o cache → ⊥
-  found_asks (HandOut c) h = cc
-  found_asks (Refuse cause) h = cc
-
-  chain_asks : (count n : ℕ) (b : Bool) → nat_lt count n ≡ b → Asking k ≡ cond b (Asking count) (Over (Refuse why.Missing) cache) → count < n
-  chain_asks count n true e h = below_true count n e
-  chain_asks count n false e h = absurd (cc)
-
-  -- a load asks only where there is one more provider
-  load_asks : (check : K → ℤ → Outcome K) (loader : Loader) (count : ℕ) (last : Option (Answer K × ℤ)) → (last ≡ None → count ≡ 0) → Asking k ≡ load_progress check loader cache count last → count < provider_count loader
-  load_asks check Single count None e h = let z : count ≡ 0 = e refl in omega (arith, z)
-  load_asks check Single count (Some (answered.Found c, now)) e h = absurd (found_asks (check c now) h)
-  load_asks check Single count (Some (answered.Missing, now)) e h = absurd (cc)
-  load_asks check Single count (Some (answered.Failed x, now)) e h = absurd (cc)
-  load_asks check (Chain n) count None e h = chain_asks count n (nat_lt count n) refl h
-  load_asks check (Chain n) count (Some (answered.Found c, now)) e h = absurd (found_asks (check c now) h)
-  load_asks check (Chain n) count (Some (answered.Missing, now)) e h = chain_asks count n (nat_lt count n) refl h
-  load_asks check (Chain n) count (Some (answered.Failed x, now)) e h = chain_asks count n (nat_lt count n) refl h
+use Rattle.desk_parts.proofs.LoadAsks.{load-asks, look-asks}
 
 module _ {K D : Type 0} (policy : Policy K D) (k : ℕ) (loader : Loader) where
   -- a look asks where the load after no answers does
   look_asks : (cache : Option K) (rule : Option D) (begin : Option BeginInput) (now : ℤ) → hold_progress policy cache (Some loader) (input_by rule begin (Some now) []) ≡ Some (Asking k) → 0 < provider_count loader
   look_asks cache None begin now h = absurd (cc)
   look_asks cache (Some rule) None now h = absurd (cc)
-  look_asks cache (Some rule) (Some begin) now h = by_look (cache_lookup policy cache rule begin.duration now) (cc)
-    where
-      by_look : (o : Option (Outcome K)) → Asking k ≡ after_lookup o cache (load_progress (check_refreshed policy rule begin.duration) loader cache 0 None) → 0 < provider_count loader
-      by_look (Some outcome) e = absurd (cc)
-      by_look None e = load_asks cache k (check_refreshed policy rule begin.duration) loader 0 None (λ _. refl) e
+  look_asks cache (Some rule) (Some begin) now h = look-asks cache k (check_refreshed policy rule begin.duration) loader [] (cache_lookup policy cache rule begin.duration now) (cc)
 
   -- and so does a load
   answers_ask : (rule : Option D) (begin : Option BeginInput) (answers : List (Answer K × ℤ)) → load_by policy (Some loader) rule begin answers ≡ Some (Asking k) → length answers < provider_count loader
@@ -77,7 +46,7 @@ module _ {K D : Type 0} (policy : Policy K D) (k : ℕ) (loader : Loader) where
   answers_ask (Some rule) None answers h = absurd (cc)
   answers_ask (Some rule) (Some begin) answers h =
       let e : Asking k ≡ call_load policy None loader rule begin.duration answers = cc in
-      load_asks None k (check_refreshed policy rule begin.duration) loader (length answers) (last_of answers) (none_last answers) e
+      load-asks None k (check_refreshed policy rule begin.duration) loader answers e
 
 -- a look or a load whose reply asks
 asks : {K : Type 0} (k : ℕ) (o : Option (Progress K)) → Ask k ≡ grant_progress_reply o → o ≡ Some (Asking k)

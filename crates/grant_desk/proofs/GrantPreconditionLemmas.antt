@@ -15,17 +15,13 @@ use Rattle.desk_parts.specs.Places.{provider_count}
 use Rattle.desk_parts.specs.SetUp.{IsSetUp}
 use Rattle.desk_parts.specs.Tables.{setup_of, find_call, phase_of_stage}
 use Rattle.desk_parts.specs.declared.call_record.Stage.TheVariants as stage
-use Rattle.desk_parts.proofs.ListPlaces.{place-below, place-there}
+use Rattle.desk_parts.proofs.ListPlaces.{place-there, mapped-below, if-some}
 use Rattle.desk_parts.proofs.LiveRecord.{RecordSays, record_says}
-use Rattle.desk_parts.proofs.Views.{find_view-no_record, find_view-no_handle, find_view-is}
+use Rattle.desk_parts.proofs.Views.{view-cases}
 use Rattle.grant_desk.specs.GrantDeskState.{GrantState, GrantRecord, granted_view, GrantRepresents}
 use Rattle.grant_desk.specs.GrantPlaces.{IsGrantPlaced, GrantPrecondition}
 use Rattle.grant_desk.proofs.GrantLoadsFew.{grant_loads_few}
 use Rattle.grant_desk.proofs.GrantRefine.{grants_ran}
-
-some_map : {A B : Type 0} (b : B) (o : Option A) → is_some o ≡ true → is_some (option_map (λ _. b) o) ≡ true
-some_map b None h = cc
-some_map b (Some x) h = refl
 
 module _ {K D : Type 0} (policy : Policy K D) (desk : GrantState K D) (entries : List (GrantEntry K)) (stood : GrantRepresents policy desk entries) (set_up : IsSetUp (setup_of desk)) where
   abbrev before : List (GrantEntry K)
@@ -39,13 +35,9 @@ module _ {K D : Type 0} (policy : Policy K D) (desk : GrantState K D) (entries :
     at = ap (option_map (λ (x : Handle). x.cache)) under
 
     few : r.stage ≡ stage.Loading → IfSome (slice_get desk.loaders h.cache) (λ loader. r.answers < provider_count loader)
-    few s = by_loader (slice_get desk.loaders h.cache) refl
-      where
-        by_loader : (o : Option Loader) → slice_get desk.loaders h.cache ≡ o → IfSome o (λ loader. r.answers < provider_count loader)
-        by_loader None e = tt
-        by_loader (Some loader) e =
-            subst (λ n. n < provider_count loader) recorded.answers
-            (grant_loads_few policy (setup_of desk) before (grants_ran policy desk entries stood) call h.cache at loader e (ap is_loading (recorded.phase ∙ ap phase_of_stage s)))
+    few s =
+        if-some (λ loader. r.answers < provider_count loader) (slice_get desk.loaders h.cache)
+        (λ loader e. subst (λ n. n < provider_count loader) recorded.answers (grant_loads_few policy (setup_of desk) before (grants_ran policy desk entries stood) call h.cache at loader e (ap is_loading (recorded.phase ∙ ap phase_of_stage s))))
 
     placed : (h.cache < length desk.loaders) × (h.rule < length desk.rules) → IsGrantPlaced desk (stored_view call h r)
     placed p =
@@ -53,22 +45,16 @@ module _ {K D : Type 0} (policy : Policy K D) (desk : GrantState K D) (entries :
         record {
           live = rw found refl;
           loader = p.0;
-          cached = place-below desk.caches h.cache (ap is_some (stood.caches h.cache) ∙ some_map (grant_source (setup_of desk) before h.cache) (slice_get desk.loaders h.cache) loader);
+          cached = mapped-below desk.caches h.cache (grant_source (setup_of desk) before h.cache) (slice_get desk.loaders h.cache) (stood.caches h.cache) loader;
           rules = p.1;
           few = few;
         }
 
   calls : (call : CallId) → IfSome (find_view desk call) (IsGrantPlaced desk)
-  calls call = by_view (slice_get desk.handles call.handle) refl (set_up.handles call.handle) (find_call call desk.calls) refl
-    where
-      by_view : (o : Option Handle) → slice_get desk.handles call.handle ≡ o → IfSome o (λ (x : Handle). (x.cache < length desk.loaders) × (x.rule < length desk.rules)) → (f : Option GrantRecord) → find_call call desk.calls ≡ f
-          → IfSome (find_view desk call) (IsGrantPlaced desk)
-      by_view None under p f found = rw (find_view-no_handle desk call under) tt
-      by_view (Some h) under p None found = rw (find_view-no_record desk call found) tt
-      by_view (Some h) under p (Some r) found = rw (find_view-is desk call h r under found) (placed call h under r found p)
+  calls call = view-cases desk call (λ v. IfSome v (IsGrantPlaced desk)) (λ _. tt) (λ _ _ _. tt) (λ h r under found. placed call h under r found (rw under at (set_up.handles call.handle)))
 
   numbers : (h : ℕ) → IsSome (slice_get desk.handles h) → h < length desk.greatest
-  numbers h s = place-below desk.greatest h (ap is_some (stood.greatest h) ∙ some_map (greatest_begun h (as_signer before)) (slice_get desk.handles h) s)
+  numbers h s = mapped-below desk.greatest h (greatest_begun h (as_signer before)) (slice_get desk.handles h) (stood.greatest h) s
 
   -- what a step relies on holds of a desk that represents a transcript
   pub grant-precondition : GrantPrecondition desk

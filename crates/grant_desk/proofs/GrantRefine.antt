@@ -20,10 +20,9 @@ use Rattle.sequential_signer.specs.declared.grant_event.GrantEvent.{GrantEvent}
 use Rattle.sequential_signer.specs.declared.grant_event.GrantEvent.TheVariants.{Provided}
 use Rattle.sequential_signer.specs.declared.grant_event.GrantReply.{GrantReply}
 use Rattle.sequential_signer.specs.declared.grant_event.GrantReply.TheVariants.{Begun, Pending, NotNow, OutOfMemory, Ask, Grant, Refused, Given, Cancelled}
-use Rattle.wake_lock.proofs.Calls.{same_call-eq, same_call-refl, same_call-comm}
-use Rattle.wake_lock.proofs.Truth.{same_number, other_number, number_comm, number_refl}
+use Rattle.wake_lock.proofs.Calls.{same_call-refl}
+use Rattle.wake_lock.proofs.Truth.{number_comm, number_refl}
 use Rattle.sequential_signer.proofs.Lists.{list_any-more, or_false}
-use Rattle.sequential_signer.proofs.Places.{slice_get-set_same, slice_get-set_other}
 use Rattle.sequential_signer.proofs.GrantEntries.{as_signer-more, grant_greatest-more, live_grant-other, phase_after-not_now, live_after-not_now}
 use Rattle.sequential_signer.proofs.GrantSteps.{IsGrantRun, legal_grant_run, legal_grant-more}
 use Rattle.sequential_signer.proofs.GrantBegun.{live_grants-same, live_grants-fewer}
@@ -32,7 +31,8 @@ use Rattle.sequential_signer.proofs.GrantRuns.{committed_grants-more, committed_
 use Rattle.sequential_signer.proofs.GrantSources.{source-elsewhere, source-kept, source-stored}
 use Rattle.desk_parts.specs.Change.{ChangesOnlyCall, one_if}
 use Rattle.desk_parts.specs.Tables.{setup_of, find_call, was_begun}
-use Rattle.desk_parts.proofs.ListPlaces.{place-there}
+use Rattle.desk_parts.proofs.ListPlaces.{stored-at}
+use Rattle.desk_parts.proofs.OneChange.{keeps-all, setup-same, caches-alike, live-counted, calls-after}
 use Rattle.grant_desk.specs.GrantDeskState.{GrantState, GrantRecord, granted_view, GrantRepresents}
 use Rattle.grant_desk.specs.GrantSteps.{SourcesAfter, GrantUnchangedBy}
 
@@ -56,11 +56,7 @@ module _ {K D : Type 0} where
 
   -- what is done to the caches is known by the caches alone
   sources_after-alike : (event : GrantEvent K) (reply : GrantReply K) (old base new : GrantState K D) → new.caches ≡ base.caches → SourcesAfter event reply old base → SourcesAfter event reply old new
-  sources_after-alike (Provided call now (Found c)) (Grant d) old base new h k = (k.0, caches_by (cache_of (setup_of old) call) k.1)
-    where
-      caches_by : (o : Option ℕ) → IsSomeAnd o (λ (i : ℕ). (i < length old.caches) × (base.caches ≡ slice_set old.caches i (Some c))) → IsSomeAnd o (λ (i : ℕ). (i < length old.caches) × (new.caches ≡ slice_set old.caches i (Some c)))
-      caches_by None x = absurd x
-      caches_by (Some i) x = (x.0, h ∙ x.1)
+  sources_after-alike (Provided call now (Found c)) (Grant d) old base new h k = (k.0, caches-alike call c old base new h k.1)
   sources_after-alike event reply old base new h k = h ∙ k
 
 module _ {K D : Type 0} (policy : Policy K D) where
@@ -93,12 +89,6 @@ module _ {K D : Type 0} (policy : Policy K D) where
     pub grants_ran : IsGrantRun policy (setup_of old) (committed_grants entries)
     grants_ran = legal_grant_run policy (setup_of old) entries stood.legal
 
-    setup_same : (new : GrantState K D) → new.loaders ≡ old.loaders → new.rules ≡ old.rules → new.handles ≡ old.handles → setup_of new ≡ setup_of old
-    setup_same new l r h = cc
-
-    count_by : (n m b a : ℕ) (kept was : ℕ) → n + was ≡ m + kept → m ≡ b → b + kept ≡ a + was → n ≡ a
-    count_by n m b a kept was h k l = omega arith
-
     -- an entry with the expected reply, where what is kept follows it
     module _ (e : GrantEntry K) (expected : e.reply ≡ expected_grant_reply policy (setup_of old) before e.event) (committed : is_out_of_memory (as_reply e.reply) ≡ false) where
       represents-more : (base new : GrantState K D) → GrantFollows old entries base e → (r : Option GrantRecord) → ChangesOnlyCall base (grant_call_of e.event) r new
@@ -106,26 +96,16 @@ module _ {K D : Type 0} (policy : Policy K D) where
           → length (live_calls (as_signer before)) + one_if r ≡ length (live_calls (as_signer (after e))) + one_if (find_call (grant_call_of e.event) old.calls)
           → GrantRepresents policy new (entries ++ e ∷ [])
       represents-more base new follows r changes own live =
-          let same : setup_of new ≡ setup_of old = setup_same new (changes.loaders ∙ follows.loaders) (changes.rules ∙ follows.rules) (changes.handles ∙ follows.handles) in
+          let same : setup_of new ≡ setup_of old = setup-same old new (changes.loaders ∙ follows.loaders) (changes.rules ∙ follows.rules) (changes.handles ∙ follows.handles) in
           let k : committed_grants (entries ++ e ∷ []) ≡ committed_grants entries ++ e ∷ [] = committed_grants-more entries e committed in
           record {
             legal = subst (λ s. IsLegalGrant policy s (entries ++ e ∷ [])) (sym same) (legal_grant-more policy (setup_of old) entries e stood.legal (inl expected));
             caches = λ i. rw (changes.loaders, changes.rules, changes.handles, changes.caches, follows.loaders, follows.rules, follows.handles, k) (follows.sources i);
             greatest = λ h. rw (changes.greatest, changes.handles, follows.handles, k) (follows.greatest h);
             started = rw (changes.started, k) follows.started;
-            calls = λ call. rw k (call_by call (same_call call (grant_call_of e.event)) refl);
-            live = rw k (count_by (length new.calls) (length base.calls) (length (live_calls (as_signer before))) (length (live_calls (as_signer (after e)))) (one_if r) (one_if (find_call (grant_call_of e.event) base.calls)) changes.count
-                (ap length follows.calls ∙ stood.live) (live ∙ ap (λ (c : List (CallId × GrantRecord)). length (live_calls (as_signer (after e))) + one_if (find_call (grant_call_of e.event) c)) (sym follows.calls)));
+            calls = λ call. rw k (calls-after old base new (grant_call_of e.event) r follows.calls changes granted_view (live_call (as_signer before)) (live_call (as_signer (after e))) stood.calls own (λ c s. live_grant-other before e c s) call);
+            live = rw k (live-counted old base new (grant_call_of e.event) r follows.calls changes (length (live_calls (as_signer before))) (length (live_calls (as_signer (after e)))) stood.live live);
           }
-        where
-          call_by : (call : CallId) (s : Bool) → same_call call (grant_call_of e.event) ≡ s → option_map granted_view (find_call call new.calls) ≡ live_call (as_signer (after e)) call
-          call_by call true s =
-              let here : call ≡ grant_call_of e.event = same_call-eq call (grant_call_of e.event) s in
-              rw here (ap (option_map granted_view) changes.this_call ∙ own)
-          call_by call false s =
-              ap (option_map granted_view) (changes.other_calls call (same_call-comm (grant_call_of e.event) call ∙ s) ∙ ap (find_call call) follows.calls)
-              ∙ stood.calls call
-              ∙ sym (live_grant-other before e call s)
 
       -- and the new desk is the old one after it
       pub grant_refines-more : is_not_now (as_reply e.reply) ≡ false → (base new : GrantState K D) → GrantFollows old entries base e → (r : Option GrantRecord) → ChangesOnlyCall base (grant_call_of e.event) r new
@@ -134,7 +114,7 @@ module _ {K D : Type 0} (policy : Policy K D) where
           → GrantRefines old entries e new
       grant_refines-more fits base new follows r changes own live = record {
         represents = represents-more base new follows r changes own live;
-        setup = setup_same new (changes.loaders ∙ follows.loaders) (changes.rules ∙ follows.rules) (changes.handles ∙ follows.handles);
+        setup = setup-same old new (changes.loaders ∙ follows.loaders) (changes.rules ∙ follows.rules) (changes.handles ∙ follows.handles);
         caches = sources_after-alike e.event e.reply old base new changes.caches follows.caches;
         unchanged = unchanged-effect e.reply old new committed fits;
       }
@@ -196,26 +176,11 @@ module _ {K D : Type 0} (policy : Policy K D) where
 
     -- the sources of the caches, where the entry stores a credential at its call's cache
     module _ (e : GrantEntry K) (c : K) (i : ℕ) (at : cache_of (setup_of old) (grant_call_of e.event) ≡ Some i) (stores : stored_by e.event e.reply ≡ Some c) (within : i < length old.caches) where
-      loaded : (o : Option Loader) → slice_get old.loaders i ≡ o → Some (Some c) ≡ option_map (λ _. Some c) o
-      loaded None l =
-          let some : is_some (slice_get old.caches i) ≡ true = place-there old.caches i within in
-          let none : slice_get old.caches i ≡ None = stood.caches i ∙ ap (option_map (λ _. grant_source (setup_of old) before i)) l in
-          absurd (cc)
-      loaded (Some loader) l = refl
-
       pub sources_stored : (j : ℕ) → slice_get (slice_set old.caches i (Some c)) j ≡ option_map (λ _. grant_source (setup_of old) (after e) j) (slice_get old.loaders j)
-      sources_stored j = by_number (i == j) refl
-        where
-          by_number : (b : Bool) → (i == j) ≡ b → slice_get (slice_set old.caches i (Some c)) j ≡ option_map (λ _. grant_source (setup_of old) (after e) j) (slice_get old.loaders j)
-          by_number true n =
-              subst (λ k. slice_get (slice_set old.caches i (Some c)) k ≡ option_map (λ _. grant_source (setup_of old) (after e) k) (slice_get old.loaders k)) (same_number i j n)
-              (slice_get-set_same old.caches i (Some c) (place-there old.caches i within)
-              ∙ loaded (slice_get old.loaders i) refl
-              ∙ ap (λ x. option_map (λ _. x) (slice_get old.loaders i)) (sym (source-stored (setup_of old) before e i c (ap (is_number i) at ∙ number_refl i) stores)))
-          by_number false n =
-              slice_get-set_other old.caches i j (Some c) (other_number i j n)
-              ∙ stood.caches j
-              ∙ ap (λ x. option_map (λ _. x) (slice_get old.loaders j)) (sym (source-elsewhere (setup_of old) before e j (ap (is_number j) at ∙ number_comm j i ∙ n)))
+      sources_stored =
+          stored-at old.caches old.loaders (grant_source (setup_of old) before) (grant_source (setup_of old) (after e)) i c stood.caches within
+          (source-stored (setup_of old) before e i c (ap (is_number i) at ∙ number_refl i) stores)
+          (λ j n. source-elsewhere (setup_of old) before e j (ap (is_number j) at ∙ number_comm j i ∙ n))
 
     -- as many calls are live, where the entry's call stays live
     pub grants_stay : (e : GrantEntry K) (r s : GrantRecord) → is_begun (as_reply e.reply) ≡ false → is_live (grant_phase_of before (grant_call_of e.event)) ≡ is_live (grant_phase_of (after e) (grant_call_of e.event)) → find_call (grant_call_of e.event) old.calls ≡ Some r
@@ -230,10 +195,6 @@ module _ {K D : Type 0} (policy : Policy K D) where
         let fewer : length (live_calls (as_signer before)) ≡ length (live_calls (as_signer (after e))) + 1 = live_grants-fewer policy (setup_of old) before e grants_ran b lives ended in
         rw f (omega (arith, fewer))
 
-    -- a desk changes no call where it stays as it is
-    pub keeps_grants : (call : CallId) → ChangesOnlyCall old call (find_call call old.calls) old
-    keeps_grants call = record { loaders = refl; rules = refl; handles = refl; caches = refl; queues = refl; greatest = refl; started = refl; this_call = refl; other_calls = λ _ _. refl; count = refl }
-
     -- an event that does not fit changes nothing
     pub grant_refines-not_now : (event : GrantEvent K) → expected_grant_reply policy (setup_of old) before event ≡ NotNow → GrantRefines old entries (record { event = event; reply = NotNow }) old
     grant_refines-not_now event expected =
@@ -242,7 +203,7 @@ module _ {K D : Type 0} (policy : Policy K D) where
         let p : is_live (grant_phase_of before (grant_call_of event)) ≡ is_live (grant_phase_of (after (record { event = event; reply = NotNow })) (grant_call_of event)) = ap is_live (sym (phase_after-not_now before event (grant_call_of event) own)) in
         let l : live_calls (as_signer (after (record { event = event; reply = NotNow }))) ≡ live_calls (as_signer before) = live_grants-same policy (setup_of old) before e refl p in
         record {
-          represents = represents-more e (sym expected) refl old old (grant_follows-same e refl refl) (find_call (grant_call_of event) old.calls) (keeps_grants (grant_call_of event))
+          represents = represents-more e (sym expected) refl old old (grant_follows-same e refl refl) (find_call (grant_call_of event) old.calls) (keeps-all old (grant_call_of event))
               (stood.calls (grant_call_of event) ∙ sym (live_after-not_now before event (grant_call_of event) own))
               (ap (λ (xs : List CallId). length xs + one_if (find_call (grant_call_of event) old.calls)) (sym l));
           setup = refl;

@@ -33,6 +33,7 @@ use Rattle.desk_parts.specs.LiveCallView.{stored_view}
 use Rattle.desk_parts.specs.Tables.{setup_of, phase_of_stage}
 use Rattle.desk_parts.specs.declared.call_record.Stage.{Stage}
 use Rattle.desk_parts.specs.declared.call_record.Stage.TheVariants as stage
+use Rattle.desk_parts.proofs.OneChange.{caches-stored}
 use Rattle.desk_parts.proofs.LiveRecord.{Lives}
 use Rattle.grant_desk.specs.GrantAction.{GrantPerforms, grant_load_action, grant_provided_action}
 use Rattle.grant_desk.specs.GrantDeskState.{GrantState, GrantRecord, GrantRepresents}
@@ -93,10 +94,7 @@ module _ {K D : Type 0} (policy : Policy K D) (old : GrantState K D) (entries : 
     stores c =
         let e : GrantEntry K = record { event = Provided call now (Found c); reply = Grant c } in
         let within : h.cache < length old.caches = slice_get_within old.caches h.cache _ (grant_cached policy old entries stood call h r lives) in
-        grant_follows-cached policy old entries stood e (slice_set old.caches h.cache (Some c)) refl (refl, caches_by (cache_of (setup_of old) call) at) (sources_stored policy old entries stood e c h.cache at refl within)
-      where
-        caches_by : (o : Option ℕ) → o ≡ Some h.cache → IsSomeAnd o (λ (i : ℕ). (i < length old.caches) × (slice_set old.caches h.cache (Some c) ≡ slice_set old.caches i (Some c)))
-        caches_by o e = rw e (slice_get_within old.caches h.cache _ (grant_cached policy old entries stood call h r lives), refl)
+        grant_follows-cached policy old entries stood e (slice_set old.caches h.cache (Some c)) refl (refl, caches-stored call c old (with_cached c (stored_view call h r) old) h.cache at within refl) (sources_stored policy old entries stood e c h.cache at refl within)
 
     law : ProgressLaw policy old entries stood (Provided call now answer) h r lives (λ c. with_cached c (stored_view call h r) old) (r.answers + 1) (desk_load policy old now (stored_view call h r) answer)
     law = record {

@@ -25,7 +25,8 @@ use Rattle.desk_parts.specs.declared.call_record.Stage.TheVariants as stage
 use Rattle.desk_parts.proofs.LiveRecord.{Lives}
 use Rattle.grant_desk.specs.GrantAction.{GrantPerforms, look_action, grant_poll_action}
 use Rattle.grant_desk.specs.GrantDeskState.{GrantState, GrantRecord, GrantRepresents}
-use Rattle.grant_desk.proofs.GrantRefine.{GrantRefines, grant_refines-more, grant_follows-cached, grant_follows-same, sources_same, keeps_grants}
+use Rattle.grant_desk.proofs.GrantRefine.{GrantRefines, grant_refines-more, grant_follows-cached, grant_follows-same, sources_same}
+use Rattle.desk_parts.proofs.OneChange.{keeps-all}
 use Rattle.grant_desk.proofs.GrantLive.{grant_at, grant_says, grant_phase-is, grant_look-is}
 use Rattle.grant_desk.proofs.GrantRefineLive.{ProgressLaw, grant_refines-progress}
 
@@ -42,7 +43,7 @@ module _ {K D : Type 0} (policy : Policy K D) (old : GrantState K D) (entries : 
   waits b =
       let l : live_calls (as_signer (before ++ record { event = Poll call now; reply = Pending } ∷ [])) ≡ live_calls (as_signer before) = live_grants-same policy (setup_of old) before (entry Pending) refl (ap is_live (sym (phase_after-pending before call now b))) in
       grant_refines-more policy old entries stood (entry Pending) (sym (expected_pending policy (setup_of old) before call h.cache (grant_at policy old entries stood call h r lives) now b)) refl refl old old
-      (grant_follows-same policy old entries stood (entry Pending) refl refl) (find_call call old.calls) (keeps_grants policy old entries stood call)
+      (grant_follows-same policy old entries stood (entry Pending) refl refl) (find_call call old.calls) (keeps-all old call)
       (stood.calls call ∙ sym (live_after-pending before call now b))
       (ap (λ (xs : List CallId). length xs + one_if (find_call call old.calls)) (sym l))
 

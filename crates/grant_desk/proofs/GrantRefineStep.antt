@@ -1,27 +1,26 @@
 -- What a step of a granter's desk does is one more entry of the transcript.
-use Rattle.std.proofs.Common.{◌≡◌, ◌<◌, ℤ, true, false, List, Option, Some, None, is_some, slice_get, length, refl, subst, IfSome}
+use Rattle.std.proofs.Common.{◌≡◌, ℤ, false, List, None, refl}
 use Rattle.wake_lock.specs.declared.CallId.{CallId}
 use Rattle.sequential_signer.specs.Policy.{Policy}
 use Rattle.sequential_signer.specs.Setup.{Handle}
-use Rattle.sequential_signer.specs.Phase.{Phase, Unknown, Unpolled, Queued, Loading, Signing, Ended, is_live, is_loading, is_signing}
+use Rattle.sequential_signer.specs.Phase.{is_live}
+use Rattle.sequential_signer.specs.ExpectedGrantReply.{expected_grant_reply}
 use Rattle.sequential_signer.specs.GrantTranscript.{committed_grants, grant_call_of, grant_phase_of, grant_event_fits}
 use Rattle.sequential_signer.specs.declared.event.Answer.{Answer}
-use Rattle.sequential_signer.specs.declared.event.Loader.{Loader}
 use Rattle.sequential_signer.specs.declared.grant_event.GrantEntry.{GrantEntry}
 use Rattle.sequential_signer.specs.declared.grant_event.GrantEvent.{GrantEvent}
 use Rattle.sequential_signer.specs.declared.grant_event.GrantEvent.TheVariants.{Begin, Poll, Provided, Granted, Cancel}
 use Rattle.sequential_signer.specs.declared.grant_event.GrantReply.{GrantReply}
-use Rattle.sequential_signer.specs.declared.grant_event.GrantReply.TheVariants.{Cancelled}
+use Rattle.sequential_signer.specs.declared.grant_event.GrantReply.TheVariants.{NotNow, Cancelled}
 use Rattle.sequential_signer.specs.declared.grant_event.Made.{Made as MadeOrFailed}
 use Rattle.sequential_signer.proofs.GrantRows.{grant_misfit}
 use Rattle.desk_parts.specs.Action.{Does, end_effect}
 use Rattle.desk_parts.specs.LiveCallView.{stored_view, find_view}
 use Rattle.desk_parts.specs.SetUp.{IsSetUp}
-use Rattle.desk_parts.specs.Tables.{setup_of, find_call}
+use Rattle.desk_parts.specs.Tables.{setup_of}
 use Rattle.desk_parts.specs.declared.tables.LiveCallView.{LiveCallView}
-use Rattle.desk_parts.proofs.ListPlaces.{place-there}
-use Rattle.desk_parts.proofs.LiveRecord.{Lives}
-use Rattle.desk_parts.proofs.Views.{find_view-no_record, find_view-no_handle, find_view-is}
+use Rattle.desk_parts.proofs.LiveCases.{lives-cases}
+use Rattle.desk_parts.proofs.LiveRecord.{Lives, not_loading, not_signing}
 use Rattle.grant_desk.specs.GrantAction.{GrantAction, look_action, grant_poll_action, grant_load_action, grant_provided_action, granted_action, live_grant_action, GrantPerforms, GrantTransition}
 use Rattle.grant_desk.specs.GrantDeskState.{GrantState, GrantRecord, GrantRepresents}
 use Rattle.grant_desk.proofs.GrantRefine.{GrantRefines, grant_refines-not_now}
@@ -30,23 +29,6 @@ use Rattle.grant_desk.proofs.GrantRefineBegin.{grant_refines-begin}
 use Rattle.grant_desk.proofs.GrantRefineLook.{grant_refines-poll}
 use Rattle.grant_desk.proofs.GrantRefineLoad.{grant_refines-provided}
 use Rattle.grant_desk.proofs.GrantRefineEnd.{grant_refines-granted, grant_refines-cancel}
-
--- a call that is not live neither loads nor is at the granter
-not_loading : (p : Phase) → is_live p ≡ false → is_loading p ≡ false
-not_loading Loading h = absurd (cc)
-not_loading Unknown h = refl
-not_loading Unpolled h = refl
-not_loading Queued h = refl
-not_loading Signing h = refl
-not_loading Ended h = refl
-
-not_signing : (p : Phase) → is_live p ≡ false → is_signing p ≡ false
-not_signing Signing h = absurd (cc)
-not_signing Unknown h = refl
-not_signing Unpolled h = refl
-not_signing Queued h = refl
-not_signing Loading h = refl
-not_signing Ended h = refl
 
 module _ {K D : Type 0} (policy : Policy K D) (old : GrantState K D) (entries : List (GrantEntry K)) (stood : GrantRepresents policy old entries) (set_up : IsSetUp (setup_of old)) where
   -- events of a call, but for a begin, with what is done at them where the call is live
@@ -76,30 +58,15 @@ module _ {K D : Type 0} (policy : Policy K D) (old : GrantState K D) (entries : 
     at_live event action (granted call now answer) h r lives m = grant_refines-granted policy old entries stood call h r lives now answer r.stage refl reply new m
     at_live event action (cancel call) h r lives m = grant_refines-cancel policy old entries stood call h r lives reply new m
 
-    by_places : (event : GrantEvent K) (action : LiveCallView → GrantAction K D) → IsOfCall event action → (h : Handle) → slice_get old.handles (grant_call_of event).handle ≡ Some h → (r : GrantRecord) → find_call (grant_call_of event) old.calls ≡ Some r
-        → (l : Option Loader) → slice_get old.loaders h.cache ≡ l → is_some l ≡ true → (rule : Option D) → slice_get old.rules h.rule ≡ rule → is_some rule ≡ true → IsDone event (action (stored_view (grant_call_of event) h r)) → IsEntry event
-    by_places event action of h under r found None loads s rule ruled t m = absurd (cc)
-    by_places event action of h under r found (Some l) loads s None ruled t m = absurd (cc)
-    by_places event action of h under r found (Some l) loads s (Some rule) ruled t m = at_live event action of h r (record { under = under; found = found; loader = l; loads = loads; rule = rule; ruled = ruled }) m
-
-    by_view : (event : GrantEvent K) (action : LiveCallView → GrantAction K D) → IsOfCall event action → (o : Option Handle) → slice_get old.handles (grant_call_of event).handle ≡ o → IfSome o (λ x. (x.cache < length old.loaders) × (x.rule < length old.rules))
-        → (f : Option GrantRecord) → find_call (grant_call_of event) old.calls ≡ f → IsDone event (live_grant_action action (find_view old (grant_call_of event))) → IsEntry event
-    by_view event action of None under k f found m = unset (subst (λ (v : Option LiveCallView). IsDone event (live_grant_action action v)) (find_view-no_handle old (grant_call_of event) under) m)
-      where
-        unset : IsDone event (live_grant_action action None) → IsEntry event
-        unset m = rw (m.0, m.1) (grant_refines-not_now policy old entries stood event (grant_unset policy old entries stood event under))
-    by_view event action of (Some h) under k None found m = unfit (subst (λ (v : Option LiveCallView). IsDone event (live_grant_action action v)) (find_view-no_record old (grant_call_of event) found) m)
-      where
-        unfit : IsDone event (live_grant_action action None) → IsEntry event
-        unfit m =
-            rw (m.0, m.1)
-            (grant_refines-not_now policy old entries stood event (grant_misfit policy (setup_of old) (committed_grants entries) event (unfit_of event action of (grant_not_live policy old entries stood (grant_call_of event) found))))
-    by_view event action of (Some h) under k (Some r) found m =
-        by_places event action of h under r found (slice_get old.loaders h.cache) refl (place-there old.loaders h.cache k.0) (slice_get old.rules h.rule) refl (place-there old.rules h.rule k.1)
-        (subst (λ (v : Option LiveCallView). IsDone event (live_grant_action action v)) (find_view-is old (grant_call_of event) h r under found) m)
-
     by_call : (event : GrantEvent K) (action : LiveCallView → GrantAction K D) → IsOfCall event action → IsDone event (live_grant_action action (find_view old (grant_call_of event))) → IsEntry event
-    by_call event action of m = by_view event action of (slice_get old.handles (grant_call_of event).handle) refl (set_up.handles (grant_call_of event).handle) (find_call (grant_call_of event) old.calls) refl m
+    by_call event action of m =
+        lives-cases old set_up (grant_call_of event) (λ v. IsDone event (live_grant_action action v) → IsEntry event)
+        (λ under k. unfit (grant_unset policy old entries stood event under) k)
+        (λ h under found k. unfit (grant_misfit policy (setup_of old) (committed_grants entries) event (unfit_of event action of (grant_not_live policy old entries stood (grant_call_of event) found))) k)
+        (λ h r lives k. at_live event action of h r lives k) m
+      where
+        unfit : expected_grant_reply policy (setup_of old) (committed_grants entries) event ≡ NotNow → IsDone event (live_grant_action action None) → IsEntry event
+        unfit expected k = rw (k.0, k.1) (grant_refines-not_now policy old entries stood event expected)
 
     refines-event : (event : GrantEvent K) → GrantTransition policy event old reply new → IsEntry event
     refines-event (Begin call expires_in) m = grant_refines-begin policy old entries stood call expires_in reply new m

@@ -11,5 +11,4 @@ pub mod GrantRefineStep
 pub mod GrantLoadsFew
 pub mod GrantPreconditionLemmas
 pub mod GrantCaused
-pub mod GrantRunLemmas
 pub mod GrantStepTaken

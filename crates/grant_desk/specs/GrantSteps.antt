@@ -10,6 +10,7 @@ use Rattle.sequential_signer.specs.declared.grant_event.GrantEvent.TheVariants.{
 use Rattle.sequential_signer.specs.declared.grant_event.GrantReply.{GrantReply}
 use Rattle.sequential_signer.specs.declared.grant_event.GrantReply.TheVariants.{NotNow, OutOfMemory, Grant}
 use Rattle.desk_parts.specs.Caches.{Caches}
+use Rattle.desk_parts.specs.StepsBy.{StepsBy, paired_by}
 use Rattle.desk_parts.specs.Tables.{setup_of}
 use Rattle.grant_desk.specs.GrantCause.{grant_cause_of, IsGrantCaused}
 use Rattle.grant_desk.specs.GrantDeskState.{GrantState, GrantRepresents}
@@ -46,13 +47,12 @@ pub record IsGrantStep {K D : Type 0} (policy : Policy K D) (event : GrantEvent 
 
 -- each event in turn has the reply at its place, by a step from the desk that the step before it left
 abbrev pub AreGrantSteps : {K D : Type 0} → Policy K D → List (GrantEvent K) → List (GrantReply K) → GrantState K D → GrantState K D → Type 0
-AreGrantSteps policy [] [] old new = new ≡ old
-AreGrantSteps {K = K} {D = D} policy (event ∷ events) (reply ∷ replies) old new =
-    (next : GrantState K D) × IsGrantStep policy event old reply next × AreGrantSteps policy events replies next new
-AreGrantSteps policy events replies old new = ⊥
+AreGrantSteps policy events replies old new = StepsBy (IsGrantStep policy) events replies old new
+
+-- an event with its reply
+abbrev pub grant_entry_of : {K : Type 0} → GrantEvent K → GrantReply K → GrantEntry K
+grant_entry_of event reply = record { event = event; reply = reply }
 
 -- each event with the reply at its place
 abbrev pub paired_grants : {K : Type 0} → List (GrantEvent K) → List (GrantReply K) → List (GrantEntry K)
-paired_grants [] replies = []
-paired_grants (event ∷ events) [] = []
-paired_grants (event ∷ events) (reply ∷ replies) = record { event = event; reply = reply } ∷ paired_grants events replies
+paired_grants events replies = paired_by grant_entry_of events replies

@@ -47,9 +47,8 @@ impl<K: SigningCredential, D: DeadlineRule<Credential = K>> GrantDesk<K, D> {
     ghost use Rattle.desk_parts.specs.TablesView.{handle_view};
     ghost use Rattle.grant_desk.specs.GrantDeskState.{GrantRepresents, with_source};
     ghost use Rattle.grant_desk.specs.GrantAction.{GrantTransition};
-    ghost use Rattle.grant_desk.specs.GrantCause.{grant_cause_of, IsGrantCaused};
     ghost use Rattle.grant_desk.specs.GrantPlaces.{GrantPrecondition};
-    ghost use Rattle.grant_desk.specs.GrantSteps.{IsGrantStep, AreGrantSteps, GrantUnchangedBy, SourcesAfter, paired_grants, RunsOutAtBegins};
+    ghost use Rattle.grant_desk.specs.GrantSteps.{IsGrantStep, AreGrantSteps, paired_grants, RunsOutAtBegins};
 
     /// A desk with no caches, rules, handles or calls. It represents the empty transcript.
     pub fn new(alloc: Global) -> GrantDesk<K, D>
@@ -249,29 +248,13 @@ impl<K: SigningCredential, D: DeadlineRule<Credential = K>> GrantDesk<K, D> {
     }
 
     /// One event, applied whole: whatever transcript the desk represents, it then represents that
-    /// with this entry. The setup stays.
+    /// with this entry. The setup stays. What is done is exactly the event's `GrantTransition`, so a
+    /// driver knows where its calls are.
     ///
     /// An event that does not fit how far its call is, is answered `NotNow`. `OutOfMemory` is answered
     /// only where memory is taken: at a begin, and where a source is handed to the granter or its
     /// credential to the call, unless clones take none. Both change nothing.
     pub fn step(&mut self, event: &GrantEvent<K>) -> GrantReply<K>
-        ensures represents { (entries : List (GrantEntry K)) → GrantRepresents (policy_of K.valid K.valid_at D.deadline) self.old entries
-            → GrantRepresents (policy_of K.valid K.valid_at D.deadline) self.new (entries ++ record { event = event.now; reply = result } ∷ []) }
-        ensures expected { (entries : List (GrantEntry K)) → GrantRepresents (policy_of K.valid K.valid_at D.deadline) self.old entries
-            → IsLegalGrantEntry (policy_of K.valid K.valid_at D.deadline) (setup_of self.old) (committed_grants entries)
-            (record { event = event.now; reply = result }) }
-        ensures causes { IsGrantCaused (grant_cause_of (policy_of K.valid K.valid_at D.deadline) self.old event.now) result }
-        ensures caches { SourcesAfter event.now result self.old self.new }
-        ensures setup { setup_of self.new ≡ setup_of self.old }
-        ensures unchanged { GrantUnchangedBy result self.old self.new }
-        ensures memory { ClonesAreFree K.clones_freely → RunsOutAtBegins event.now result }
-    {
-        self.advance(event)
-    }
-
-    /// The same step, with exactly what it does to what the desk keeps: for a driver that has to know where
-    /// its calls are.
-    pub fn advance(&mut self, event: &GrantEvent<K>) -> GrantReply<K>
         ensures step { IsGrantStep (policy_of K.valid K.valid_at D.deadline) event.now self.old result self.new }
         ensures transition { GrantTransition (policy_of K.valid K.valid_at D.deadline) event.now self.old result self.new }
         ensures memory { ClonesAreFree K.clones_freely → RunsOutAtBegins event.now result }

@@ -36,7 +36,7 @@ pub(crate) fn begin_call<K: SigningCredential, D: DeadlineRule<Credential = K>>(
     ensures begun { OnOk result (IsBegun (record { id = call; head = tt; expires_in = expires_in }) desk.old desk.new) }
     ensures unchanged { OnErr result (desk.new ≡ desk.old) }
 {
-    match desk.advance(&GrantEvent::Begin { call, expires_in }) {
+    match desk.step(&GrantEvent::Begin { call, expires_in }) {
         GrantReply::Begun => Ok(()),
         _ => Err(NoMemory { back: () }),
     }
@@ -53,7 +53,7 @@ pub(crate) fn cancel_call<K: SigningCredential, D: DeadlineRule<Credential = K>>
     ensures others { LeavesOthers begun.now.id desk.old desk.new }
 {
     let event = GrantEvent::Cancel { call: begun.id };
-    let _cancelled = desk.advance(&event);
+    let _cancelled = desk.step(&event);
 }
 
 /// A poll of a call that has not looked at its cache yet.
@@ -72,7 +72,7 @@ pub(crate) fn poll_call<K: SigningCredential, D: DeadlineRule<Credential = K>>(
         call: begun.id,
         now,
     };
-    desk.advance(&event)
+    desk.step(&event)
 }
 
 /// A source that the asked provider found, which is handed back beside the reply.
@@ -97,7 +97,7 @@ pub(crate) fn give_found<K: SigningCredential, D: DeadlineRule<Credential = K>>(
         now,
         answer,
     };
-    let reply = desk.advance(&event);
+    let reply = desk.step(&event);
     (reply, found_in(event).unwrap())
 }
 
@@ -120,7 +120,7 @@ pub(crate) fn give_missing<K: SigningCredential, D: DeadlineRule<Credential = K>
         now,
         answer: Answer::Missing,
     };
-    desk.advance(&event)
+    desk.step(&event)
 }
 
 /// The asked provider failed.
@@ -142,7 +142,7 @@ pub(crate) fn give_failed<K: SigningCredential, D: DeadlineRule<Credential = K>>
         now,
         answer: Answer::Failed(ERROR),
     };
-    desk.advance(&event)
+    desk.step(&event)
 }
 
 /// The service made this credential, which is handed back beside the reply.
@@ -166,7 +166,7 @@ pub(crate) fn give_made<K: SigningCredential, D: DeadlineRule<Credential = K>>(
         now,
         answer,
     };
-    let reply = desk.advance(&event);
+    let reply = desk.step(&event);
     (reply, made_in(event).unwrap())
 }
 
@@ -187,7 +187,7 @@ pub(crate) fn give_unmade<K: SigningCredential, D: DeadlineRule<Credential = K>>
         now,
         answer: Made::Failed(ERROR),
     };
-    let _refused = desk.advance(&event);
+    let _refused = desk.step(&event);
 }
 
 /// The source that a provider found.

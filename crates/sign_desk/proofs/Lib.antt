@@ -14,7 +14,6 @@ pub mod Caused
 pub mod NewDesk
 pub mod DeskInvariant
 pub mod OneStep
-pub mod RunLemmas
 pub mod LiveCounts
 pub mod ReplyKinds
 pub mod PreviewedStep

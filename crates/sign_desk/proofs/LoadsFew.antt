@@ -32,6 +32,7 @@ use Rattle.sequential_signer.proofs.LegalStep.{LegalStep, not_now, begins, waits
 use Rattle.sequential_signer.proofs.Run.{start, more}
 use Rattle.sequential_signer.proofs.CallInvariant.{phase-other, answers-other}
 use Rattle.desk_parts.specs.Places.{provider_count}
+use Rattle.desk_parts.proofs.LoadAsks.{look-asks}
 
 loads_to_queued : (p : Phase) → is_loading (to_queued p) ≡ true → is_loading p ≡ true
 loads_to_queued Loading h = refl
@@ -49,50 +50,10 @@ waits_to_queued Loading h = cc
 waits_to_queued Signing h = cc
 waits_to_queued Ended h = cc
 
-below_true : (a b : ℕ) → nat_lt a b ≡ true → a < b
-below_true a b h = grind (arith, nat_tests)
-
 module _ {K D : Type 0} (policy : Policy K D) (setup : Setup D) where
   -- a provider is asked only where there is one more
-  first_asks : (loader : Loader) (input : HoldInput K D) (cache : Option K) (k : ℕ) → input.answers ≡ [] → Asking k ≡ sequential_call policy cache loader input → 0 < provider_count loader
-  first_asks loader input cache k a h = by_look (cache_lookup policy cache input.rule input.duration input.now) (h ∙ ap (λ (x : List (Answer K × ℤ)). after_lookup (cache_lookup policy cache input.rule input.duration input.now) cache (load_progress (check_refreshed policy input.rule input.duration) loader cache (length x) (last_of x))) a)
-    where
-      by_chain : (n : ℕ) (b : Bool) → nat_lt 0 n ≡ b → Asking k ≡ cond b (Asking 0) (Over (Refuse why.Missing) cache) → 0 < n
-      by_chain n true e h = below_true 0 n e
-      by_chain n false e h = cc
-
-      by_loader : (loader : Loader) → Asking k ≡ load_progress (check_refreshed policy input.rule input.duration) loader cache 0 None → 0 < provider_count loader
-      by_loader Single h = omega arith
-      by_loader (Chain n) h = by_chain n (nat_lt 0 n) refl h
-
-      by_look : (o : Option (Outcome K)) → Asking k ≡ after_lookup o cache (load_progress (check_refreshed policy input.rule input.duration) loader cache 0 None) → 0 < provider_count loader
-      by_look (Some x) h = cc
-      by_look None h = by_loader loader h
-
-  next_asks : (loader : Loader) (input : HoldInput K D) (cache : Option K) (k : ℕ) (answers : List (Answer K × ℤ)) (answer : Answer K) (now : ℤ) → input.answers ≡ answers ++ (answer, now) ∷ [] → Asking k ≡ sequential_call policy cache loader input → length input.answers < provider_count loader
-  next_asks loader input cache k answers answer now a h =
-      by_look (cache_lookup policy cache input.rule input.duration input.now)
-      (h ∙ ap (λ (x : Option (Answer K × ℤ)). after_lookup (cache_lookup policy cache input.rule input.duration input.now) cache (load_progress (check_refreshed policy input.rule input.duration) loader cache (length input.answers) x)) (ap last_of a ∙ last_of-more answers (answer, now)))
-    where
-      by_chain : (n : ℕ) (b : Bool) → nat_lt (length input.answers) n ≡ b → Asking k ≡ cond b (Asking (length input.answers)) (Over (Refuse why.Missing) cache) → length input.answers < n
-      by_chain n true e h = below_true (length input.answers) n e
-      by_chain n false e h = cc
-
-      by_found : (o : Outcome K) → Asking k ≡ found_progress o cache → ⊥
-      by_found (HandOut c) h = cc
-      by_found (Refuse cause) h = cc
-
-      by_loader : (loader : Loader) (answer : Answer K) → Asking k ≡ load_progress (check_refreshed policy input.rule input.duration) loader cache (length input.answers) (Some (answer, now)) → length input.answers < provider_count loader
-      by_loader Single (Found c) h = absurd (by_found (check_refreshed policy input.rule input.duration c now) h)
-      by_loader Single Missing h = cc
-      by_loader Single (Failed e) h = cc
-      by_loader (Chain n) (Found c) h = absurd (by_found (check_refreshed policy input.rule input.duration c now) h)
-      by_loader (Chain n) Missing h = by_chain n (nat_lt (length input.answers) n) refl h
-      by_loader (Chain n) (Failed e) h = by_chain n (nat_lt (length input.answers) n) refl h
-
-      by_look : (o : Option (Outcome K)) → Asking k ≡ after_lookup o cache (load_progress (check_refreshed policy input.rule input.duration) loader cache (length input.answers) (Some (answer, now))) → length input.answers < provider_count loader
-      by_look (Some x) h = cc
-      by_look None h = by_loader loader answer h
+  asks_more : (loader : Loader) (input : HoldInput K D) (cache : Option K) (k : ℕ) → Asking k ≡ sequential_call policy cache loader input → length input.answers < provider_count loader
+  asks_more loader input cache k h = look-asks cache k (check_refreshed policy input.rule input.duration) loader input.answers (cache_lookup policy cache input.rule input.duration input.now) h
 
   input_answers : (rule : Option D) (begin : Option BeginInput) (moment : Option ℤ) (answers : List (Answer K × ℤ)) (input : HoldInput K D) → input_by rule begin moment answers ≡ Some input → input.answers ≡ answers
   input_answers None begin moment answers input h = cc
@@ -148,7 +109,9 @@ module _ {K D : Type 0} (policy : Policy K D) (setup : Setup D) where
           let loader_is : g.loader ≡ loader = cc in
           let waiting : Waits setup entries j c = waiting_waits policy setup entries j c (phase_of entries c) w (stands policy setup entries run c j g.at) in
           let none : answers_of (entries ++ record { event = Poll c now; reply = Ask n } ∷ []) call ≡ [] = answers-own_none setup entries 0 (record { event = Poll c now; reply = Ask n }) call s refl ∙ ap (answers_of entries) same ∙ waiting.answers in
-          rw none (subst (λ (l : Loader). 0 < provider_count l) loader_is (first_asks g.loader g.input (sequential_cache policy setup entries j) n (input_answers (rule_of setup c) (begin_of entries c) (Some now) [] g.input g.inputs) g.reaches))
+          let blank : g.input.answers ≡ [] = input_answers (rule_of setup c) (begin_of entries c) (Some now) [] g.input g.inputs in
+          let few : length g.input.answers < provider_count loader = subst (λ (l : Loader). length g.input.answers < provider_count l) loader_is (asks_more g.loader g.input (sequential_cache policy setup entries j) n g.reaches) in
+          rw none (subst (λ (x : List (Answer K × ℤ)). length x < provider_count loader) blank few)
       by_row event reply (takes_effect c now answer j (Over (HandOut x) after) wake _ _) s k = marked (Provided c now answer) (Sign x wake) s refl refl k
       by_row event reply (takes_effect c now answer j (Over (Refuse x) after) wake _ _) s k = marked (Provided c now answer) (Refused x wake) s refl refl k
       by_row event reply (takes_effect c now answer j (Asking n) wake w g) s k =
@@ -161,7 +124,7 @@ module _ {K D : Type 0} (policy : Policy K D) (setup : Setup D) where
           let now_are : answers_of (entries ++ record { event = Provided c now answer; reply = Ask n } ∷ []) call ≡ answers_of entries call ++ (answer, now) ∷ [] =
           ap answers_in (entries_of-own entries call (record { event = Provided c now answer; reply = Ask n }) s) ∙ answers_in-more (entries_of entries call) (record { event = Provided c now answer; reply = Ask n }) (answer, now) refl refl in
           let all : answers_of (entries ++ record { event = Provided c now answer; reply = Ask n } ∷ []) call ≡ g.input.answers = now_are ∙ ap (λ x. answers_of entries x ++ (answer, now) ∷ []) same ∙ sym answers in
-          rw all (subst (λ (l : Loader). length g.input.answers < provider_count l) loader_is (next_asks g.loader g.input (sequential_cache policy setup entries j) n (answers_of entries c) answer now answers g.reaches))
+          rw all (subst (λ (l : Loader). length g.input.answers < provider_count l) loader_is (asks_more g.loader g.input (sequential_cache policy setup entries j) n g.reaches))
       by_row event reply (accepts c candidate _) s k = marked event reply s refl refl k
       by_row event reply (fails c e j _ _) s k = marked event reply s refl refl k
       by_row event reply (cancels c wake _) s k = marked event reply s refl refl k

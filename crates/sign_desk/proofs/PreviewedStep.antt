@@ -261,20 +261,20 @@ module _ {K D : Type 0} (policy : Policy K D) (old : DeskState K D) (entries : L
   -- there is a desk where only this call changed
   changed : (base : DeskState K D) → base.calls ≡ old.calls → (call : CallId) (live : Option CallRecord) → (new : DeskState K D) × ChangesOnlyCall base call live new
   changed base same call live = (
-      record base { calls = with_record call live },
-      record {
-        loaders = refl;
-        rules = refl;
-        handles = refl;
-        caches = refl;
-        queues = refl;
-        greatest = refl;
-        started = refl;
-        this_call = this live;
-        other_calls = λ other apart. other_call live other apart ∙ ap (find_call other) (sym same);
-        count = rw same (count live);
-      },
-    )
+    record base { calls = with_record call live },
+    record {
+      loaders = refl;
+      rules = refl;
+      handles = refl;
+      caches = refl;
+      queues = refl;
+      greatest = refl;
+      started = refl;
+      this_call = this live;
+      other_calls = λ other apart. other_call live other apart ∙ ap (find_call other) (sym same);
+      count = rw same (count live);
+    },
+  )
     where
       this : (live : Option CallRecord) → find_call call (with_record call live) ≡ live
       this None = without-own call old.calls

@@ -19,11 +19,10 @@ use Rattle.sequential_signer.specs.declared.event.Event.TheVariants.{Provided}
 use Rattle.sequential_signer.specs.declared.event.Loader.{Loader}
 use Rattle.sequential_signer.specs.declared.event.Reply.{Reply}
 use Rattle.sequential_signer.specs.declared.event.Reply.TheVariants.{Begun, Pending, NotNow, OutOfMemory, Ask, Sign, Refused, Done, Cancelled}
-use Rattle.wake_lock.proofs.Calls.{same_call-eq, same_call-refl, same_call-comm}
+use Rattle.wake_lock.proofs.Calls.{same_call-refl}
 use Rattle.wake_lock.proofs.Truth.{same_number, other_number, number_comm}
 use Rattle.sequential_signer.proofs.Lists.{list_any-more, or_false, and_false}
 use Rattle.sequential_signer.proofs.OwnEntries.{entries_of-other}
-use Rattle.sequential_signer.proofs.Places.{slice_get-set_same, slice_get-set_other}
 use Rattle.sequential_signer.proofs.Greatest.{greatest_begun-more}
 use Rattle.sequential_signer.proofs.LegalStep.{LegalStep}
 use Rattle.sequential_signer.proofs.Run.{IsRun, committed_entries-more, committed_entries-lost, legal_run, legal_entry_step, legal-more}
@@ -42,7 +41,8 @@ use Rattle.sign_desk.specs.Records.{CallRecord}
 use Rattle.desk_parts.proofs.ChangedAt.{changed-same, changed-other}
 use Rattle.sequential_signer.proofs.BegunCalls.{passing-same, passing-fewer, begun_once}
 use Rattle.sign_desk.proofs.QueueLaw.{queue-elsewhere, queue-not_now}
-use Rattle.desk_parts.proofs.ListPlaces.{place-there}
+use Rattle.desk_parts.proofs.ListPlaces.{stored-at}
+use Rattle.desk_parts.proofs.OneChange.{keeps-all, setup-same, caches-alike, live-counted, calls-after}
 
 module _ {K D : Type 0} where
   -- a reply that took effect, or that waits, says nothing of what stays
@@ -64,11 +64,7 @@ module _ {K D : Type 0} where
 
   -- what is done to the caches is known by the caches alone
   pub caches_after-alike : (event : Event K) (reply : Reply K) (old base new : DeskState K D) → new.caches ≡ base.caches → CachesAfter event reply old base → CachesAfter event reply old new
-  caches_after-alike (Provided call now (Found c)) (Sign d w) old base new h k = (k.0, caches_by (cache_of (setup_of old) call) k.1)
-    where
-      caches_by : (o : Option ℕ) → IsSomeAnd o (λ (i : ℕ). (i < length old.caches) × (base.caches ≡ slice_set old.caches i (Some c))) → IsSomeAnd o (λ (i : ℕ). (i < length old.caches) × (new.caches ≡ slice_set old.caches i (Some c)))
-      caches_by None x = absurd x
-      caches_by (Some i) x = (x.0, h ∙ x.1)
+  caches_after-alike (Provided call now (Found c)) (Sign d w) old base new h k = (k.0, caches-alike call c old base new h k.1)
   caches_after-alike event reply old base new h k = h ∙ k
 
 module _ {K D : Type 0} (policy : Policy K D) where
@@ -108,12 +104,6 @@ module _ {K D : Type 0} (policy : Policy K D) where
     unfolding phase_of
     live-other e call s = rw (entries_of-other before call e s) refl
 
-    setup_same : (new : DeskState K D) → new.loaders ≡ old.loaders → new.rules ≡ old.rules → new.handles ≡ old.handles → setup_of new ≡ setup
-    setup_same new l r h = cc
-
-    count_by : (n m b a : ℕ) (kept was : ℕ) → n + was ≡ m + kept → m ≡ b → b + kept ≡ a + was → n ≡ a
-    count_by n m b a kept was h k l = omega arith
-
     -- the cached credentials are those of the transcript after the entry
     module _ (new : DeskState K D) where
       abbrev CachedAfter : Entry K → Type 0
@@ -125,29 +115,12 @@ module _ {K D : Type 0} (policy : Policy K D) where
           ∙ stood.caches j
           ∙ ap (λ c. option_map (λ _. c) (slice_get old.loaders j)) (sym (others_leave policy setup before ran event reply step r j))
 
-      loaded : (c : K) (i : ℕ) → i < length old.caches → (o : Option Loader) → slice_get old.loaders i ≡ o → Some (Some c) ≡ option_map (λ _. Some c) o
-      loaded c i within None l =
-          let some : is_some (slice_get old.caches i) ≡ true = place-there old.caches i within in
-          let none : slice_get old.caches i ≡ None = stood.caches i ∙ ap (option_map (λ _. sequential_cache policy setup before i)) l in
-          absurd (cc)
-      loaded c i within (Some loader) l = refl
-
       cached_one : (e : Entry K) (c : K) (i : ℕ) → cache_of setup (call_of e.event) ≡ Some i → sequential_cache policy setup (after e) i ≡ Some c
           → ((j : ℕ) → is_of_cache setup j (call_of e.event) ≡ false → sequential_cache policy setup (after e) j ≡ sequential_cache policy setup before j) → i < length old.caches → new.caches ≡ slice_set old.caches i (Some c) → CachedAfter e
-      cached_one e c i at cached others within h j = by_number (i == j) refl
-        where
-          by_number : (b : Bool) → (i == j) ≡ b → slice_get new.caches j ≡ option_map (λ _. sequential_cache policy setup (after e) j) (slice_get old.loaders j)
-          by_number true n =
-              subst (λ k. slice_get new.caches k ≡ option_map (λ _. sequential_cache policy setup (after e) k) (slice_get old.loaders k)) (same_number i j n)
-              (ap (λ (cs : List (Option K)). slice_get cs i) h
-              ∙ slice_get-set_same old.caches i (Some c) (place-there old.caches i within)
-              ∙ loaded c i within (slice_get old.loaders i) refl
-              ∙ ap (λ x. option_map (λ _. x) (slice_get old.loaders i)) (sym cached))
-          by_number false n =
-              ap (λ (cs : List (Option K)). slice_get cs j) h
-              ∙ slice_get-set_other old.caches i j (Some c) (other_number i j n)
-              ∙ stood.caches j
-              ∙ ap (λ x. option_map (λ _. x) (slice_get old.loaders j)) (sym (others j (ap (is_number j) at ∙ number_comm j i ∙ n)))
+      cached_one e c i at cached others within h j =
+          ap (λ (cs : List (Option K)). slice_get cs j) h
+          ∙ stored-at old.caches old.loaders (sequential_cache policy setup before) (sequential_cache policy setup (after e)) i c stood.caches within cached
+          (λ k n. others k (ap (is_number k) at ∙ number_comm k i ∙ n)) j
 
       cached_found : (call : CallId) (now : ℤ) (c handed : K) (wake : Option CallId) → LegalStep policy setup before (Provided call now (Found c)) (Sign handed wake) → (o : Option ℕ) → cache_of setup call ≡ o
           → IsSomeAnd o (λ (i : ℕ). (i < length old.caches) × (new.caches ≡ slice_set old.caches i (Some c))) → CachedAfter (record { event = Provided call now (Found c); reply = Sign handed wake })
@@ -170,7 +143,7 @@ module _ {K D : Type 0} (policy : Policy K D) where
           → length (live_calls before) + one_if r ≡ length (live_calls (after e)) + one_if (find_call (call_of e.event) old.calls)
           → Represents policy new (entries ++ e ∷ [])
       represents-more base new follows r changes own live =
-          let same : setup_of new ≡ setup_of old = setup_same new (changes.loaders ∙ follows.loaders) (changes.rules ∙ follows.rules) (changes.handles ∙ follows.handles) in
+          let same : setup_of new ≡ setup_of old = setup-same old new (changes.loaders ∙ follows.loaders) (changes.rules ∙ follows.rules) (changes.handles ∙ follows.handles) in
           let k : committed_entries (entries ++ e ∷ []) ≡ committed_entries entries ++ e ∷ [] = committed_entries-more entries e committed in
           let caches : CachesAfter e.event e.reply old new = caches_after-alike e.event e.reply old base new changes.caches follows.caches in
           let step : LegalStep policy (setup_of old) (committed_entries entries) e.event e.reply = legal_entry_step policy setup before e committed (inl expected) in
@@ -180,19 +153,9 @@ module _ {K D : Type 0} (policy : Policy K D) where
             queues = λ i. rw (changes.queues, changes.loaders, changes.rules, changes.handles, follows.loaders, follows.rules, follows.handles, k) (follows.queues i);
             greatest = λ h. rw (changes.greatest, changes.handles, follows.handles, k) (follows.greatest h);
             started = rw (changes.started, k) follows.started;
-            calls = λ call. rw k (call_by call (same_call call (call_of e.event)) refl);
-            live = rw k (count_by (length new.calls) (length base.calls) (length (live_calls before)) (length (live_calls (after e))) (one_if r) (one_if (find_call (call_of e.event) base.calls)) changes.count
-                (ap length follows.calls ∙ stood.live) (live ∙ ap (λ (c : List (CallId × CallRecord)). length (live_calls (after e)) + one_if (find_call (call_of e.event) c)) (sym follows.calls)));
+            calls = λ call. rw k (calls-after old base new (call_of e.event) r follows.calls changes live_view (live_call before) (live_call (after e)) stood.calls own (λ c s. live-other e c s) call);
+            live = rw k (live-counted old base new (call_of e.event) r follows.calls changes (length (live_calls before)) (length (live_calls (after e))) stood.live live);
           }
-        where
-          call_by : (call : CallId) (s : Bool) → same_call call (call_of e.event) ≡ s → option_map live_view (find_call call new.calls) ≡ live_call (after e) call
-          call_by call true s =
-              let here : call ≡ call_of e.event = same_call-eq call (call_of e.event) s in
-              rw here (ap (option_map live_view) changes.this_call ∙ own)
-          call_by call false s =
-              ap (option_map live_view) (changes.other_calls call (same_call-comm (call_of e.event) call ∙ s) ∙ ap (find_call call) follows.calls)
-              ∙ stood.calls call
-              ∙ sym (live-other e call s)
 
       -- and the new desk is the old one after it
       pub refines-more : is_not_now e.reply ≡ false → (base new : DeskState K D) → Follows old entries base e → (r : Option CallRecord) → ChangesOnlyCall base (call_of e.event) r new
@@ -201,7 +164,7 @@ module _ {K D : Type 0} (policy : Policy K D) where
           → Refines old entries e new
       refines-more fits base new follows r changes own live = record {
         represents = represents-more base new follows r changes own live;
-        setup = setup_same new (changes.loaders ∙ follows.loaders) (changes.rules ∙ follows.rules) (changes.handles ∙ follows.handles);
+        setup = setup-same old new (changes.loaders ∙ follows.loaders) (changes.rules ∙ follows.rules) (changes.handles ∙ follows.handles);
         caches = caches_after-alike e.event e.reply old base new changes.caches follows.caches;
         unchanged = unchanged-effect e.reply old new committed fits;
       }
@@ -297,10 +260,6 @@ module _ {K D : Type 0} (policy : Policy K D) where
         by_number j true n = subst (λ k. queue_of setup (after e) k ≡ queue_of setup before k) (same_number i j n) here
         by_number j false n = queue-elsewhere policy setup before ran e i at b j (other_number i j n)
 
-    -- a desk changes no call where it stays as it is
-    pub keeps_old : (call : CallId) → ChangesOnlyCall old call (find_call call old.calls) old
-    keeps_old call = record { loaders = refl; rules = refl; handles = refl; caches = refl; queues = refl; greatest = refl; started = refl; this_call = refl; other_calls = λ _ _. refl; count = refl }
-
     live-same : (e : Entry K) → is_begun e.reply ≡ false → is_live (phase_of before (call_of e.event)) ≡ is_live (phase_of (after e) (call_of e.event)) → live_calls (after e) ≡ live_calls before
     live-same e b h = passing-same policy setup (λ _ p. is_live p) before e b h
 
@@ -330,7 +289,7 @@ module _ {K D : Type 0} (policy : Policy K D) where
         record {
           represents = represents-more e expected refl old old
               (follows-same e refl caches (queue-not_now policy setup before ran e refl refl (and_false (is_poll event)) p))
-              (find_call (call_of event) old.calls) (keeps_old (call_of event))
+              (find_call (call_of event) old.calls) (keeps-all old (call_of event))
               (stood.calls (call_of event) ∙ rw (p, a, b) refl)
               (ap (λ (xs : List CallId). length xs + one_if (find_call (call_of event) old.calls)) (sym l));
           setup = refl;

@@ -50,6 +50,7 @@ use Rattle.desk_parts.specs.declared.tables.LiveCallView.{LiveCallView}
 use Rattle.sign_desk.proofs.QueueLaw.{order-stays}
 use Rattle.sign_desk.proofs.Refine.{Refines, refines-not_now, caches_after-same}
 use Rattle.sign_desk.proofs.RefineLive.{HoldLaw, refines-hold, waited_wakes, waited_asks, waited_leaves}
+use Rattle.desk_parts.proofs.OneChange.{caches-stored}
 use Rattle.desk_parts.proofs.LiveRecord.{Lives}
 use Rattle.sign_desk.proofs.LiveRecord.{at, rule-is, cached, says, invariant, phase-is, misfit}
 
@@ -172,10 +173,7 @@ module _ {K D : Type 0} (policy : Policy K D) (old : DeskState K D) (entries : L
         (legal_entry_step policy setup before (entry (Sign c (call_to_wake setup before h.cache (entry (Sign c None))))) refl (inl signs)) refl
 
     stores : (c : K) (wake : Option CallId) → CachesAfter (Provided call now (Found c)) (Sign c wake) old ((loading_hold old view).signing c)
-    stores c wake = (refl, caches_by (cache_of setup call) (at policy old entries stood call h r lives))
-      where
-        caches_by : (o : Option ℕ) → o ≡ Some h.cache → IsSomeAnd o (λ (i : ℕ). (i < length old.caches) × (slice_set old.caches h.cache (Some c) ≡ slice_set old.caches i (Some c)))
-        caches_by o e = rw e (slice_get_within old.caches h.cache _ (cached policy old entries stood call h r lives), refl)
+    stores c wake = (refl, caches-stored call c old ((loading_hold old view).signing c) h.cache (at policy old entries stood call h r lives) (slice_get_within old.caches h.cache _ (cached policy old entries stood call h r lives)) refl)
 
     order : (reply : Reply K) → is_not_now reply ≡ false → poll_order setup (after reply) h.cache ≡ poll_order setup before h.cache
     order reply n = order-stays policy setup before ran (entry reply) refl h.cache

@@ -43,7 +43,8 @@ use Rattle.desk_parts.specs.declared.call_record.Stage.{Stage}
 use Rattle.desk_parts.specs.declared.call_record.Stage.TheVariants as stage
 use Rattle.desk_parts.specs.declared.tables.LiveCallView.{LiveCallView}
 use Rattle.sign_desk.proofs.QueueLaw.{queue-stays, queue-with_last, queue-without_room, order-polled}
-use Rattle.sign_desk.proofs.Refine.{Follows, Refines, refines-more, follows-changed, follows-stays, keeps_old, live-stays}
+use Rattle.sign_desk.proofs.Refine.{Follows, Refines, refines-more, follows-changed, follows-stays, live-stays}
+use Rattle.desk_parts.proofs.OneChange.{keeps-all}
 use Rattle.sign_desk.proofs.RefineLive.{refines-live, HoldLaw, refines-hold, waited_wakes, waited_asks, waited_leaves}
 use Rattle.desk_parts.proofs.LiveRecord.{Lives}
 use Rattle.sign_desk.proofs.LiveRecord.{at, rule-is, cached, line-is, says, invariant, phase-is, here, own-begin}
@@ -126,7 +127,7 @@ module _ {K D : Type 0} (policy : Policy K D) (old : DeskState K D) (entries : L
       refines-more policy old entries stood (entry Pending) expected refl refl old old
       (follows-stays policy old entries stood (entry Pending) h.cache (at policy old entries stood call h r lives) refl refl
       (queue-stays policy setup before ran (entry Pending) h.cache (at policy old entries stood call h r lives) refl refl (order-polled policy setup before ran (entry Pending) h.cache polled) (ap is_unpolled (was ∙ sym is))))
-      (Some r) (subst (λ (o : Option CallRecord). ChangesOnlyCall old call o old) lives.found (keeps_old policy old entries stood call))
+      (Some r) (subst (λ (o : Option CallRecord). ChangesOnlyCall old call o old) lives.found (keeps-all old call))
       (ap (option_map live_view) (sym lives.found) ∙ stood.calls call ∙ rw (was, is, answers_after Pending, own-begin policy old entries stood call h r lives (entry Pending) refl refl, (says policy old entries stood call h r lives).begin) refl)
       (live-stays policy old entries stood (entry Pending) r r refl (ap is_live (was ∙ sym is)) lives.found)
 

@@ -1,17 +1,16 @@
 -- What a step does is one more entry of the transcript.
-use Rattle.std.proofs.Common.{◌≡◌, ℤ, ◌<◌, true, false, List, [], ◌∷◌, ◌++◌, Option, Some, None, is_some, option_map, slice_get, length, refl, ap, subst, IfSome}
+use Rattle.std.proofs.Common.{◌≡◌, ℕ, ℤ, false, List, [], ◌∷◌, ◌++◌, Some, None, option_map, refl, ap, subst}
 use Rattle.std.proofs.lemmas.List.{append-nil, append_assoc}
 use Rattle.wake_lock.specs.declared.CallId.{CallId}
 use Rattle.sequential_signer.specs.Policy.{Policy}
 use Rattle.sequential_signer.specs.Setup.{Setup, Handle, cache_of}
 use Rattle.sequential_signer.specs.Transcript.{committed_entries, call_of}
-use Rattle.sequential_signer.specs.Phase.{Phase, Unknown, Unpolled, Queued, Loading, Signing, Ended, phase_of, event_fits, is_live, is_loading, is_signing}
+use Rattle.sequential_signer.specs.Phase.{phase_of, event_fits, is_live}
 use Rattle.sequential_signer.specs.Legal.{IsLegal, IsLegalAfter, IsLegalEntry}
 use Rattle.sequential_signer.specs.declared.event.Answer.{Answer}
 use Rattle.sequential_signer.specs.declared.event.Entry.{Entry}
 use Rattle.sequential_signer.specs.declared.event.Event.{Event}
 use Rattle.sequential_signer.specs.declared.event.Event.TheVariants.{Begin, Poll, Provided, Signed, Cancel}
-use Rattle.sequential_signer.specs.declared.event.Loader.{Loader}
 use Rattle.sequential_signer.specs.declared.event.Reply.{Reply}
 use Rattle.sequential_signer.specs.declared.event.Verdict.{Verdict}
 use Rattle.sign_desk.specs.DeskState.{DeskState, Represents}
@@ -22,31 +21,14 @@ use Rattle.sign_desk.specs.Action.{Action, Performs}
 use Rattle.sign_desk.specs.Transition.{poll_action, provided_action, load_action, signed_action, cancel_action, live_action, Transition}
 use Rattle.sign_desk.specs.Records.{CallRecord}
 use Rattle.desk_parts.specs.declared.tables.LiveCallView.{LiveCallView}
-use Rattle.desk_parts.proofs.ListPlaces.{place-there}
-use Rattle.desk_parts.proofs.Views.{find_view-no_record, find_view-no_handle, find_view-is}
 use Rattle.sign_desk.proofs.Refine.{Refines, refines-not_now}
 use Rattle.sign_desk.proofs.RefineBegin.{refines-begin}
-use Rattle.desk_parts.proofs.LiveRecord.{Lives}
+use Rattle.desk_parts.proofs.LiveCases.{lives-cases}
+use Rattle.desk_parts.proofs.LiveRecord.{Lives, not_loading, not_signing}
 use Rattle.sign_desk.proofs.LiveRecord.{not_live, misfit, misfit_unset}
 use Rattle.sign_desk.proofs.RefinePoll.{refines-poll}
 use Rattle.sign_desk.proofs.RefineLoad.{refines-provided}
 use Rattle.sign_desk.proofs.RefineEnd.{refines-signed, refines-cancel}
-
-loading_live : (p : Phase) → is_live p ≡ false → is_loading p ≡ false
-loading_live Loading h = cc
-loading_live Unknown h = refl
-loading_live Unpolled h = refl
-loading_live Queued h = refl
-loading_live Signing h = refl
-loading_live Ended h = refl
-
-signing_live : (p : Phase) → is_live p ≡ false → is_signing p ≡ false
-signing_live Signing h = cc
-signing_live Unknown h = refl
-signing_live Unpolled h = refl
-signing_live Queued h = refl
-signing_live Loading h = refl
-signing_live Ended h = refl
 
 module _ {K D : Type 0} (policy : Policy K D) where
   module _ (old : DeskState K D) (entries : List (Entry K)) (stood : Represents policy old entries) (set_up : IsSetUp (setup_of old)) where
@@ -59,8 +41,8 @@ module _ {K D : Type 0} (policy : Policy K D) where
 
     unfit_of : (event : Event K) (action : LiveCallView → Action K D) → IsOfCall event action → is_live (phase_of (committed_entries entries) (call_of event)) ≡ false → event_fits (setup_of old) (committed_entries entries) event ≡ false
     unfit_of event action (poll call now) l = l
-    unfit_of event action (provided call now answer) l = loading_live (phase_of (committed_entries entries) call) l
-    unfit_of event action (signed call answer) l = signing_live (phase_of (committed_entries entries) call) l
+    unfit_of event action (provided call now answer) l = not_loading (phase_of (committed_entries entries) call) l
+    unfit_of event action (signed call answer) l = not_signing (phase_of (committed_entries entries) call) l
     unfit_of event action (cancel call) l = l
 
     module _ (reply : Reply K) (new : DeskState K D) where
@@ -77,31 +59,15 @@ module _ {K D : Type 0} (policy : Policy K D) where
       at_live event action (signed call answer) h r lives m = refines-signed policy old entries stood call h r lives answer r.stage refl reply new m
       at_live event action (cancel call) h r lives m = refines-cancel policy old entries stood call h r lives r.stage refl reply new m
 
-      by_places : (event : Event K) (action : LiveCallView → Action K D) → IsOfCall event action → (h : Handle) → slice_get old.handles (call_of event).handle ≡ Some h → (r : CallRecord) → find_call (call_of event) old.calls ≡ Some r
-          → (l : Option Loader) → slice_get old.loaders h.cache ≡ l → is_some l ≡ true → (rule : Option D) → slice_get old.rules h.rule ≡ rule → is_some rule ≡ true → IsDone event (action (stored_view (call_of event) h r)) → IsEntry event
-      by_places event action of h under r found None loads s rule ruled t m = absurd (cc)
-      by_places event action of h under r found (Some l) loads s None ruled t m = absurd (cc)
-      by_places event action of h under r found (Some l) loads s (Some rule) ruled t m = at_live event action of h r (record { under = under; found = found; loader = l; loads = loads; rule = rule; ruled = ruled }) m
-
-      by_view : (event : Event K) (action : LiveCallView → Action K D) → IsOfCall event action → (o : Option Handle) → slice_get old.handles (call_of event).handle ≡ o → IfSome o (λ x. (x.cache < length old.loaders) × (x.rule < length old.rules))
-          → (f : Option CallRecord) → find_call (call_of event) old.calls ≡ f → IsDone event (live_action action (find_view old (call_of event))) → IsEntry event
-      by_view event action of None under k f found m = unset (subst (λ (v : Option LiveCallView). IsDone event (live_action action v)) (find_view-no_handle old (call_of event) under) m)
-        where
-          unset : IsDone event (live_action action None) → IsEntry event
-          unset m = rw (m.0, m.1) (refines-not_now policy old entries stood event (misfit_unset policy old entries stood event under))
-      by_view event action of (Some h) under k None found m = unfit (subst (λ (v : Option LiveCallView). IsDone event (live_action action v)) (find_view-no_record old (call_of event) found) m)
-        where
-          at : cache_of (setup_of old) (call_of event) ≡ Some h.cache
-          at = ap (option_map (λ (x : Handle). x.cache)) under
-
-          unfit : IsDone event (live_action action None) → IsEntry event
-          unfit m = rw (m.0, m.1) (refines-not_now policy old entries stood event (misfit policy old entries stood event h.cache at (unfit_of event action of (not_live policy old entries stood (call_of event) h.cache at found))))
-      by_view event action of (Some h) under k (Some r) found m =
-          by_places event action of h under r found (slice_get old.loaders h.cache) refl (place-there old.loaders h.cache k.0) (slice_get old.rules h.rule) refl (place-there old.rules h.rule k.1)
-          (subst (λ (v : Option LiveCallView). IsDone event (live_action action v)) (find_view-is old (call_of event) h r under found) m)
-
       by_call : (event : Event K) (action : LiveCallView → Action K D) → IsOfCall event action → IsDone event (live_action action (find_view old (call_of event))) → IsEntry event
-      by_call event action of m = by_view event action of (slice_get old.handles (call_of event).handle) refl (set_up.handles (call_of event).handle) (find_call (call_of event) old.calls) refl m
+      by_call event action of m =
+          lives-cases old set_up (call_of event) (λ v. IsDone event (live_action action v) → IsEntry event)
+          (λ under k. rw (k.0, k.1) (refines-not_now policy old entries stood event (misfit_unset policy old entries stood event under)))
+          (λ h under found k. unfit h.cache (ap (option_map (λ (x : Handle). x.cache)) under) found k)
+          (λ h r lives k. at_live event action of h r lives k) m
+        where
+          unfit : (i : ℕ) → cache_of (setup_of old) (call_of event) ≡ Some i → find_call (call_of event) old.calls ≡ None → IsDone event (live_action action None) → IsEntry event
+          unfit i at found k = rw (k.0, k.1) (refines-not_now policy old entries stood event (misfit policy old entries stood event i at (unfit_of event action of (not_live policy old entries stood (call_of event) i at found))))
 
       -- what a step does is one more entry
       pub refines-step : (event : Event K) → Transition policy event old reply new → Refines policy old entries (record { event = event; reply = reply }) new

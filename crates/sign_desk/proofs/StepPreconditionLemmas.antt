@@ -33,16 +33,12 @@ use Rattle.desk_parts.specs.Places.{HasPlaces, provider_count}
 use Rattle.desk_parts.specs.Queue.{MayEnter}
 use Rattle.sign_desk.specs.StepPrecondition.{IsPlaced, StepPrecondition}
 use Rattle.desk_parts.specs.LiveCallView.{stored_view, find_view}
-use Rattle.desk_parts.proofs.ListPlaces.{place-below, place-there}
-use Rattle.desk_parts.proofs.Views.{find_view-no_record, find_view-no_handle, find_view-is}
+use Rattle.desk_parts.proofs.ListPlaces.{place-there, mapped-below, if-some}
+use Rattle.desk_parts.proofs.Views.{view-cases}
 use Rattle.sign_desk.proofs.LoadsFew.{loads_few}
 use Rattle.sequential_signer.proofs.BegunCalls.{begun_there}
 use Rattle.sign_desk.proofs.QueueLaw.{unpolled-absent}
 use Rattle.desk_parts.proofs.LiveRecord.{RecordSays, record_says}
-
-some_map : {A B : Type 0} (b : B) (o : Option A) → is_some o ≡ true → is_some (option_map (λ _. b) o) ≡ true
-some_map b None h = cc
-some_map b (Some x) h = refl
 
 passes_some : (p : CallId → Bool) (c : CallId) (xs : List CallId) → list_any (same_call c) xs ≡ true → p c ≡ true → 0 < length (filter p xs)
 passes_some p c [] m h = cc
@@ -86,8 +82,8 @@ module _ {K D : Type 0} (policy : Policy K D) (old : DeskState K D) (entries : L
       let loader : is_some (slice_get old.loaders cache) ≡ true = place-there old.loaders cache c in
       record {
         loader = c;
-        cached = place-below old.caches cache (ap is_some (stood.caches cache) ∙ some_map (sequential_cache policy setup before cache) (slice_get old.loaders cache) loader);
-        queue = place-below old.queues cache (ap is_some (stood.queues cache) ∙ some_map (queue_of setup before cache) (slice_get old.loaders cache) loader);
+        cached = mapped-below old.caches cache (sequential_cache policy setup before cache) (slice_get old.loaders cache) (stood.caches cache) loader;
+        queue = mapped-below old.queues cache (queue_of setup before cache) (slice_get old.loaders cache) (stood.queues cache) loader;
         rules = r;
       }
 
@@ -119,13 +115,9 @@ module _ {K D : Type 0} (policy : Policy K D) (old : DeskState K D) (entries : L
     at = ap (option_map (λ (x : Handle). x.cache)) under
 
     few : r.stage ≡ stage.Loading → IfSome (slice_get old.loaders h.cache) (λ loader. r.answers < provider_count loader)
-    few s = by_loader (slice_get old.loaders h.cache) refl
-      where
-        by_loader : (o : Option Loader) → slice_get old.loaders h.cache ≡ o → IfSome o (λ loader. r.answers < provider_count loader)
-        by_loader None e = tt
-        by_loader (Some loader) e =
-            subst (λ n. n < provider_count loader) recorded.answers
-            (loads_few policy setup before ran call h.cache at loader e (ap is_loading (recorded.phase ∙ ap phase_of_stage s)))
+    few s =
+        if-some (λ loader. r.answers < provider_count loader) (slice_get old.loaders h.cache)
+        (λ loader e. subst (λ n. n < provider_count loader) recorded.answers (loads_few policy setup before ran call h.cache at loader e (ap is_loading (recorded.phase ∙ ap phase_of_stage s))))
 
     unpolled_of : CallInvariant setup before h.cache call Unpolled → is_polled setup before h.cache call ≡ false
     unpolled_of (unpolled_call _ _ u) = u
@@ -154,12 +146,7 @@ module _ {K D : Type 0} (policy : Policy K D) (old : DeskState K D) (entries : L
     placed_by p = record { live = rw found refl; places = rw under at p; few = few; unpolled = may_enter }
 
   calls : (call : CallId) → IfSome (find_view old call) (IsPlaced old)
-  calls call = by_view (slice_get old.handles call.handle) refl (find_call call old.calls) refl
-    where
-      by_view : (o : Option Handle) → slice_get old.handles call.handle ≡ o → (f : Option CallRecord) → find_call call old.calls ≡ f → IfSome (find_view old call) (IsPlaced old)
-      by_view None under f found = rw (find_view-no_handle old call under) tt
-      by_view (Some h) under None found = rw (find_view-no_record old call found) tt
-      by_view (Some h) under (Some r) found = rw (find_view-is old call h r under found) (placed_by call h under r found (places call.handle))
+  calls call = view-cases old call (λ v. IfSome v (IsPlaced old)) (λ _. tt) (λ _ _ _. tt) (λ h r under found. placed_by call h under r found (places call.handle))
 
   -- what a step relies on holds of a desk that represents a transcript
   pub step-precondition : StepPrecondition old

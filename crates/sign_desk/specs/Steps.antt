@@ -7,6 +7,7 @@ use Rattle.sequential_signer.specs.declared.event.Entry.{Entry}
 use Rattle.sequential_signer.specs.declared.event.Event.{Event}
 use Rattle.sequential_signer.specs.declared.event.Reply.{Reply}
 use Rattle.sign_desk.specs.DeskState.{DeskState, Represents}
+use Rattle.desk_parts.specs.StepsBy.{StepsBy}
 use Rattle.desk_parts.specs.Tables.{setup_of}
 use Rattle.sign_desk.specs.Change.{UnchangedBy}
 use Rattle.sign_desk.specs.Cause.{cause_of, IsCaused}
@@ -23,7 +24,4 @@ pub record IsStep {K D : Type 0} (policy : Policy K D) (event : Event K) (old : 
 
 -- each event in turn has the reply at its place, by a step from the desk that the step before it left
 abbrev pub AreSteps : {K D : Type 0} → Policy K D → List (Event K) → List (Reply K) → DeskState K D → DeskState K D → Type 0
-AreSteps policy [] [] old new = new ≡ old
-AreSteps {K = K} {D = D} policy (event ∷ events) (reply ∷ replies) old new =
-    (next : DeskState K D) × IsStep policy event old reply next × AreSteps policy events replies next new
-AreSteps policy events replies old new = ⊥
+AreSteps policy events replies old new = StepsBy (IsStep policy) events replies old new

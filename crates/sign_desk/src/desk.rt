@@ -43,15 +43,13 @@ impl<K: SigningCredential, D: DeadlineRule<Credential = K>> Desk<K, D> {
     ghost use Rattle.desk_parts.specs.Tables.{setup_of, was_begun};
     ghost use Rattle.desk_parts.specs.Adding.{late_refusal, handle_refusal, AddAnswer, AddAnswerBack, with_rule, with_handle};
     ghost use Rattle.sign_desk.specs.DeskState.{with_cache};
-    ghost use Rattle.sign_desk.specs.Change.{UnchangedBy};
     ghost use Rattle.sign_desk.specs.LiveCount.{LiveAfter};
     ghost use Rattle.sign_desk.specs.ReplyKinds.{is_reply_to};
     ghost use Rattle.sign_desk.specs.Cause.{cause_of, IsCaused};
-    ghost use Rattle.sign_desk.specs.CachesAfter.{CachesAfter};
     ghost use Rattle.desk_parts.specs.Memory.{ClonesAreFree};
     ghost use Rattle.sign_desk.specs.Memory.{RunsOutAtHeads, RunsOutAtBegins};
     ghost use Rattle.sign_desk.specs.Steps.{IsStep, AreSteps};
-    ghost use Rattle.sign_desk.specs.StepPrecondition.{StepPrecondition};
+    ghost use Rattle.sign_desk.specs.StepPrecondition.{StepPrecondition, AreNumbered};
     ghost use Rattle.sign_desk.specs.Transition.{Transition};
     ghost use Rattle.sign_desk.specs.PairedEntries.{paired_entries};
     ghost use Rattle.desk_parts.specs.TablesView.{handle_view};
@@ -263,25 +261,21 @@ impl<K: SigningCredential, D: DeadlineRule<Credential = K>> Desk<K, D> {
     }
 
     /// One event, applied whole: whatever transcript the desk represents, it then represents that
-    /// with this entry. The setup stays.
+    /// with this entry. The setup stays. What is done is exactly the event's `Transition`, so a driver
+    /// knows where its calls are.
     ///
     /// An event that does not fit how far its call is, is answered `NotNow`. `OutOfMemory` is answered
     /// only where memory is taken: at a begin, where a credential is handed out unless its clones take
     /// none, and at an accepted head. Both change nothing.
     pub fn step(&mut self, event: &Event<K>) -> Reply<K>
-        ensures represents { (entries : List (Entry K)) → Represents (policy_of K.valid K.valid_at D.deadline) self.old entries
-            → Represents (policy_of K.valid K.valid_at D.deadline) self.new (entries ++ record { event = event.now; reply = result } ∷ []) }
-        ensures expected { (entries : List (Entry K)) → Represents (policy_of K.valid K.valid_at D.deadline) self.old entries
-            → IsLegalEntry (policy_of K.valid K.valid_at D.deadline) (setup_of self.old) (committed_entries entries)
-            (record { event = event.now; reply = result }) }
-        ensures causes { IsCaused (cause_of (policy_of K.valid K.valid_at D.deadline) self.old event.now) result }
-        ensures caches { CachesAfter event.now result self.old self.new }
-        ensures setup { setup_of self.new ≡ setup_of self.old }
-        ensures unchanged { UnchangedBy result self.old self.new }
+        ensures step { IsStep (policy_of K.valid K.valid_at D.deadline) event.now self.old result self.new }
+        ensures transition { Transition (policy_of K.valid K.valid_at D.deadline) event.now self.old result self.new }
         ensures live { LiveAfter result (length self.old.calls) (length self.new.calls) }
         ensures memory { ClonesAreFree K.clones_freely → RunsOutAtHeads event.now result }
+        ensures sound { StepPrecondition self.old }
+        ensures numbered { AreNumbered self.old }
     {
-        self.advance(event)
+        self.state.step(event)
     }
 
     /// The reply that a step would give now. Nothing changes.
@@ -304,22 +298,13 @@ impl<K: SigningCredential, D: DeadlineRule<Credential = K>> Desk<K, D> {
     /// a credential is handed out. The event is gone then too; `step` leaves it with its caller.
     pub fn step_owned(&mut self, event: Event<K>) -> Reply<K>
         ensures step { IsStep (policy_of K.valid K.valid_at D.deadline) event self.old result self.new }
+        ensures transition { Transition (policy_of K.valid K.valid_at D.deadline) event self.old result self.new }
+        ensures live { LiveAfter result (length self.old.calls) (length self.new.calls) }
         ensures memory { ClonesAreFree K.clones_freely → RunsOutAtBegins event result }
+        ensures sound { StepPrecondition self.old }
+        ensures numbered { AreNumbered self.old }
     {
         self.state.step_owned(event)
-    }
-
-    /// The same step, with exactly what it does to what the desk keeps: for a driver that has to know where
-    /// its calls are.
-    pub fn advance(&mut self, event: &Event<K>) -> Reply<K>
-        ensures step { IsStep (policy_of K.valid K.valid_at D.deadline) event.now self.old result self.new }
-        ensures transition { Transition (policy_of K.valid K.valid_at D.deadline) event.now self.old result self.new }
-        ensures live { LiveAfter result (length self.old.calls) (length self.new.calls) }
-        ensures memory { ClonesAreFree K.clones_freely → RunsOutAtHeads event.now result }
-        ensures sound { StepPrecondition self.old }
-        ensures numbered { (handle : ℕ) → IsSome (slice_get self.old.handles handle) → IsSome (slice_get self.old.greatest handle) }
-    {
-        self.state.step(event)
     }
 
     /// Takes the events one after another, each by a `step`, and returns their replies.

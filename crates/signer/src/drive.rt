@@ -43,7 +43,7 @@ pub(crate) fn begin_call<K: SigningCredential, D: DeadlineRule<Credential = K>>(
         head,
         expires_in,
     };
-    match desk.advance(&event) {
+    match desk.step(&event) {
         Reply::Begun => Ok(begun_in(event).unwrap()),
         _ => Err(NoMemory { back: () }),
     }
@@ -60,7 +60,7 @@ pub(crate) fn cancel_call<K: SigningCredential, D: DeadlineRule<Credential = K>>
     ensures others { LeavesOthers begun.now.id desk.old desk.new }
 {
     let event = Event::Cancel { call: begun.id };
-    match desk.advance(&event) {
+    match desk.step(&event) {
         Reply::Cancelled { wake } => wake,
         _ => unreachable!(),
     }
@@ -82,7 +82,7 @@ pub(crate) fn poll_call<K: SigningCredential, D: DeadlineRule<Credential = K>>(
         call: begun.id,
         now,
     };
-    desk.advance(&event)
+    desk.step(&event)
 }
 
 /// A credential that the asked provider found, which is handed back beside the reply.
@@ -107,7 +107,7 @@ pub(crate) fn give_found<K: SigningCredential, D: DeadlineRule<Credential = K>>(
         now,
         answer,
     };
-    let reply = desk.advance(&event);
+    let reply = desk.step(&event);
     (reply, found_in(event).unwrap())
 }
 
@@ -130,7 +130,7 @@ pub(crate) fn give_missing<K: SigningCredential, D: DeadlineRule<Credential = K>
         now,
         answer: Answer::Missing,
     };
-    desk.advance(&event)
+    desk.step(&event)
 }
 
 /// The asked provider failed.
@@ -152,7 +152,7 @@ pub(crate) fn give_failed<K: SigningCredential, D: DeadlineRule<Credential = K>>
         now,
         answer: Answer::Failed(ERROR),
     };
-    desk.advance(&event)
+    desk.step(&event)
 }
 
 /// The service signed this head, which is handed back beside the reply.
@@ -173,7 +173,7 @@ pub(crate) fn give_accepted<K: SigningCredential, D: DeadlineRule<Credential = K
         call: begun.id,
         answer: Verdict::Accepted(candidate),
     };
-    let reply = desk.advance(&event);
+    let reply = desk.step(&event);
     (reply, accepted_in(event).unwrap())
 }
 
@@ -192,7 +192,7 @@ pub(crate) fn give_rejected<K: SigningCredential, D: DeadlineRule<Credential = K
         call: begun.id,
         answer: Verdict::Failed(ERROR),
     };
-    let _refused = desk.advance(&event);
+    let _refused = desk.step(&event);
 }
 
 /// The head that a call began with.

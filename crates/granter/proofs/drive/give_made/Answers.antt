@@ -5,9 +5,9 @@ use Rattle.granter.proofs.drive.give_made.Goals as goal
 pub returns-clause-after : goal.returns-clause-after
 returns-clause-after g c =
     let policy = policy_of g.K.SigningCredential.valid g.K.SigningCredential.valid_at g.D.DeadlineRule.deadline in
-    (after-made policy c.args.desk.now c.advance-reply.new.self c.advance-reply.result c.args.begun.now c.advance-reply.ensures.sound c.requires.there c.args.now c.args.credential c.requires.granting c.advance-reply.ensures.transition).after
+    (after-made policy c.args.desk.now c.step-reply.new.self c.step-reply.result c.args.begun.now c.step-reply.ensures.sound c.requires.there c.args.now c.args.credential c.requires.granting c.step-reply.ensures.transition).after
 
 pub returns-clause-others : goal.returns-clause-others
 returns-clause-others g c =
     let policy = policy_of g.K.SigningCredential.valid g.K.SigningCredential.valid_at g.D.DeadlineRule.deadline in
-    (after-made policy c.args.desk.now c.advance-reply.new.self c.advance-reply.result c.args.begun.now c.advance-reply.ensures.sound c.requires.there c.args.now c.args.credential c.requires.granting c.advance-reply.ensures.transition).others
+    (after-made policy c.args.desk.now c.step-reply.new.self c.step-reply.result c.args.begun.now c.step-reply.ensures.sound c.requires.there c.args.now c.args.credential c.requires.granting c.step-reply.ensures.transition).others

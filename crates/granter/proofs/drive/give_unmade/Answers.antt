@@ -10,10 +10,10 @@ use Rattle.granter.proofs.drive.give_unmade.Goals as goal
 pub returns-clause-step : goal.returns-clause-step
 returns-clause-step g c =
     let policy = policy_of g.K.SigningCredential.valid g.K.SigningCredential.valid_at g.D.DeadlineRule.deadline in
-    let done = after-unmade policy c.args.desk.now c.advance-refused.new.self c.advance-refused.result c.args.begun.now c.advance-refused.ensures.sound c.requires.there c.args.now 0 c.requires.granting c.advance-refused.ensures.transition in
-    subst (λ (r : GrantReply g.row.K.Denot). IsGrantStep policy (Granted c.args.begun.now.id c.args.now (made.Failed 0)) c.args.desk.now r c.advance-refused.new.self) done.after c.advance-refused.ensures.step
+    let done = after-unmade policy c.args.desk.now c.step-refused.new.self c.step-refused.result c.args.begun.now c.step-refused.ensures.sound c.requires.there c.args.now 0 c.requires.granting c.step-refused.ensures.transition in
+    subst (λ (r : GrantReply g.row.K.Denot). IsGrantStep policy (Granted c.args.begun.now.id c.args.now (made.Failed 0)) c.args.desk.now r c.step-refused.new.self) done.after c.step-refused.ensures.step
 
 pub returns-clause-others : goal.returns-clause-others
 returns-clause-others g c =
     let policy = policy_of g.K.SigningCredential.valid g.K.SigningCredential.valid_at g.D.DeadlineRule.deadline in
-    (after-unmade policy c.args.desk.now c.advance-refused.new.self c.advance-refused.result c.args.begun.now c.advance-refused.ensures.sound c.requires.there c.args.now 0 c.requires.granting c.advance-refused.ensures.transition).others
+    (after-unmade policy c.args.desk.now c.step-refused.new.self c.step-refused.result c.args.begun.now c.step-refused.ensures.sound c.requires.there c.args.now 0 c.requires.granting c.step-refused.ensures.transition).others

@@ -10,10 +10,10 @@ use Rattle.signer.proofs.drive.give_rejected.Goals as goal
 pub returns-clause-step : goal.returns-clause-step
 returns-clause-step g c =
     let policy = policy_of g.K.SigningCredential.valid g.K.SigningCredential.valid_at g.D.DeadlineRule.deadline in
-    let done = after-rejected policy c.args.desk.now c.advance-refused.new.self c.advance-refused.result c.args.begun.now c.advance-refused.ensures.sound c.requires.there 0 c.requires.signing c.advance-refused.ensures.transition in
-    subst (λ (r : Reply g.row.K.Denot). IsStep policy (Signed c.args.begun.now.id (verdict.Failed 0)) c.args.desk.now r c.advance-refused.new.self) done.after c.advance-refused.ensures.step
+    let done = after-rejected policy c.args.desk.now c.step-refused.new.self c.step-refused.result c.args.begun.now c.step-refused.ensures.sound c.requires.there 0 c.requires.signing c.step-refused.ensures.transition in
+    subst (λ (r : Reply g.row.K.Denot). IsStep policy (Signed c.args.begun.now.id (verdict.Failed 0)) c.args.desk.now r c.step-refused.new.self) done.after c.step-refused.ensures.step
 
 pub returns-clause-others : goal.returns-clause-others
 returns-clause-others g c =
     let policy = policy_of g.K.SigningCredential.valid g.K.SigningCredential.valid_at g.D.DeadlineRule.deadline in
-    (after-rejected policy c.args.desk.now c.advance-refused.new.self c.advance-refused.result c.args.begun.now c.advance-refused.ensures.sound c.requires.there 0 c.requires.signing c.advance-refused.ensures.transition).others
+    (after-rejected policy c.args.desk.now c.step-refused.new.self c.step-refused.result c.args.begun.now c.step-refused.ensures.sound c.requires.there 0 c.requires.signing c.step-refused.ensures.transition).others

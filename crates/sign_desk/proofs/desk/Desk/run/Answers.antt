@@ -3,21 +3,13 @@ use Rattle.std.proofs.lemmas.List.{take_more, length-append, length-take}
 use Rattle.sequential_signer.specs.declared.event.Event.{Event}
 use Rattle.sequential_signer.specs.Policy.{policy_of}
 use Rattle.sign_desk.specs.Steps.{IsStep}
-use Rattle.sign_desk.specs.PairedEntries.{paired_entries}
-use Rattle.sign_desk.proofs.RunLemmas.{paired_entries-append, AreSteps-more}
+use Rattle.sign_desk.specs.PairedEntries.{entry_of, paired_entries}
+use Rattle.desk_parts.proofs.MoreSteps.{paired-append, steps-more}
 use Rattle.sign_desk.proofs.desk.Desk.run.Goals as goal
 
 pub loop-event-preserved : goal.loop-event-preserved
 loop-event-preserved g c =
     let policy = policy_of g.K.SigningCredential.valid g.K.SigningCredential.valid_at g.D.DeadlineRule.deadline in
-    let step : IsStep policy c.event-item.result c.loop-event.self c.step-reply.result c.step-reply.new.self = record {
-      represents = c.step-reply.ensures.represents;
-      expected = c.step-reply.ensures.expected;
-      causes = c.step-reply.ensures.causes;
-      caches = c.step-reply.ensures.caches;
-      setup = c.step-reply.ensures.setup;
-      unchanged = c.step-reply.ensures.unchanged;
-    } in
     let within : c.loop-event.event-index < length c.args.events.now = c.loop-event-test.true in
     let taken : take (c.loop-event.event-index + 1) c.args.events.now ≡ take c.loop-event.event-index c.args.events.now ++ c.event-item.result ∷ [] =
     take_more c.args.events.now c.loop-event.event-index c.event-item.result within ∙ ap (λ (x : Event g.row.K.Denot). take c.loop-event.event-index c.args.events.now ++ x ∷ []) (sym c.event-item.is) in
@@ -26,9 +18,9 @@ loop-event-preserved g c =
       count = rw (c.push_reserved.ensures.items, length-append) (omega (arith, c.loop-event.invariant.count));
       room = omega arith;
       steps = rw (taken, c.push_reserved.ensures.items)
-          (AreSteps-more policy (take c.loop-event.event-index c.args.events.now) c.loop-event.replies.items c.event-item.result c.step-reply.result c.args.self.now c.loop-event.self c.step-reply.new.self c.loop-event.invariant.steps step);
-      setup = c.step-reply.ensures.setup ∙ c.loop-event.invariant.setup;
+          (steps-more (IsStep policy) (take c.loop-event.event-index c.args.events.now) c.loop-event.replies.items c.event-item.result c.step-reply.result c.args.self.now c.loop-event.self c.step-reply.new.self c.loop-event.invariant.steps c.step-reply.ensures.step);
+      setup = c.step-reply.ensures.step.setup ∙ c.loop-event.invariant.setup;
       represents = λ entries stood.
-          rw (taken, c.push_reserved.ensures.items, sym (paired_entries-append entries (take c.loop-event.event-index c.args.events.now) c.loop-event.replies.items c.event-item.result c.step-reply.result count))
-          (c.step-reply.ensures.represents (entries ++ paired_entries (take c.loop-event.event-index c.args.events.now) c.loop-event.replies.items) (c.loop-event.invariant.represents entries stood));
+          rw (taken, c.push_reserved.ensures.items, sym (paired-append entry_of entries (take c.loop-event.event-index c.args.events.now) c.loop-event.replies.items c.event-item.result c.step-reply.result count))
+          (c.step-reply.ensures.step.represents (entries ++ paired_entries (take c.loop-event.event-index c.args.events.now) c.loop-event.replies.items) (c.loop-event.invariant.represents entries stood));
     }

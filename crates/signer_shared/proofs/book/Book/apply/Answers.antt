@@ -31,7 +31,7 @@ pub invariant_of-self-then-is_out_of_memory : goal.invariant_of-self-then-is_out
 invariant_of-self-then-is_out_of_memory g c =
     let policy = policy_of g.K.SigningCredential.valid g.K.SigningCredential.valid_at g.D.DeadlineRule.deadline in
     let is : c.step-reply.result ≡ OutOfMemory = out_of_memory-is c.step-reply.result (sym c.is_out_of_memory.ensures ∙ c.if-is_out_of_memory.true) in
-    let stays : c.step-reply.new.self ≡ c.self.inside.desk = subst (λ (r : Reply g.row.K.Denot). UnchangedBy r c.self.inside.desk c.step-reply.new.self) is c.step-reply.ensures.unchanged in
+    let stays : c.step-reply.new.self ≡ c.self.inside.desk = subst (λ (r : Reply g.row.K.Denot). UnchangedBy r c.self.inside.desk c.step-reply.new.self) is c.step-reply.ensures.step.unchanged in
     let calls : length c.step-reply.new.self.calls ≡ length c.self.inside.desk.calls = ap (λ (k : DeskState g.row.K.Denot g.row.D.Denot). length k.calls) stays in
     record { represents = rw (stays, c.take_entry_room.ensures.items) c.self.invariant.represents; room = omega (arith, c.take_entry_room.ensures.before, c.live-live.ensures, calls) }
 
@@ -39,21 +39,21 @@ pub returns-then-is_out_of_memory-clause-represents : goal.returns-then-is_out_o
 returns-then-is_out_of_memory-clause-represents g c =
     let policy = policy_of g.K.SigningCredential.valid g.K.SigningCredential.valid_at g.D.DeadlineRule.deadline in
     let is : c.step-reply.result ≡ OutOfMemory = out_of_memory-is c.step-reply.result (sym c.is_out_of_memory.ensures ∙ c.if-is_out_of_memory.true) in
-    let stays : c.step-reply.new.self ≡ c.self.inside.desk = subst (λ (r : Reply g.row.K.Denot). UnchangedBy r c.self.inside.desk c.step-reply.new.self) is c.step-reply.ensures.unchanged in
+    let stays : c.step-reply.new.self ≡ c.self.inside.desk = subst (λ (r : Reply g.row.K.Denot). UnchangedBy r c.self.inside.desk c.step-reply.new.self) is c.step-reply.ensures.step.unchanged in
     rw (stays, c.take_entry_room.ensures.items) c.self.invariant.represents
 
 pub returns-then-is_out_of_memory-clause-book_unchanged : goal.returns-then-is_out_of_memory-clause-book_unchanged
 returns-then-is_out_of_memory-clause-book_unchanged g c =
     let policy = policy_of g.K.SigningCredential.valid g.K.SigningCredential.valid_at g.D.DeadlineRule.deadline in
     let is : c.step-reply.result ≡ OutOfMemory = out_of_memory-is c.step-reply.result (sym c.is_out_of_memory.ensures ∙ c.if-is_out_of_memory.true) in
-    let stays : c.step-reply.new.self ≡ c.self.inside.desk = subst (λ (r : Reply g.row.K.Denot). UnchangedBy r c.self.inside.desk c.step-reply.new.self) is c.step-reply.ensures.unchanged in
+    let stays : c.step-reply.new.self ≡ c.self.inside.desk = subst (λ (r : Reply g.row.K.Denot). UnchangedBy r c.self.inside.desk c.step-reply.new.self) is c.step-reply.ensures.step.unchanged in
     λ _. (λ i. let b : BookState g.row.K.Denot g.row.D.Denot = record { desk = stays i; journal = c.take_entry_room.ensures.items i } in b) ∙ c.self.view_is
 
 pub push_reserved-requires : goal.push_reserved-requires
 push_reserved-requires g c =
     let policy = policy_of g.K.SigningCredential.valid g.K.SigningCredential.valid_at g.D.DeadlineRule.deadline in
     let items = c.self.inside.journal.items in
-    let legal = c.step-reply.ensures.expected items c.self.invariant.represents in
+    let legal = c.step-reply.ensures.step.expected items c.self.invariant.represents in
     let memory : is_out_of_memory c.step-reply.result ≡ false = sym c.is_out_of_memory.ensures ∙ c.if-is_out_of_memory.false in
     let kept : c.in-Some.kept ≡ record { event = c.args.event.now; reply = c.step-reply.result } = kept-is policy (setup_of c.self.inside.desk) (committed_entries items) c.args.event.now c.step-reply.result c.in-Some.kept legal memory c.in-Some.ensures.event (c.in-Some.ensures.expected items c.self.invariant.represents) in
     let same : c.in-Some.kept.reply ≡ c.step-reply.result = ap (λ (x : Entry g.row.K.Denot). x.reply) kept in
@@ -76,7 +76,7 @@ pub invariant_of-self-2 : goal.invariant_of-self-2
 invariant_of-self-2 g c =
     let policy = policy_of g.K.SigningCredential.valid g.K.SigningCredential.valid_at g.D.DeadlineRule.deadline in
     let items = c.self.inside.journal.items in
-    let legal = c.step-reply.ensures.expected items c.self.invariant.represents in
+    let legal = c.step-reply.ensures.step.expected items c.self.invariant.represents in
     let memory : is_out_of_memory c.step-reply.result ≡ false = sym c.is_out_of_memory.ensures ∙ c.if-is_out_of_memory.false in
     let kept : c.in-Some.kept ≡ record { event = c.args.event.now; reply = c.step-reply.result } = kept-is policy (setup_of c.self.inside.desk) (committed_entries items) c.args.event.now c.step-reply.result c.in-Some.kept legal memory c.in-Some.ensures.event (c.in-Some.ensures.expected items c.self.invariant.represents) in
     let same : c.in-Some.kept.reply ≡ c.step-reply.result = ap (λ (x : Entry g.row.K.Denot). x.reply) kept in
@@ -89,7 +89,7 @@ invariant_of-self-2 g c =
     let m = length-append items (record { event = c.args.event.now; reply = c.step-reply.result } ∷ []) in
     let n : length c.push_reserved.new.self.items ≡ length (items ++ record { event = c.args.event.now; reply = c.step-reply.result } ∷ []) = ap length listed in
     record {
-      represents = subst (λ (js : List (Entry g.row.K.Denot)). Represents policy c.step-reply.new.self js) (sym listed) (c.step-reply.ensures.represents items c.self.invariant.represents);
+      represents = subst (λ (js : List (Entry g.row.K.Denot)). Represents policy c.step-reply.new.self js) (sym listed) (c.step-reply.ensures.step.represents items c.self.invariant.represents);
       room = omega (arith, room, m, n, c.push_reserved.ensures.capacity);
     }
 
@@ -97,19 +97,19 @@ pub returns-clause-represents : goal.returns-clause-represents
 returns-clause-represents g c =
     let policy = policy_of g.K.SigningCredential.valid g.K.SigningCredential.valid_at g.D.DeadlineRule.deadline in
     let items = c.self.inside.journal.items in
-    let legal = c.step-reply.ensures.expected items c.self.invariant.represents in
+    let legal = c.step-reply.ensures.step.expected items c.self.invariant.represents in
     let memory : is_out_of_memory c.step-reply.result ≡ false = sym c.is_out_of_memory.ensures ∙ c.if-is_out_of_memory.false in
     let kept : c.in-Some.kept ≡ record { event = c.args.event.now; reply = c.step-reply.result } = kept-is policy (setup_of c.self.inside.desk) (committed_entries items) c.args.event.now c.step-reply.result c.in-Some.kept legal memory c.in-Some.ensures.event (c.in-Some.ensures.expected items c.self.invariant.represents) in
     let same : c.in-Some.kept.reply ≡ c.step-reply.result = ap (λ (x : Entry g.row.K.Denot). x.reply) kept in
     let listed : c.push_reserved.new.self.items ≡ items ++ record { event = c.args.event.now; reply = c.step-reply.result } ∷ [] =
     c.push_reserved.ensures.items ∙ ap (λ (xs : List (Entry g.row.K.Denot)). xs ++ c.in-Some.kept ∷ []) c.take_entry_room.ensures.items ∙ ap (λ (x : Entry g.row.K.Denot). items ++ x ∷ []) kept in
-    subst (λ (js : List (Entry g.row.K.Denot)). Represents policy c.step-reply.new.self js) (sym listed) (c.step-reply.ensures.represents items c.self.invariant.represents)
+    subst (λ (js : List (Entry g.row.K.Denot)). Represents policy c.step-reply.new.self js) (sym listed) (c.step-reply.ensures.step.represents items c.self.invariant.represents)
 
 pub returns-clause-journal : goal.returns-clause-journal
 returns-clause-journal g c =
     let policy = policy_of g.K.SigningCredential.valid g.K.SigningCredential.valid_at g.D.DeadlineRule.deadline in
     let items = c.self.inside.journal.items in
-    let legal = c.step-reply.ensures.expected items c.self.invariant.represents in
+    let legal = c.step-reply.ensures.step.expected items c.self.invariant.represents in
     let memory : is_out_of_memory c.step-reply.result ≡ false = sym c.is_out_of_memory.ensures ∙ c.if-is_out_of_memory.false in
     let kept : c.in-Some.kept ≡ record { event = c.args.event.now; reply = c.step-reply.result } = kept-is policy (setup_of c.self.inside.desk) (committed_entries items) c.args.event.now c.step-reply.result c.in-Some.kept legal memory c.in-Some.ensures.event (c.in-Some.ensures.expected items c.self.invariant.represents) in
     let same : c.in-Some.kept.reply ≡ c.step-reply.result = ap (λ (x : Entry g.row.K.Denot). x.reply) kept in
@@ -121,7 +121,7 @@ pub returns-clause-receipt : goal.returns-clause-receipt
 returns-clause-receipt g c =
     let policy = policy_of g.K.SigningCredential.valid g.K.SigningCredential.valid_at g.D.DeadlineRule.deadline in
     let items = c.self.inside.journal.items in
-    let legal = c.step-reply.ensures.expected items c.self.invariant.represents in
+    let legal = c.step-reply.ensures.step.expected items c.self.invariant.represents in
     let memory : is_out_of_memory c.step-reply.result ≡ false = sym c.is_out_of_memory.ensures ∙ c.if-is_out_of_memory.false in
     let kept : c.in-Some-preview_entry.given ≡ record { event = c.args.event.now; reply = c.step-reply.result } = kept-is policy (setup_of c.self.inside.desk) (committed_entries items) c.args.event.now c.step-reply.result c.in-Some-preview_entry.given legal memory c.in-Some-preview_entry.ensures.event (c.in-Some-preview_entry.ensures.expected items c.self.invariant.represents) in
     let same : c.in-Some-preview_entry.given.reply ≡ c.step-reply.result = ap (λ (x : Entry g.row.K.Denot). x.reply) kept in
@@ -135,7 +135,7 @@ pub returns-clause-kind : goal.returns-clause-kind
 returns-clause-kind g c =
     let policy = policy_of g.K.SigningCredential.valid g.K.SigningCredential.valid_at g.D.DeadlineRule.deadline in
     let items = c.self.inside.journal.items in
-    let legal = c.step-reply.ensures.expected items c.self.invariant.represents in
+    let legal = c.step-reply.ensures.step.expected items c.self.invariant.represents in
     let memory : is_out_of_memory c.step-reply.result ≡ false = sym c.is_out_of_memory.ensures ∙ c.if-is_out_of_memory.false in
     let kept : c.in-Some.kept ≡ record { event = c.args.event.now; reply = c.step-reply.result } = kept-is policy (setup_of c.self.inside.desk) (committed_entries items) c.args.event.now c.step-reply.result c.in-Some.kept legal memory c.in-Some.ensures.event (c.in-Some.ensures.expected items c.self.invariant.represents) in
     let same : c.in-Some.kept.reply ≡ c.step-reply.result = ap (λ (x : Entry g.row.K.Denot). x.reply) kept in
@@ -168,7 +168,7 @@ pub returns-then-is_out_of_memory-clause-cancel : goal.returns-then-is_out_of_me
 returns-then-is_out_of_memory-clause-cancel g c = λ call is live opened same.
     let policy = policy_of g.K.SigningCredential.valid g.K.SigningCredential.valid_at g.D.DeadlineRule.deadline in
     let lost : c.step-reply.result ≡ OutOfMemory = out_of_memory-is c.step-reply.result (sym c.is_out_of_memory.ensures ∙ c.if-is_out_of_memory.true) in
-    let legal = c.step-reply.ensures.expected c.self.inside.journal.items c.self.invariant.represents in
+    let legal = c.step-reply.ensures.step.expected c.self.inside.journal.items c.self.invariant.represents in
     cancel-in_memory policy (setup_of c.self.inside.desk) (committed_entries c.self.inside.journal.items) c.args.event.now call is
     (subst (λ (r : Reply g.row.K.Denot). IsLegalEntry policy (setup_of c.self.inside.desk) (committed_entries c.self.inside.journal.items) (record { event = c.args.event.now; reply = r })) lost legal)
 

@@ -14,7 +14,7 @@ returns c = λ entries r.
     subst (λ (x : Counts). AreCounts x (entries ++ entry ∷ [])) (sym c.with_reply-self.ensures) (counts-more c.args.self.now.counts entries entry r.counts) in
     next-entry c.args.self.now (record { desk = c.step-reply.new.self; counts = c.with_reply-self.result }) entries c.args.event.now c.step-reply.result r
     (sym c.is_out_of_memory.ensures ∙ c.if-is_out_of_memory.false)
-    (c.step-reply.ensures.expected entries r.represents)
-    (c.step-reply.ensures.represents entries r.represents)
-    c.step-reply.ensures.setup
+    (c.step-reply.ensures.step.expected entries r.represents)
+    (c.step-reply.ensures.step.represents entries r.represents)
+    c.step-reply.ensures.step.setup
     counts

@@ -4,7 +4,7 @@ use Rattle.grant_desk.specs.GrantDeskState.{GrantState}
 use Rattle.grant_desk.specs.GrantPlaces.{GrantPrecondition}
 use Rattle.grant_desk.specs.GrantSteps.{IsGrantStep}
 use Rattle.grant_desk.proofs.GrantStepTaken.{grant_desk-precondition, grant_desk-after, grant_step-taken}
-use Rattle.grant_desk.proofs.desk.GrantDesk.advance.Goals as goal
+use Rattle.grant_desk.proofs.desk.GrantDesk.step.Goals as goal
 
 pub step-requires : goal.step-requires
 step-requires g c = grant_desk-precondition (policy_of g.K.SigningCredential.valid g.K.SigningCredential.valid_at g.D.DeadlineRule.deadline) c.self.inside.tables c.self.invariant
