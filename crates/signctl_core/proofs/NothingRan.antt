@@ -4,7 +4,7 @@ use Rattle.std.proofs.lemmas.List.{append-nil}
 use Rattle.std.specs.Io.KnownBytes.{Appends, Consumes}
 use Rattle.signctl_driver.specs.Command.{Command}
 use Rattle.signctl_driver.specs.declared.status.Status.TheVariants.{OutOfMemory}
-use Rattle.signctl_core.specs.Commands.{Stream, RunsOver}
+use Rattle.signctl_core.specs.Commands.{RunsOver}
 
 nothing-consumed : (left : Option (List ℕ)) → Consumes left left []
 nothing-consumed None = tt
