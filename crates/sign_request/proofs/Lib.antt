@@ -7,6 +7,7 @@ pub mod SamePairs
 pub mod HeaderClone
 pub mod Trimming
 pub mod Picked
+pub mod PrefixSteps
 pub mod Refused
 pub mod FieldsTaken
 pub mod ReadBack

@@ -66,6 +66,19 @@ fn append_field(alloc: Global, headers: &mut HeaderMap, field: &Field) -> Result
 {
     let name = name_of(alloc, field.name.as_slice())?;
     let value = value_of(alloc, field.value.as_slice())?;
+    append_to(alloc, headers, name, value)
+}
+
+fn append_to(
+    alloc: Global,
+    headers: &mut HeaderMap,
+    name: HeaderName,
+    value: HeaderValue,
+) -> Result<(), Error>
+    ensures ok { OnOk result (headers.new ≡ append headers.old name value) }
+    ensures accepted { OnOk result (¬ (RefusesAppend headers.old name)) }
+    ensures err { IfErr result (λ e. IsOutOfMemory e ⊎ RefusedAs (RefusesAppend headers.old name) e) }
+{
     match headers.append(name, value) {
         Ok(_) => Ok(()),
         Err(HeaderMapError::MaxSizeReached) => {

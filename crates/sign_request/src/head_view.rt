@@ -64,11 +64,11 @@ impl HeadView {
     {
         let parts = match parts_of_keyed(alloc, head, keys) {
             Ok(parts) => parts,
-            Err(e) => return Err(refused_as(ViewRefusal::Head, &e)),
+            Err(e) => return Err(refused_as(ViewRefusal::Head, e)),
         };
         match SigningRequest::build(alloc, &parts) {
             Ok(request) => Ok(HeadView { request }),
-            Err(e) => Err(refused_as(ViewRefusal::Authority, &e)),
+            Err(e) => Err(refused_as(ViewRefusal::Authority, e)),
         }
     }
 
@@ -124,8 +124,8 @@ impl HeadView {
     pub fn into_query_text(self, alloc: Global) -> Result<String, NoMemory<()>>
         ensures { IfOk result (λ text. string_bytes text ≡ view_query self) }
     {
-        let request = self.request;
-        match SigningRequest::query_to_string(alloc, request.query, "=", "&") {
+        let query = self.request.into_query();
+        match SigningRequest::query_to_string(alloc, query, "=", "&") {
             Ok(text) => Ok(text),
             Err(_) => Err(NoMemory { back: () }),
         }
@@ -133,9 +133,9 @@ impl HeadView {
 }
 
 // The refusal for this cause, or out of memory where that was the error.
-fn refused_as(cause: ViewRefusal, error: &Error) -> ViewRefusal
-    ensures memory { error.now.kind ≡ OutOfMemory → result ≡ ViewRefusal.OutOfMemory }
-    ensures other { error.now.kind ≢ OutOfMemory → result ≡ cause }
+fn refused_as(cause: ViewRefusal, error: Error) -> ViewRefusal
+    ensures memory { error.kind ≡ OutOfMemory → result ≡ ViewRefusal.OutOfMemory }
+    ensures other { error.kind ≢ OutOfMemory → result ≡ cause }
 {
     match error.kind() {
         ErrorKind::OutOfMemory => ViewRefusal::OutOfMemory,

@@ -10,6 +10,7 @@ use crate::HeaderKeys;
 use crate::fields::{fields_of, headers_of};
 use crate::refusal::{or_out_of_memory, refusal};
 use http::Method;
+use http::header::HeaderMap;
 use http::method::MethodError;
 use http::request::Parts;
 use http::uri::Uri;
@@ -107,9 +108,15 @@ pub fn commit_keyed(
 {
     let uri = uri_of(alloc, head.uri.as_slice())?;
     let headers = headers_of(alloc, &head.headers, keys)?;
+    put_target(parts, uri, headers);
+    Ok(())
+}
+
+fn put_target(parts: &mut Parts, uri: Uri, headers: HeaderMap)
+    ensures { parts.new ≡ record parts.old { uri = uri; headers = headers } }
+{
     parts.uri = uri;
     parts.headers = headers;
-    Ok(())
 }
 
 fn version_of(version: http::Version) -> Option<Version>

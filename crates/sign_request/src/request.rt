@@ -103,8 +103,20 @@ impl SigningRequest {
         if !self.still_fits(parts, authority)? {
             return Err(refusal(alloc, VIEW_MODIFIED));
         }
-        parts.headers = self.headers;
+        parts.headers = self.into_headers();
         Ok(())
+    }
+
+    fn into_headers(self) -> HeaderMap
+        ensures { result ≡ self.headers }
+    {
+        self.headers
+    }
+
+    pub(crate) fn into_query(self) -> Vec<(String, String)>
+        ensures { result ≡ self.query }
+    {
+        self.query
     }
 
     // Whether the head is still what the view shows, but for its headers.

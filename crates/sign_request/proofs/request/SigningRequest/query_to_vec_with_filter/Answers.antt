@@ -1,6 +1,7 @@
-use Rattle.std.proofs.Common.{◌≡◌, ◌++◌, ◌∷◌, [], ◌+◌, ◌∙◌, Bool, true, false, sym, ap, take, subst}
+use Rattle.std.proofs.Common.{◌≡◌, ◌++◌, ◌∷◌, [], ◌+◌, ◌∙◌, List, Bool, true, false, sym, ap, take, subst}
 use Rattle.std.specs.Fn.{FnReturnsAt}
-use Rattle.std.proofs.lemmas.List.{take_more, map-append}
+use Rattle.std.specs.List.{AllZip, items_where_true}
+use Rattle.std.proofs.lemmas.List.{take_all, take_more, map-append}
 use Rattle.std.proofs.lemmas.Slice.Zip.{all_zipped_more}
 use Rattle.sign_request.specs.Query.{Pair, text_pair, text_pairs}
 use Rattle.sign_request.proofs.Picked.{items_where_true-yes, items_where_true-no}
@@ -36,3 +37,11 @@ loop-key-preserved g c =
             ∙ (c.loop-key.invariant.2 ∙ sym (items_where_true-no Answers so_far c.loop-key.invariant.0 (text_pair item) asked))),
       )
     ]
+
+pub returns : goal.returns
+returns g c =
+    let Answers : Pair → Bool → Type 0 = λ pair answer. FnReturnsAt g.F.Fn c.args.filter pair.0 answer in
+    let whole = take_all c.loop-key.key-index c.deref-key-items.result.now c.loop-key-test.false ∙ c.deref-key-items.ensures.value in
+    subst (λ items. (answers : List Bool) × AllZip Answers (text_pairs items) answers
+    × (text_pairs c.loop-key.kept.items ≡ items_where_true answers (text_pairs items))) whole
+    c.loop-key.invariant
