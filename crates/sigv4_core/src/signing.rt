@@ -1,11 +1,12 @@
 //! A request head with its signature in its headers.
-ghost use Rattle.std.specs.Prelude.{◌≡◌, ◌⊎◌, Ok, Err, IfOk, IfErr, List, ℕ};
+ghost use Rattle.std.specs.Prelude.{◌≡◌, ◌⊎◌, ◌++◌, ◌∷◌, [], Ok, Err, IfOk, IfErr, codes};
 ghost use Rattle.sign_base.specs.Calendar.{IsFourDigitYear};
 ghost use Rattle.sign_request.specs.PlainTarget.{plain_target};
 ghost use Rattle.sigv4_core.specs.Signature.{date_of};
-ghost use Rattle.sigv4_core.specs.SignedHead.{authorization, signed_with, signed_head, signing_with, signing_of};
+ghost use Rattle.sigv4_core.specs.CanonicalHeaders.{signed_headers};
+ghost use Rattle.sigv4_core.specs.SignedHead.{field, request_to_sign, authorization, signed_with, signed_head, signing_with, signing_of};
 
-use crate::canonical_request::canonical_texts;
+use crate::canonical_request::{CanonicalTexts, canonical_texts};
 use crate::headers_to_sign::headers_to_sign;
 use crate::moment::is_before_year_0;
 use crate::request_signature::push_scope;
@@ -136,14 +137,7 @@ fn signed_with(
     ensures { IfOk result (λ fields. fields
         ≡ signed_with key.now payload.now now head.now (plain_target uri.now) headers) }
 {
-    let texts = canonical_texts(
-        alloc,
-        head.method.as_slice(),
-        path_of(uri).as_bytes(),
-        query_of(uri).as_bytes(),
-        &headers,
-        payload.word(),
-    )?;
+    let texts = request_texts(alloc, head, uri, &headers, payload.word())?;
     let signature = key.signature(alloc, now, texts.request.as_slice())?;
     let value = authorization(
         alloc,
@@ -152,6 +146,40 @@ fn signed_with(
         texts.names.as_slice(),
         signature.as_slice(),
     )?;
+    with_authorization(alloc, headers, value)
+}
+
+/// What is signed of a head at this target with these headers.
+fn request_texts(
+    alloc: Global,
+    head: &Head,
+    uri: &Uri,
+    headers: &Fields,
+    word: &[u8],
+) -> Result<CanonicalTexts, NoMemory<()>>
+    ensures request { IfOk result (λ texts. texts.request.items
+        ≡ request_to_sign head.now (plain_target uri.now) headers.now word.now) }
+    ensures names { IfOk result (λ texts. texts.names.items ≡ signed_headers headers.now) }
+{
+    canonical_texts(
+        alloc,
+        head.method.as_slice(),
+        path_of(uri).as_bytes(),
+        query_of(uri).as_bytes(),
+        headers,
+        word,
+    )
+}
+
+/// The headers, and `authorization` with this value.
+fn with_authorization(
+    alloc: Global,
+    headers: Fields,
+    value: Vec<u8>,
+) -> Result<Fields, NoMemory<()>>
+    ensures { IfOk result (λ fields. fields
+        ≡ headers ++ field (codes "authorization") value.items ∷ []) }
+{
     let mut fields = headers.into_vec();
     fields.push(Field {
         name: Octets::from_slice(alloc, b"authorization")?,

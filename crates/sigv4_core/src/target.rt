@@ -1,12 +1,12 @@
 //! The target of a head that is to be signed, and why there is none.
-ghost use Rattle.std.specs.Prelude.{◌≡◌, ◌≢◌, ◌⊎◌, ◌==◌, Ok, Err, [], IfOk, IfErr, is_some, unwrap_or};
+ghost use Rattle.std.specs.Prelude.{◌≡◌, ◌≢◌, ◌⊎◌, ◌==◌, Ok, Err, Some, [], IfOk, IfErr, MatchResult, is_some, unwrap_or};
 ghost use Rattle.std.specs.List.{list_any};
 ghost use Rattle.http_uri.specs.Grammar.{path_of, query_of};
 ghost use Rattle.http_uri.specs.Uri.{uri_authority, uri_data};
 ghost use Rattle.percent_encoding.specs.Percent.{percent_sign};
 ghost use Rattle.sign_base.specs.declared.error_kind.ErrorKind.TheVariants.{OutOfMemory};
 ghost use Rattle.sign_request.specs.PlainTarget.{plain_target};
-ghost use Rattle.sigv4_core.specs.SignedHead.{target_to_sign, is_refused_path};
+ghost use Rattle.sigv4_core.specs.SignedHead.{target_to_sign, by_target, is_refused_path};
 
 use crate::{SigError, SigScope};
 use http::uri::Uri;
@@ -27,10 +27,18 @@ pub fn target_to_sign(
     ensures err { IfErr result (λ why. (why ≡ SigError.OutOfMemory)
         ⊎ (target_to_sign scope.now head.now ≡ Err why)) }
 {
-    let uri = match parts_of_keyed(alloc, head, keys) {
-        Ok(parts) => parts.uri,
-        Err(e) => return Err(head_refused(&e)),
-    };
+    match parts_of_keyed(alloc, head, keys) {
+        Ok(parts) => signable(parts.uri, scope),
+        Err(e) => Err(head_refused(&e)),
+    }
+}
+
+/// The target of an accepted head, if it can be signed for this scope.
+fn signable(uri: Uri, scope: &SigScope) -> Result<Uri, SigError>
+    ensures { MatchResult result
+        (λ target. by_target scope.now (Some (plain_target uri)) ≡ Ok (plain_target target))
+        (λ why. by_target scope.now (Some (plain_target uri)) ≡ Err why) }
+{
     if !has_authority(&uri) {
         return Err(SigError::Authority);
     }
