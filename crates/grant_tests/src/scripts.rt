@@ -7,7 +7,7 @@ mod rows;
 use row::Row;
 use rows::ROWS;
 use sign_base::{FaultySink, FaultySource};
-use signctl_core::{Status, run};
+use signctl_core::{HeaderKeys, Status, run};
 use std::alloc::Global;
 use std::process::Abort;
 
@@ -24,7 +24,13 @@ fn answer(alloc: Global, input: &str, piece: usize, fails: Vec<u64>) -> Option<(
     words.push(String::from_str(alloc, "grant").ok()?).ok()?;
     let mut source = FaultySource::new(bytes, piece, fails);
     let mut sink = FaultySink::new(alloc, ROOM, piece, Vec::new(alloc)).ok()?;
-    let status = run(alloc, words.as_slice(), &mut source, &mut sink);
+    let status = run(
+        alloc,
+        words.as_slice(),
+        &mut source,
+        &mut sink,
+        HeaderKeys::default(),
+    );
     Some((sink, status))
 }
 

@@ -14,7 +14,7 @@ use more_rows::MANY_CACHES;
 use row::Row;
 use rows::ONE_CACHE;
 use sign_base::{FaultySink, FaultySource, MemorySink, MemorySource, Sink, Source};
-use signctl_core::{Status, run};
+use signctl_core::{HeaderKeys, Status, run};
 use std::alloc::{AllocError, Global};
 use std::fmt;
 use std::process::Abort;
@@ -35,7 +35,7 @@ fn run_words<S: Source, D: Sink>(
     for word in words {
         list.push(String::from_str(alloc, word)?)?;
     }
-    Ok(run(alloc, list.as_slice(), source, sink))
+    Ok(run(alloc, list.as_slice(), source, sink, HeaderKeys::default()))
 }
 
 fn run_script<S: Source, D: Sink>(

@@ -1,10 +1,1 @@
-mod ItemsIn
-mod PlainEvents
-mod LineGood
-mod NextLine
-mod Closing
 mod NothingRan
-mod LoadSteps
-mod LoadLengths
-mod LoadCounts
-mod LineWords

@@ -1,27 +1,23 @@
--- A command that did not start has taken and added nothing, and `load` takes nothing.
+-- A command that did not start has taken and added nothing.
 use Rattle.std.proofs.Common.{ℕ, List, [], Option, Some, None, refl, sym, inl, arith}
 use Rattle.std.proofs.lemmas.List.{append-nil}
 use Rattle.std.specs.Io.KnownBytes.{Appends, Consumes}
 use Rattle.signctl_driver.specs.Command.{Command}
-use Rattle.signctl_driver.specs.Run.{StopsEarly}
-use Rattle.signctl_driver.specs.declared.status.Status.{Status}
-use Rattle.signctl_core.specs.Commands.{Runs}
-use Rattle.signctl_core.specs.Load.{LoadAdds}
-use Rattle.signctl_core.specs.declared.commands.CommandName.TheVariants.{Load}
+use Rattle.signctl_driver.specs.declared.status.Status.TheVariants.{OutOfMemory}
+use Rattle.signctl_core.specs.Commands.{RunsOver}
 
-pub nothing-consumed : (left : Option (List ℕ)) → Consumes left left []
+nothing-consumed : (left : Option (List ℕ)) → Consumes left left []
 nothing-consumed None = tt
 nothing-consumed (Some bytes) = refl
 
-pub nothing-appended : (held : Option (List ℕ)) → Appends held held []
+nothing-appended : (held : Option (List ℕ)) → Appends held held []
 nothing-appended None = tt
 nothing-appended (Some bytes) = sym (append-nil bytes)
 
-pub nothing-stops_early : {Item Cause : Type 0} (command : Command Item Cause) (left : Option (List ℕ)) (taken : List ℕ) → StopsEarly command left taken []
-nothing-stops_early command left taken = inl refl
-
--- a run of `load` took nothing
-pub load-runs : (calls : ℕ) (status : Status) (left old new : Option (List ℕ))
-    → (added : List ℕ) × Appends old new added × LoadAdds calls status added
-    → Runs (Load calls) status (record { before = left; after = left }) (record { before = old; after = new })
-load-runs calls status left old new ran = ([], ran.0, nothing-consumed left, omega arith, ran.1, (refl, ran.2))
+-- there was no memory to set it up
+pub not-started : {Item Cause S D : Type 0} (command : Command Item Cause) (left : S → Option (List ℕ)) (holds : D → Option (List ℕ))
+    (source_faults : S → ℕ) (sink_faults : D → ℕ) (source : S) (sink : D)
+    → RunsOver command OutOfMemory (record { holds = left; faults = source_faults; old = source; new = source })
+    (record { holds = holds; faults = sink_faults; old = sink; new = sink })
+not-started command left holds _ _ source sink =
+    ([], [], nothing-consumed (left source), omega arith, nothing-appended (holds sink), inl refl)

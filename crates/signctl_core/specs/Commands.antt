@@ -1,18 +1,24 @@
--- The commands of the program: by their words, and what a run of each adds.
-use Rattle.std.specs.Prelude.{◌≡◌, ◌≤◌, ◌+◌, ℕ, List, [], ◌∷◌, Option, Some, None, if◌then◌else◌, length, codes, Bool, true, false, option_map}
+-- The commands of the program: by their words, and what a run of each does.
+use Rattle.std.specs.Prelude.{◌≡◌, ◌≤◌, ◌+◌, ◌↔◌, ℕ, List, [], ◌∷◌, Option, Some, None, IfSome, if◌then◌else◌, length, codes, option_map}
 use Rattle.std.specs.Str.{bytes_eq}
 use Rattle.std.specs.Io.KnownBytes.{Appends, Consumes}
+use Rattle.sign_base.specs.Faults.{CountsFault}
 use Rattle.sign_base.specs.Lines.{input_limit}
+use Rattle.signctl_driver.specs.Command.{Command}
 use Rattle.signctl_driver.specs.Run.{RunAdds}
+use Rattle.signctl_driver.specs.Status.{is_read_fault, is_write_fault}
 use Rattle.signctl_driver.specs.declared.status.Status.{Status}
-use Rattle.signctl_lines.specs.HmacAnswers.{hmac_command}
-use Rattle.signctl_lines.specs.ViewAnswers.{view_command}
+use Rattle.signctl_driver.specs.declared.status.Status.TheVariants.{Usage}
 use Rattle.signctl_format.specs.Words.{number_of}
 use Rattle.signctl_grant.specs.GrantOutput.{grant_command}
-use Rattle.signctl_core.specs.ScriptOutput.{script_command}
-use Rattle.signctl_core.specs.Load.{most_calls, LoadAdds}
+use Rattle.signctl_lines.specs.HmacAnswers.{hmac_command}
+use Rattle.signctl_lines.specs.ViewAnswers.{view_command}
+use Rattle.signctl_script.specs.Load.{most_calls, LoadAdds}
+use Rattle.signctl_script.specs.ScriptOutput.{script_command}
 use Rattle.signctl_core.specs.declared.commands.CommandName.{CommandName}
 use Rattle.signctl_core.specs.declared.commands.CommandName.TheVariants.{Script, Hmac, View, Grant, Load}
+
+-- ---- by their words
 
 -- the command that this word names
 abbrev pub command_by_word : List ℕ → Option CommandName
@@ -34,27 +40,43 @@ command_named (word ∷ []) = command_by_word word
 command_named (word ∷ (number ∷ [])) = command_by_number word number
 command_named _ = None
 
--- what a run of a command adds for the bytes that it took, by how it ended; this is left in the source
-abbrev pub CommandAdds : CommandName → Option (List ℕ) → Status → List ℕ → List ℕ → Type 0
-CommandAdds Script left status taken added = RunAdds script_command left status taken added
-CommandAdds Hmac left status taken added = RunAdds hmac_command left status taken added
-CommandAdds View left status taken added = RunAdds view_command left status taken added
-CommandAdds Grant left status taken added = RunAdds grant_command left status taken added
-CommandAdds (Load n) left status taken added = (taken ≡ []) × LoadAdds n status added
+-- ---- what a run does
 
--- whether a command reads its source
-abbrev pub reads_source : CommandName → Bool
-reads_source (Load n) = false
-reads_source _ = true
+-- a source or a sink, before and after a run: the bytes that it still holds, or all that it holds, and how often it failed
+pub record Stream (A : Type 0) : Type 0 where
+  pub holds : A → Option (List ℕ)
+  pub faults : A → ℕ
+  pub old : A
+  pub new : A
 
--- a source or a sink, before and after a run: what it still holds, or all that it holds
-pub record Bytes : Type 0 where
-  pub before : Option (List ℕ)
-  pub after : Option (List ℕ)
+-- a sink has grown by such bytes
+abbrev pub Adds : {D : Type 0} → Stream D → (List ℕ → Type 0) → Type 0
+Adds sink Fits = (added : List ℕ) × Appends (sink.holds sink.old) (sink.holds sink.new) added × Fits added
 
--- a run of a command took some bytes, at most one more than are looked at, and added the output that belongs to them
-abbrev pub Runs : CommandName → Status → Bytes → Bytes → Type 0
-Runs name status source sink =
+-- a command over lines took some bytes, at most one more than are looked at, and added the output that belongs to them
+abbrev pub RunsOver : {Item Cause S D : Type 0} → Command Item Cause → Status → Stream S → Stream D → Type 0
+RunsOver command status source sink =
     (taken : List ℕ) × (added : List ℕ)
-    × Consumes source.before source.after taken × (length taken ≤ input_limit + 1)
-    × Appends sink.before sink.after added × CommandAdds name source.after status taken added
+    × Consumes (source.holds source.old) (source.holds source.new) taken × (length taken ≤ input_limit + 1)
+    × Appends (sink.holds sink.old) (sink.holds sink.new) added
+    × RunAdds command (source.holds source.new) status taken added
+
+-- what a run of a command does, by how it ended. `load` reads nothing
+abbrev pub Runs : {S D : Type 0} → CommandName → Status → Stream S → Stream D → Type 0
+Runs Script status source sink = RunsOver script_command status source sink
+Runs Hmac status source sink = RunsOver hmac_command status source sink
+Runs View status source sink = RunsOver view_command status source sink
+Runs Grant status source sink = RunsOver grant_command status source sink
+Runs (Load n) status source sink = (source.new ≡ source.old) × Adds sink (LoadAdds n status)
+
+-- what is asked for was done
+pub record IsRun {Asked S D : Type 0} (Does : Asked → Status → Stream S → Stream D → Type 0)
+    (asked : Option Asked) (status : Status) (source : Stream S) (sink : Stream D) : Type 0 where
+  -- Usage comes exactly where nothing is asked for, and touches nothing
+  pub usage : (status ≡ Usage) ↔ (asked ≡ None)
+  pub untouched : status ≡ Usage → (source.new ≡ source.old) × (sink.new ≡ sink.old)
+  -- what was taken and added
+  pub bytes : IfSome asked (λ it. Does it status source sink)
+  -- a count of faults rises by one exactly where the status says so, and else stays
+  pub reads : CountsFault (is_read_fault status) (source.faults source.old) (source.faults source.new)
+  pub writes : CountsFault (is_write_fault status) (sink.faults sink.old) (sink.faults sink.new)

@@ -1,9 +1,2 @@
-pub mod Script
-pub mod ScriptOutput
-pub mod SessionState
-pub mod Answering
-pub mod LoadRound
-pub mod Load
-pub mod LoadState
 pub mod Commands
 pub mod Program

@@ -1,5 +1,5 @@
 -- The program: what its words ask for, what it writes where, and its exit status.
-use Rattle.std.specs.Prelude.{◌≡◌, ◌⊎◌, ℕ, List, [], ◌∷◌, ◌++◌, Option, Some, None, if◌then◌else◌, codes, drop, Bool, false, option_map}
+use Rattle.std.specs.Prelude.{◌≡◌, ◌⊎◌, ℕ, List, [], ◌∷◌, ◌++◌, Option, Some, None, if◌then◌else◌, codes, drop, option_map}
 use Rattle.std.specs.Str.{bytes_eq}
 use Rattle.std.specs.Io.{StartsWith}
 use Rattle.std.specs.Io.KnownBytes.{Appends}
@@ -8,7 +8,7 @@ use Rattle.signctl_driver.specs.Output.{AppendsPrefix}
 use Rattle.signctl_driver.specs.Status.{exit_status}
 use Rattle.signctl_driver.specs.declared.status.Status.{Status}
 use Rattle.signctl_driver.specs.declared.status.Status.TheVariants.{Done, Usage, Refused, ReadFault, WriteFault, OutOfMemory}
-use Rattle.signctl_core.specs.Commands.{Bytes, Runs, command_named, reads_source}
+use Rattle.signctl_core.specs.Commands.{Stream, Adds, Runs, command_named}
 use Rattle.signctl_core.specs.declared.commands.CommandName.{CommandName}
 
 -- ---- texts
@@ -82,11 +82,6 @@ abbrev pub request_of : Option (List (List ℕ)) → Option Request
 request_of None = None
 request_of (Some words) = request_by (drop 1 words)
 
--- whether standard input is read for it
-abbrev pub reads_input : Request → Bool
-reads_input (Show text) = false
-reads_input (Run name) = reads_source name
-
 -- ---- how it is answered
 
 -- what a text that was asked for adds to the output, by how it ended
@@ -95,25 +90,16 @@ TextAdds text Done added = added ≡ text
 TextAdds text WriteFault added = StartsWith text added
 TextAdds text _ added = ⊥
 
--- the text was written, or a prefix of it
-abbrev pub Shows : List ℕ → Status → Bytes → Type 0
-Shows text status sink = (added : List ℕ) × Appends sink.before sink.after added × TextAdds text status added
-
--- what was taken from standard input and added to standard output
-abbrev pub Answers : Request → Status → Bytes → Bytes → Type 0
-Answers (Show text) status source sink = Shows text status sink
+-- what is done for a request, by how it ended. For a text nothing is read
+abbrev pub Answers : {S D : Type 0} → Request → Status → Stream S → Stream D → Type 0
+Answers (Show text) status source sink = (source.new ≡ source.old) × Adds sink (TextAdds text status)
 Answers (Run name) status source sink = Runs name status source sink
 
--- a sink, as far as contracts observe it: what it holds, and how often a write has failed
-pub record Written : Type 0 where
-  pub holds : Option (List ℕ)
-  pub faults : ℕ
-
 -- all of the text was written, or one write failed, and left a prefix of it
-abbrev pub WritesOnce : List ℕ → Written → Written → Type 0
-WritesOnce text old new =
-    (Appends old.holds new.holds text × (new.faults ≡ old.faults))
-    ⊎ (AppendsPrefix old.holds new.holds text × IsOneFault old.faults new.faults)
+abbrev pub WritesOnce : {E : Type 0} → List ℕ → Stream E → Type 0
+WritesOnce text sink =
+    (Appends (sink.holds sink.old) (sink.holds sink.new) text × (sink.faults sink.new ≡ sink.faults sink.old))
+    ⊎ (AppendsPrefix (sink.holds sink.old) (sink.holds sink.new) text × IsOneFault (sink.faults sink.old) (sink.faults sink.new))
 
 -- the exit status is that of a run that ended so. No two ends of a run have the same
 abbrev pub ExitsWith : ℕ → (Status → Type 0) → Type 0

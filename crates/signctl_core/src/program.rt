@@ -1,10 +1,12 @@
 //! The whole program, as a function over its words and streams: `main` hands it the real ones.
-ghost use Rattle.std.specs.Prelude.{◌≡◌, ◌≢◌, ◌↔◌, None, IfSome, map, drop, string_bytes, option_map, false};
+ghost use Rattle.std.specs.Prelude.{◌≡◌, ◌≢◌, map, drop, string_bytes, option_map, false};
 ghost use Rattle.sign_base.specs.Faults.{CountsFault};
 ghost use Rattle.signctl_driver.specs.Status.{is_read_fault, is_write_fault};
-ghost use Rattle.signctl_core.specs.Program.{usage_line, help_text, version_text, reason_line, text_by_word, text_named, request_by, request_of, reads_input, Shows, Answers, WritesOnce, ExitsWith};
+ghost use Rattle.signctl_core.specs.Commands.{Adds, IsRun};
+ghost use Rattle.signctl_core.specs.Program.{usage_line, help_text, version_text, reason_line, text_by_word, text_named};
+ghost use Rattle.signctl_core.specs.Program.{request_by, request_of, TextAdds, Answers, WritesOnce, ExitsWith};
 
-use crate::commands::run_keyed;
+use crate::commands::run;
 use sign_base::{Sink, Source};
 use sign_request::HeaderKeys;
 use signctl_driver::Status;
@@ -25,28 +27,13 @@ pub fn run_program<S: Source, D: Sink, E: Sink>(
     errors: &mut E,
     keys: HeaderKeys,
 ) -> u8
-    // Usage comes exactly where the words ask for nothing, and touches nothing.
-    ensures usage { ExitsWith result (λ status.
-        (status ≡ Status.Usage) ↔ (request_of (option_map (λ all. map string_bytes all.items) words) ≡ None)) }
-    ensures untouched { ExitsWith result (λ status.
-        status ≡ Status.Usage → (source.new ≡ source.old) × (output.new ≡ output.old)) }
-
-    // What was taken from standard input, and added to standard output.
-    ensures bytes { ExitsWith result (λ status.
-        IfSome (request_of (option_map (λ all. map string_bytes all.items) words)) (λ request. Answers request status
-        (record { before = S.left source.old; after = S.left source.new })
-        (record { before = D.holds output.old; after = D.holds output.new }))) }
-    ensures unread { IfSome (request_of (option_map (λ all. map string_bytes all.items) words)) (λ request.
-        reads_input request ≡ false → source.new ≡ source.old) }
-
-    // What was added to standard error.
-    ensures reason { ExitsWith result (λ status. WritesOnce (reason_line status)
-        (record { holds = E.holds errors.old; faults = E.faults errors.old })
-        (record { holds = E.holds errors.new; faults = E.faults errors.new })) }
-
-    // A count of faults rises by one exactly where the exit status says so, and else stays.
-    ensures reads { ExitsWith result (λ status. CountsFault (is_read_fault status) (S.faults source.old) (S.faults source.new)) }
-    ensures writes { ExitsWith result (λ status. CountsFault (is_write_fault status) (D.faults output.old) (D.faults output.new)) }
+    // What the words ask for is done, and standard error says why it ended early.
+    ensures { ExitsWith result (λ status.
+        IsRun Answers (request_of (option_map (λ all. map string_bytes all.items) words)) status
+        (record { holds = S.left; faults = S.faults; old = source.old; new = source.new })
+        (record { holds = D.holds; faults = D.faults; old = output.old; new = output.new })
+        × WritesOnce (reason_line status)
+        (record { holds = E.holds; faults = E.faults; old = errors.old; new = errors.new })) }
 {
     let status = match words {
         Some(all) => answer(alloc, behind_name(all.as_slice()), source, output, keys),
@@ -74,19 +61,13 @@ fn answer<S: Source, D: Sink>(
     output: &mut D,
     keys: HeaderKeys,
 ) -> Status
-    ensures usage { (result ≡ Status.Usage) ↔ (request_by (map string_bytes words.now) ≡ None) }
-    ensures untouched { result ≡ Status.Usage → (source.new ≡ source.old) × (output.new ≡ output.old) }
-    ensures bytes { IfSome (request_by (map string_bytes words.now)) (λ request. Answers request result
-        (record { before = S.left source.old; after = S.left source.new })
-        (record { before = D.holds output.old; after = D.holds output.new })) }
-    ensures unread { IfSome (request_by (map string_bytes words.now)) (λ request.
-        reads_input request ≡ false → source.new ≡ source.old) }
-    ensures reads { CountsFault (is_read_fault result) (S.faults source.old) (S.faults source.new) }
-    ensures writes { CountsFault (is_write_fault result) (D.faults output.old) (D.faults output.new) }
+    ensures { IsRun Answers (request_by (map string_bytes words.now)) result
+        (record { holds = S.left; faults = S.faults; old = source.old; new = source.new })
+        (record { holds = D.holds; faults = D.faults; old = output.old; new = output.new }) }
 {
     match text_named(words) {
         Some(text) => show(text, output),
-        None => run_keyed(alloc, words, source, output, keys),
+        None => run(alloc, words, source, output, keys),
     }
 }
 
@@ -113,7 +94,8 @@ fn text_by_word(word: &str) -> Option<&'static str>
 /// Writes a text that was asked for.
 fn show<D: Sink>(text: &str, output: &mut D) -> Status
     ensures ran { result ≢ Status.Usage }
-    ensures shown { Shows text.now result (record { before = D.holds output.old; after = D.holds output.new }) }
+    ensures shown { Adds (record { holds = D.holds; faults = D.faults; old = output.old; new = output.new })
+        (TextAdds text.now result) }
     ensures reads { is_read_fault result ≡ false }
     ensures writes { CountsFault (is_write_fault result) (D.faults output.old) (D.faults output.new) }
 {
@@ -126,8 +108,7 @@ fn show<D: Sink>(text: &str, output: &mut D) -> Status
 /// Writes the line that says why a run ended early, where there is one.
 fn report<E: Sink>(status: Status, errors: &mut E)
     ensures { WritesOnce (reason_line status)
-        (record { holds = E.holds errors.old; faults = E.faults errors.old })
-        (record { holds = E.holds errors.new; faults = E.faults errors.new }) }
+        (record { holds = E.holds; faults = E.faults; old = errors.old; new = errors.new }) }
 {
     let _ = write_all(errors, reason_line(status).as_bytes());
 }
@@ -144,10 +125,17 @@ fn reason_line(status: Status) -> &'static str
     }
 }
 
+/// The usage line, and what stands behind it.
+macro_rules! usage_line {
+    ($($more:literal)?) => {
+        concat!("usage: signctl script|view|hmac|grant|load N|pool W J\n" $(, $more)?)
+    };
+}
+
 fn usage_line() -> &'static str
     ensures { result.now ≡ usage_line }
 {
-    "usage: signctl script|view|hmac|grant|load N|pool W J\n"
+    usage_line!()
 }
 
 fn version_text() -> &'static str
@@ -159,9 +147,8 @@ fn version_text() -> &'static str
 fn help_text() -> &'static str
     ensures { result.now ≡ help_text }
 {
-    "\
-usage: signctl script|view|hmac|grant|load N|pool W J
-
+    usage_line!(
+        "
 These commands work. The first four read lines from standard input and answer them on standard
 output; the last reads nothing.
 
@@ -176,4 +163,5 @@ output; the last reads nothing.
 exit status: 0 done, 2 no such command, 3 a line was refused, 4 a read failed,
 5 a write failed, 6 out of memory. The lines are described in docs/FORMATS.md.
 "
+    )
 }

@@ -1,9 +1,0 @@
-use Rattle.std.proofs.Common.{◌≡◌, ◌++◌, List}
-use Rattle.signctl_core.specs.ScriptOutput.{final_lines_of}
-use Rattle.signctl_core.specs.SessionState.{SessionRepresents}
-use Rattle.signctl_core.specs.declared.script_line.ScriptLine.{ScriptLine}
-use Rattle.signctl_core.proofs.session.Session.push_finals.Given as goal
-
--- the caches so far have their lines
-abbrev pub invariant-loop-cache : goal.invariant-loop-cache
-invariant-loop-cache l = (lines : List ScriptLine) → SessionRepresents l.self lines → l.text.items ≡ l.fn.text.items ++ final_lines_of lines l.cache

@@ -1,0 +1,9 @@
+mod ItemsIn
+mod PlainEvents
+mod LineGood
+mod NextLine
+mod Closing
+mod LoadSteps
+mod LoadLengths
+mod LoadCounts
+mod LineWords

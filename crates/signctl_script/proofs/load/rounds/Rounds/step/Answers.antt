@@ -1,0 +1,20 @@
+use Rattle.std.proofs.Common.{◌++◌, ◌∷◌, [], sym, ◌∙◌, subst}
+use Rattle.sequential_signer.specs.declared.event.Entry.{Entry}
+use Rattle.signctl_format.specs.declared.credential.ScriptCredential.{ScriptCredential}
+use Rattle.signctl_script.specs.LoadState.{AreCounts}
+use Rattle.signctl_script.specs.declared.load.counts.Counts.{Counts}
+use Rattle.signctl_script.proofs.LoadCounts.{counts-more}
+use Rattle.signctl_script.proofs.LoadSteps.{next-entry}
+use Rattle.signctl_script.proofs.load.rounds.Rounds.step.Goals as goal
+
+pub returns : goal.returns
+returns c = λ entries r.
+    let entry : Entry ScriptCredential = record { event = c.args.event.now; reply = c.step-reply.result } in
+    let counts : AreCounts c.with_reply-self.result (entries ++ entry ∷ []) =
+    subst (λ (x : Counts). AreCounts x (entries ++ entry ∷ [])) (sym c.with_reply-self.ensures) (counts-more c.args.self.now.counts entries entry r.counts) in
+    next-entry c.args.self.now (record { desk = c.step-reply.new.self; counts = c.with_reply-self.result }) entries c.args.event.now c.step-reply.result r
+    (sym c.is_out_of_memory.ensures ∙ c.if-is_out_of_memory.false)
+    (c.step-reply.ensures.expected entries r.represents)
+    (c.step-reply.ensures.represents entries r.represents)
+    c.step-reply.ensures.setup
+    counts
