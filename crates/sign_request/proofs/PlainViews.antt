@@ -36,7 +36,7 @@ empty_path (b ∷ text) other e =
     absurd (let never = rw some at e in cc)
 
 -- the path that a view shows is that of the path and query, also where a URI shows none
-target_path_of : (uri : Uri) → target_path uri ≡ path_of (uri_data uri)
+pub target_path_of : (uri : Uri) → target_path uri ≡ path_of (uri_data uri)
 target_path_of uri =
     elim (cases_Bool (has_path uri)) [
       | inl shown ↦ rw shown (or_slash-or_slash (split_once_front question_mark (uri_data uri)))

@@ -1,0 +1,23 @@
+-- What a service that signs by Signature Version 4 gives.
+use Rattle.std.specs.Prelude.{◌≡◌, ◌⊎◌, ℕ, List, Result, Ok, Err}
+use Rattle.credentials.specs.Operation.{SignOutcome}
+use Rattle.credentials.specs.declared.polled.Polled.{Polled}
+use Rattle.credentials.specs.declared.polled.Polled.TheVariants.{Ready, Failed, OutOfMemory}
+use Rattle.sign_base.specs.declared.head.Head.{Head}
+use Rattle.sigv4_core.specs.Refused.{error_of}
+use Rattle.sigv4_core.specs.Scope.{Scope}
+use Rattle.sigv4_core.specs.declared.sig_error.SigError.{SigError}
+
+-- what a service signs for, and the word for the payload
+pub record ServiceView : Type 0 where
+  pub scope : Scope
+  pub payload : List ℕ
+
+-- what a poll leaves of an answer and a candidate
+abbrev pub left_by : Polled (Unit {0}) → Head → SignOutcome
+left_by answer candidate = record { answer = answer; candidate = candidate }
+
+-- the signed head, or the cause and the head as it was; or an allocation failed, and the head is as it was
+abbrev pub GivesSigned : Result Head SigError → Head → SignOutcome → Type 0
+GivesSigned (Ok signed) head outcome = (outcome ≡ left_by (Ready tt) signed) ⊎ (outcome ≡ left_by OutOfMemory head)
+GivesSigned (Err why) head outcome = (outcome ≡ left_by (Failed (error_of why)) head) ⊎ (outcome ≡ left_by OutOfMemory head)

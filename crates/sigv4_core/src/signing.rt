@@ -1,0 +1,212 @@
+//! A request head with its signature in its headers.
+ghost use Rattle.std.specs.Prelude.{◌≡◌, ◌⊎◌, ◌++◌, ◌∷◌, [], Ok, Err, IfOk, IfErr, codes};
+ghost use Rattle.sign_base.specs.Calendar.{IsFourDigitYear};
+ghost use Rattle.sign_request.specs.PlainTarget.{plain_target};
+ghost use Rattle.sigv4_core.specs.Signature.{date_of};
+ghost use Rattle.sigv4_core.specs.CanonicalHeaders.{signed_headers};
+ghost use Rattle.sigv4_core.specs.SignedHead.{field, request_to_sign, authorization, signed_with, signed_head, signing_with, signing_of};
+
+use crate::canonical_request::{CanonicalTexts, canonical_texts};
+use crate::headers_to_sign::headers_to_sign;
+use crate::moment::is_before_year_0;
+use crate::request_signature::push_scope;
+use crate::target::{authority_of, path_of, query_of, target_to_sign};
+use crate::{Payload, SigCredential, SigError, SigScope, SigningKey};
+use http::uri::Uri;
+use sign_base::{Field, Fields, Head, NoMemory, Octets, Timestamp};
+use sign_request::HeaderKeys;
+use std::alloc::Global;
+
+/// The head with its signature, which covers its method, its path, its query and all its headers.
+///
+/// Headers `authorization` and `x-amz-date` that it had are replaced, and a `host` that it lacks is
+/// added. Where the names of the headers come from outside, `sign_head_keyed` is the call to use.
+pub fn sign_head(
+    alloc: Global,
+    head: &Head,
+    credential: &SigCredential,
+    scope: &SigScope,
+    payload: &Payload,
+    now: Timestamp,
+) -> Result<Head, SigError>
+    ensures ok { IfOk result (λ h. signing_of credential.now scope.now payload.now now head.now ≡ Ok h) }
+    ensures err { IfErr result (λ why. (why ≡ SigError.OutOfMemory)
+        ⊎ (signing_of credential.now scope.now payload.now now head.now ≡ Err why)) }
+{
+    sign_head_keyed(
+        alloc,
+        head,
+        credential,
+        scope,
+        payload,
+        now,
+        HeaderKeys::default(),
+    )
+}
+
+/// Answers what `sign_head` does, whatever the keys.
+#[tactic(auto, unfolding(crate::specs::SignedHead::signing_of, crate::specs::SignedHead::signing_with))]
+pub fn sign_head_keyed(
+    alloc: Global,
+    head: &Head,
+    credential: &SigCredential,
+    scope: &SigScope,
+    payload: &Payload,
+    now: Timestamp,
+    keys: HeaderKeys,
+) -> Result<Head, SigError>
+    ensures ok { IfOk result (λ h. signing_of credential.now scope.now payload.now now head.now ≡ Ok h) }
+    ensures err { IfErr result (λ why. (why ≡ SigError.OutOfMemory)
+        ⊎ (signing_of credential.now scope.now payload.now now head.now ≡ Err why)) }
+{
+    let uri = target_to_sign(alloc, head, scope, keys)?;
+    if is_before_year_0(now) {
+        return Err(SigError::Moment);
+    }
+    let key = SigningKey::derive(alloc, credential, scope, now)?;
+    Ok(signed_head(alloc, head, &uri, &key, payload, now)?)
+}
+
+/// The head with its signature under a derived key, for a moment of the key's day. It is the head that
+/// `sign_head` answers for the credential that the key was derived of.
+#[tactic(auto, unfolding(crate::specs::SignedHead::signing_with))]
+pub fn sign_head_with(
+    alloc: Global,
+    head: &Head,
+    key: &SigningKey,
+    payload: &Payload,
+    now: Timestamp,
+    keys: HeaderKeys,
+) -> Result<Head, SigError>
+    requires { key.now.date ≡ date_of now }
+    ensures ok { IfOk result (λ h. signing_with key.now payload.now now head.now ≡ Ok h) }
+    ensures err { IfErr result (λ why. (why ≡ SigError.OutOfMemory)
+        ⊎ (signing_with key.now payload.now now head.now ≡ Err why)) }
+{
+    let uri = target_to_sign(alloc, head, key.scope(), keys)?;
+    if is_before_year_0(now) {
+        return Err(SigError::Moment);
+    }
+    Ok(signed_head(alloc, head, &uri, key, payload, now)?)
+}
+
+/// The head at this target with its signature.
+#[tactic(auto, unfolding(crate::specs::SignedHead::signed_head))]
+fn signed_head(
+    alloc: Global,
+    head: &Head,
+    uri: &Uri,
+    key: &SigningKey,
+    payload: &Payload,
+    now: Timestamp,
+) -> Result<Head, NoMemory<()>>
+    requires year { IsFourDigitYear now }
+    requires day { key.now.date ≡ date_of now }
+    ensures { IfOk result (λ h. h ≡ signed_head key.now payload.now now head.now (plain_target uri.now)) }
+{
+    let headers = headers_to_sign(alloc, authority_of(uri), now, &head.headers)?;
+    Ok(Head {
+        method: head.method.try_clone(alloc)?,
+        uri: head.uri.try_clone(alloc)?,
+        version: head.version,
+        headers: signed_with(
+            alloc,
+            head,
+            uri,
+            key,
+            payload,
+            now,
+            Fields::from_vec(headers),
+        )?,
+    })
+}
+
+/// These headers, and the signature of the request with them.
+#[tactic(auto, unfolding(crate::specs::SignedHead::signed_with))]
+fn signed_with(
+    alloc: Global,
+    head: &Head,
+    uri: &Uri,
+    key: &SigningKey,
+    payload: &Payload,
+    now: Timestamp,
+    headers: Fields,
+) -> Result<Fields, NoMemory<()>>
+    requires year { IsFourDigitYear now }
+    requires day { key.now.date ≡ date_of now }
+    ensures { IfOk result (λ fields. fields
+        ≡ signed_with key.now payload.now now head.now (plain_target uri.now) headers) }
+{
+    let texts = request_texts(alloc, head, uri, &headers, payload.word())?;
+    let signature = key.signature(alloc, now, texts.request.as_slice())?;
+    let value = authorization(
+        alloc,
+        key,
+        now,
+        texts.names.as_slice(),
+        signature.as_slice(),
+    )?;
+    with_authorization(alloc, headers, value)
+}
+
+/// What is signed of a head at this target with these headers.
+fn request_texts(
+    alloc: Global,
+    head: &Head,
+    uri: &Uri,
+    headers: &Fields,
+    word: &[u8],
+) -> Result<CanonicalTexts, NoMemory<()>>
+    ensures request { IfOk result (λ texts. texts.request.items
+        ≡ request_to_sign head.now (plain_target uri.now) headers.now word.now) }
+    ensures names { IfOk result (λ texts. texts.names.items ≡ signed_headers headers.now) }
+{
+    canonical_texts(
+        alloc,
+        head.method.as_slice(),
+        path_of(uri).as_bytes(),
+        query_of(uri).as_bytes(),
+        headers,
+        word,
+    )
+}
+
+/// The headers, and `authorization` with this value.
+fn with_authorization(
+    alloc: Global,
+    headers: Fields,
+    value: Vec<u8>,
+) -> Result<Fields, NoMemory<()>>
+    ensures { IfOk result (λ fields. fields
+        ≡ headers ++ field (codes "authorization") value.items ∷ []) }
+{
+    let mut fields = headers.into_vec();
+    fields.push(Field {
+        name: Octets::from_slice(alloc, b"authorization")?,
+        value: Octets::from_vec(value),
+    })?;
+    Ok(Fields::from_vec(fields))
+}
+
+/// The value of the header `authorization`.
+#[tactic(auto, unfolding(crate::specs::SignedHead::authorization))]
+fn authorization(
+    alloc: Global,
+    key: &SigningKey,
+    now: Timestamp,
+    names: &[u8],
+    signature: &[u8],
+) -> Result<Vec<u8>, NoMemory<()>>
+    requires { IsFourDigitYear now }
+    ensures { IfOk result (λ text. text.items ≡ authorization key.now now names.now signature.now) }
+{
+    let mut text = Vec::from_slice(alloc, b"AWS4-HMAC-SHA256 Credential=")?;
+    text.extend_from_slice(key.access())?;
+    text.push(b'/')?;
+    push_scope(alloc, key.scope(), now, &mut text)?;
+    text.extend_from_slice(b", SignedHeaders=")?;
+    text.extend_from_slice(names)?;
+    text.extend_from_slice(b", Signature=")?;
+    text.extend_from_slice(signature)?;
+    Ok(text)
+}
