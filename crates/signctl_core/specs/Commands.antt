@@ -15,8 +15,9 @@ use Rattle.signctl_lines.specs.HmacAnswers.{hmac_command}
 use Rattle.signctl_lines.specs.ViewAnswers.{view_command}
 use Rattle.signctl_script.specs.Load.{most_calls, LoadAdds}
 use Rattle.signctl_script.specs.ScriptOutput.{script_command}
+use Rattle.signctl_sigv4.specs.Sigv4Answers.{sigv4_command}
 use Rattle.signctl_core.specs.declared.commands.CommandName.{CommandName}
-use Rattle.signctl_core.specs.declared.commands.CommandName.TheVariants.{Script, Hmac, View, Grant, Load}
+use Rattle.signctl_core.specs.declared.commands.CommandName.TheVariants.{Script, Hmac, View, Grant, Sigv4, Load}
 
 -- ---- by their words
 
@@ -27,7 +28,8 @@ command_by_word word =
     else (if bytes_eq word (codes "hmac") then Some Hmac
     else (if bytes_eq word (codes "view") then Some View
     else (if bytes_eq word (codes "grant") then Some Grant
-    else None)))
+    else (if bytes_eq word (codes "sigv4") then Some Sigv4
+    else None))))
 
 -- the command that this word names with a number
 abbrev pub command_by_number : List ℕ → List ℕ → Option CommandName
@@ -67,6 +69,7 @@ Runs Script status source sink = RunsOver script_command status source sink
 Runs Hmac status source sink = RunsOver hmac_command status source sink
 Runs View status source sink = RunsOver view_command status source sink
 Runs Grant status source sink = RunsOver grant_command status source sink
+Runs Sigv4 status source sink = RunsOver sigv4_command status source sink
 Runs (Load n) status source sink = (source.new ≡ source.old) × Adds sink (LoadAdds n status)
 
 -- what is asked for was done

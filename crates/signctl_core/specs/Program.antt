@@ -22,13 +22,14 @@ abbrev pub help_text : List ℕ
 help_text =
     usage_line
     ++ codes "\n"
-    ++ codes "These commands work. The first four read lines from standard input and answer them on standard\n"
+    ++ codes "These commands work. The first five read lines from standard input and answer them on standard\n"
     ++ codes "output; the last reads nothing.\n"
     ++ codes "\n"
     ++ codes "  script    runs the request signer: events in, its replies out\n"
     ++ codes "  hmac      digests, HMAC and Base64: a call and its arguments in, the text out\n"
     ++ codes "  view      request heads in, what a signing service sees of each out\n"
     ++ codes "  grant     runs a credential broker: events in, its replies out\n"
+    ++ codes "  sigv4     request heads with keys in, heads signed with AWS Signature Version 4 out\n"
     ++ codes "  load N    runs N made-up calls on the signer, and counts its replies\n"
     ++ codes "\n"
     ++ codes "  --help, --version    print this text, the version\n"

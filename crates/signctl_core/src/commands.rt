@@ -13,6 +13,7 @@ use signctl_format::word::number;
 use signctl_grant::GrantSession;
 use signctl_lines::{HmacCommand, ViewCommand};
 use signctl_script::{Session, run_load};
+use signctl_sigv4::Sigv4Command;
 use std::alloc::Global;
 
 /// The most calls that `load` runs.
@@ -25,6 +26,7 @@ pub enum CommandName {
     Hmac,
     View,
     Grant,
+    Sigv4,
     /// `load` with so many calls.
     Load(u64),
 }
@@ -49,6 +51,7 @@ pub fn run<S: Source, D: Sink>(
         Some(CommandName::Hmac) => drive(alloc, LineByLine(HmacCommand), source, sink),
         Some(CommandName::View) => drive(alloc, LineByLine(ViewCommand { keys }), source, sink),
         Some(CommandName::Grant) => run_lines(alloc, GrantSession::new(alloc), source, sink),
+        Some(CommandName::Sigv4) => drive(alloc, LineByLine(Sigv4Command { keys }), source, sink),
         Some(CommandName::Load(calls)) => run_load(alloc, calls, sink),
     }
 }
@@ -72,6 +75,7 @@ fn command_by_word(word: &str) -> Option<CommandName>
         "hmac" => Some(CommandName::Hmac),
         "view" => Some(CommandName::View),
         "grant" => Some(CommandName::Grant),
+        "sigv4" => Some(CommandName::Sigv4),
         _ => None,
     }
 }

@@ -149,13 +149,14 @@ fn help_text() -> &'static str
 {
     usage_line!(
         "
-These commands work. The first four read lines from standard input and answer them on standard
+These commands work. The first five read lines from standard input and answer them on standard
 output; the last reads nothing.
 
   script    runs the request signer: events in, its replies out
   hmac      digests, HMAC and Base64: a call and its arguments in, the text out
   view      request heads in, what a signing service sees of each out
   grant     runs a credential broker: events in, its replies out
+  sigv4     request heads with keys in, heads signed with AWS Signature Version 4 out
   load N    runs N made-up calls on the signer, and counts its replies
 
   --help, --version    print this text, the version

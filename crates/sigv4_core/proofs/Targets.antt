@@ -1,5 +1,5 @@
 -- What the calls make of a head is its target, or why it has none.
-use Rattle.std.proofs.Common.{◌≡◌, ◌⊎◌, ◌∙◌, Bool, true, false, inl, inr, ap, List, ℕ, Option, Some, None, Result, Err, Ok, refl}
+use Rattle.std.proofs.Common.{◌≡◌, ◌⊎◌, ◌∙◌, Bool, true, false, inr, ap, List, ℕ, Option, Some, None, Result, Err, Ok, refl}
 use Rattle.std.specs.Prelude.{if◌then◌else◌, is_some, IfOk, IfErr, MatchResult}
 use Rattle.http.specs.declared.request.Parts.{Parts}
 use Rattle.http_uri.specs.Grammar.{path_of}

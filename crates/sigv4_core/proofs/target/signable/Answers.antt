@@ -1,4 +1,4 @@
-use Rattle.std.proofs.Common.{◌≡◌, ◌∙◌, Bool, sym, ap, true, false}
+use Rattle.std.proofs.Common.{◌≡◌, ◌∙◌, sym, ap, true, false}
 use Rattle.std.specs.Prelude.{is_some}
 use Rattle.http_uri.specs.Grammar.{path_of}
 use Rattle.http_uri.specs.Uri.{uri_authority, uri_data}

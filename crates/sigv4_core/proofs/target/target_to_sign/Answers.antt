@@ -13,7 +13,7 @@ returns-in-Ok-clause-err c =
     let are = c.in-Ok.ensures {u = tt} in
     target_to_sign-Err c.args.scope.now c.args.head.now c.in-Ok.parts are.ok are.accepted c.signable.result c.signable.ensures
 
-pub returns-in-Err-clause-err : goal.returns-clause-err
+pub returns-in-Err-clause-err : goal.returns-in-Err-clause-err
 returns-in-Err-clause-err c =
     elim (c.in-Err.ensures {u = tt}).err [
       | inl memory ↦ inl (c.head_refused.ensures.memory (ap (λ (e : ErrorParts). e.kind) memory))

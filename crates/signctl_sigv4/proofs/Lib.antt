@@ -1,0 +1,3 @@
+pub mod Sigv4Parts
+pub mod Sigv4Grammars
+pub mod Sigv4Moments

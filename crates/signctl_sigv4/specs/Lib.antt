@@ -1,0 +1,3 @@
+pub mod Sigv4Grammar
+pub mod Sigv4Reading
+pub mod Sigv4Answers
