@@ -94,11 +94,7 @@ fn is_cancelled<K>(reply: &Reply<K>) -> bool
 }
 
 /// Takes room for an entry with this reply, and for a cancel of each call that is live with it.
-pub(crate) fn take_entry_room<K>(
-    journal: &mut Vec<Entry<K>>,
-    live: usize,
-    reply: &Reply<K>,
-) -> bool
+pub(crate) fn take_entry_room<K>(journal: &mut Vec<Entry<K>>, live: usize, reply: &Reply<K>) -> bool
     requires { length journal.old.items + live ≤ vec_capacity journal.old }
     ensures items { journal.new.items ≡ journal.old.items }
     ensures before { length journal.new.items + live ≤ vec_capacity journal.new }
