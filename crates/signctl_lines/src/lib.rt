@@ -19,6 +19,3 @@ pub use read_hmac::read_hmac_line;
 pub use read_view::read_view_line;
 pub use view_command::ViewCommand;
 pub use view_item::ViewItem;
-
-#[cfg(test)]
-mod tests;
