@@ -15,6 +15,3 @@ pub use hmac_command::HmacCommand;
 pub use hmac_item::{HashCall, HmacItem, KeyedCall, UnkeyedCall};
 pub use read_hmac::read_hmac_line;
 pub use view_command::ViewCommand;
-
-#[cfg(test)]
-mod tests;
