@@ -1,6 +1,6 @@
 use Rattle.signer.specs.SignerObjects.{meanings_of}
 use Rattle.signer.proofs.CallsOfSigner.{calls-begun}
-use Rattle.bench_rows.proofs.calls.Calls.begin.Goals as goal
+use Rattle.worked_signers.proofs.calls.Calls.begin.Goals as goal
 
 pub invariant_of-self-2 : goal.invariant_of-self-2
 invariant_of-self-2 g c =

@@ -1,6 +1,6 @@
 use Rattle.signer.specs.SignerObjects.{meanings_of}
 use Rattle.signer.proofs.CallsOfSigner.{calls-without, calls-cancelled}
-use Rattle.bench_rows.proofs.calls.Calls.cancel.Goals as goal
+use Rattle.worked_signers.proofs.calls.Calls.cancel.Goals as goal
 
 pub invariant_of-self : goal.invariant_of-self
 invariant_of-self g c =

@@ -224,7 +224,7 @@ fn stamped(
     match stamp {
         Stamp::Header | Stamp::HeaderLater | Stamp::HeaderWithoutMemory => {
             let value = format!(in alloc; "{}", key.load)?;
-            push_header(alloc, value.as_str(), candidate)
+            push_header(alloc, b"load", value.as_bytes(), candidate)
         }
         Stamp::MethodAndVersion => {
             candidate.method = Octets::from_slice(alloc, b"PUT")?;
@@ -234,7 +234,7 @@ fn stamped(
         Stamp::Uri => set_uri(alloc, "https://e.x/b?c", candidate),
         Stamp::Colon => set_uri(alloc, ": ", candidate),
         Stamp::SpaceInUri => set_uri(alloc, "https://e.x/ 5551234", candidate),
-        Stamp::NewlineInHeader => push_header(alloc, "5551234\n", candidate),
+        Stamp::NewlineInHeader => push_header(alloc, b"load", b"5551234\n", candidate),
     }
 }
 
@@ -243,10 +243,15 @@ fn set_uri(alloc: Global, uri: &str, candidate: &mut Head) -> Result<(), NoMemor
     Ok(())
 }
 
-fn push_header(alloc: Global, value: &str, candidate: &mut Head) -> Result<(), NoMemory<()>> {
+pub(crate) fn push_header(
+    alloc: Global,
+    name: &[u8],
+    value: &[u8],
+    candidate: &mut Head,
+) -> Result<(), NoMemory<()>> {
     let field = Field {
-        name: Octets::from_slice(alloc, b"load")?,
-        value: Octets::from_slice(alloc, value.as_bytes())?,
+        name: Octets::from_slice(alloc, name)?,
+        value: Octets::from_slice(alloc, value)?,
     };
     match candidate.headers.push(field) {
         Ok(()) => Ok(()),

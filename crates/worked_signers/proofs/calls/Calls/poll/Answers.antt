@@ -1,7 +1,7 @@
 use Rattle.std.proofs.lemmas.List.{set-set}
 use Rattle.signer.specs.SignerObjects.{meanings_of}
 use Rattle.signer.proofs.CallsOfSigner.{calls-without, calls-polled}
-use Rattle.bench_rows.proofs.calls.Calls.poll.Goals as goal
+use Rattle.worked_signers.proofs.calls.Calls.poll.Goals as goal
 
 pub invariant_of-self : goal.invariant_of-self
 invariant_of-self g c =

@@ -1,7 +1,7 @@
 //! What the author of a service signer writes: a credential, two providers in a chain, and a service; and
 //! how calls are signed with these. docs/GUIDE.md walks through this file.
-ghost use Rattle.std.specs.Prelude.{◌≡◌, ◌≢◌, true, ⊤, length, IfOk};
-ghost use Rattle.bench_rows.specs.Usable.{is_before};
+ghost use Rattle.std.specs.Prelude.{◌≡◌, ◌≢◌, true, ⊤, length, IfOk, IfSome};
+ghost use Rattle.worked_signers.specs.Usable.{is_before};
 ghost use Rattle.credentials.specs.declared.polled.Polled.{Polled};
 ghost use Rattle.credentials.specs.Deadline.{operation_end};
 
@@ -21,7 +21,6 @@ use std::alloc::Global;
 use std::collections::HashMap;
 use std::fmt;
 use std::marker::Model;
-use std::test::Fail;
 use std::time::Duration;
 
 /// An access key and its secret, which can be used until they expire.
@@ -36,7 +35,7 @@ struct AccessKey {
 /// Contracts see a key by its texts, so a copy in another vector is an equal key.
 impl Model for AccessKey {
     ghost use Rattle.std.specs.String.{string_bytes};
-    ghost use Rattle.bench_rows.specs.Usable.{KeyView};
+    ghost use Rattle.worked_signers.specs.Usable.{KeyView};
 
     ghost Value = { KeyView };
 
@@ -384,109 +383,92 @@ fn key_context(alloc: Global) -> KeyContext {
 }
 
 /// A signer with the chain and the service.
-fn key_signer(
-    alloc: Global,
-    path: &'static str,
-) -> Result<Signer<KeyProvider, HeaderHmac>, NoMemory<()>>
-    ensures { IfOk result (λ signer. signer.begun ≡ 0) }
+fn key_signer(alloc: Global, path: &'static str) -> Option<Signer<KeyProvider, HeaderHmac>>
+    ensures { IfSome result (λ signer. signer.begun ≡ 0) }
 {
-    let chain = Providers::Chain(environment_then_file(alloc, path)?);
-    match Signer::new(alloc, key_context(alloc), chain, HeaderHmac) {
-        Ok(signer) => Ok(signer),
-        Err(_) => Err(NoMemory { back: () }),
-    }
+    let chain = Providers::Chain(environment_then_file(alloc, path).ok()?);
+    Signer::new(alloc, key_context(alloc), chain, HeaderHmac).ok()
 }
 
-/// A request to be signed.
-fn request(alloc: Global) -> Result<Parts, Error> {
-    let head = head(alloc, "https://example.com/a%2Fb?y=2&x=1")?;
-    parts_of(alloc, &head)
-}
+const URI: &str = "https://example.com/a%2Fb?y=2&x=1";
 
-/// The header of `https://example.com/a%2Fb?y=2&x=1`, as another implementation of HMAC-SHA256 has it.
+/// The header of that URI, as another implementation of HMAC-SHA256 has it.
 const SIGNED_BY_ME: &str =
     "HMAC me:e359a741623dc63f085e2aa8af69a333a750346530903cdce9ff1a89a0f82f94";
 
 /// A head to be signed.
-fn head(alloc: Global, uri: &str) -> Result<Head, NoMemory<()>> {
+fn head(alloc: Global) -> Result<Head, NoMemory<()>> {
     Ok(Head {
         method: Octets::from_slice(alloc, b"GET")?,
-        uri: Octets::from_slice(alloc, uri.as_bytes())?,
+        uri: Octets::from_slice(alloc, URI.as_bytes())?,
         version: Version::V11,
         headers: Fields::new(alloc),
     })
 }
 
+/// A request to be signed.
+fn request(alloc: Global) -> Option<Parts> {
+    parts_of(alloc, &head(alloc).ok()?).ok()
+}
+
+fn key(alloc: Global) -> Option<AccessKey> {
+    Some(AccessKey {
+        id: String::from_str(alloc, "me").ok()?,
+        secret: String::from_str(alloc, "secret").ok()?,
+        expires: None,
+    })
+}
+
+/// What the service puts on a head.
+fn signed_head(alloc: Global) -> Option<Head> {
+    let mut work = HmacWork { key: key(alloc)? };
+    let mut candidate = head(alloc).ok()?;
+    match HeaderHmac.poll_sign(alloc, &key_context(alloc), &mut work, &mut candidate) {
+        Polled::Ready(()) => Some(candidate),
+        _ => None,
+    }
+}
+
 /// The service puts the HMAC of the canonical texts into a header, and leaves the rest.
 #[test]
-fn heads_are_signed(rt: HostRuntime) -> Result<(), Fail> {
-    let alloc = rt.alloc();
-    let key = AccessKey {
-        id: String::from_str(alloc, "me")?,
-        secret: String::from_str(alloc, "secret")?,
-        expires: None,
-    };
-    let mut work = HmacWork { key };
-    let mut candidate = head(alloc, "https://example.com/a%2Fb?y=2&x=1")?;
+fn heads_are_signed(rt: HostRuntime) {
+    let head = signed_head(rt.alloc()).expect(&rt, "the head is signed");
+    let field = head.headers.as_slice().first().expect(&rt, "a header");
+    assert!(rt; field.name.as_slice() == b"authorization".as_slice());
+    assert!(rt; field.value.as_slice() == SIGNED_BY_ME.as_bytes());
+}
+
+/// The id of the key that a chain finds at its second poll.
+fn second_found(alloc: Global) -> Option<String> {
     let ctx = key_context(alloc);
-    let polled = HeaderHmac.poll_sign(alloc, &ctx, &mut work, &mut candidate);
-    assert!(rt; matches!(polled, Polled::Ready(())));
-    let Some(field) = candidate.headers.as_slice().first() else {
-        return Err(Fail::from("the head is signed"));
+    let chain = environment_then_file(alloc, "/keys").ok()?;
+    let mut load = chain.provide_credential(alloc, &ctx).ok()?;
+    let Polled::Pending = chain.poll_load(alloc, &ctx, &mut load) else {
+        return None;
     };
-    assert_eq!(rt; field.name.as_slice(), b"authorization".as_slice());
-    assert_eq!(rt; field.value.as_slice(), SIGNED_BY_ME.as_bytes());
-    Ok(())
+    match chain.poll_load(alloc, &ctx, &mut load) {
+        Polled::Ready(Some(key)) => Some(key.id),
+        _ => None,
+    }
 }
 
 /// The environment has no key, and the file answers at its second poll.
 #[test]
-fn the_chain_goes_on_to_the_file(rt: HostRuntime) -> Result<(), Fail> {
-    let alloc = rt.alloc();
-    let ctx = key_context(alloc);
-    let chain = environment_then_file(alloc, "/keys")?;
-    let mut load = chain.provide_credential(alloc, &ctx)?;
-    let first = chain.poll_load(alloc, &ctx, &mut load);
-    assert!(rt; matches!(first, Polled::Pending));
-    match chain.poll_load(alloc, &ctx, &mut load) {
-        Polled::Ready(Some(key)) => assert_eq!(rt; key.id.as_str(), "me"),
-        _ => return Err(Fail::from("the file has a key")),
-    }
-    Ok(())
+fn the_chain_goes_on_to_the_file(rt: HostRuntime) {
+    let id = second_found(rt.alloc()).expect(&rt, "the file has a key");
+    assert!(rt; id.as_str() == "me");
 }
 
 /// Eight calls on an empty cache. The first asks the file, and the others wait for its load. One is given
 /// up, and each that is woken is polled and is signed.
 #[test]
-fn eight_calls_wait_for_one_load(rt: HostRuntime) -> Result<(), Fail> {
-    let alloc = rt.alloc();
-    let signer = key_signer(alloc, "/keys").map_err(|_| "memory")?;
-    let mut calls = Calls::new(alloc, signer);
-    serve_eight(alloc, &mut calls)
-}
-
-fn serve_eight(alloc: Global, calls: &mut Calls<KeyProvider, HeaderHmac>) -> Result<(), Fail> {
-    let now = Timestamp::from_second(alloc, 5)?;
-    let mut reqs = waiting_requests(alloc, calls, now)?;
-    if calls.cancel(3).is_some() {
-        return Err(Fail::from("nobody waits for a call that waits"));
-    }
-    let mut turn = Some(0);
-    for _ in 0..7 {
-        let call = turn.ok_or("a call is woken")?;
-        let req = reqs.get_mut(call).ok_or("a request for each call")?;
-        let Some(CallPoll { answer, wake }) = calls.finish(call, req, now) else {
-            return Err(Fail::from("the call ends"));
-        };
-        if !is_signed(answer, req) {
-            return Err(Fail::from("the request is signed"));
-        }
-        turn = wake;
-    }
-    match turn {
-        None => Ok(()),
-        Some(_) => Err(Fail::from("nobody is left")),
-    }
+fn eight_calls_wait_for_one_load(rt: HostRuntime) {
+    let signer = key_signer(rt.alloc(), "/keys").expect(&rt, "memory");
+    let mut calls = Calls::new(rt.alloc(), signer);
+    let now = Timestamp::from_second(rt.alloc(), 5).expect(&rt, "a moment");
+    let mut reqs = waiting_requests(rt.alloc(), &mut calls, now).expect(&rt, "calls that wait");
+    assert!(rt; calls.cancel(3).is_none());
+    assert!(rt; served(&mut calls, &mut reqs, now) == Some((7, None)));
 }
 
 /// Begins eight calls and polls each once, which finds that it has to wait.
@@ -494,17 +476,38 @@ fn waiting_requests(
     alloc: Global,
     calls: &mut Calls<KeyProvider, HeaderHmac>,
     now: Timestamp,
-) -> Result<Vec<Parts>, Fail> {
+) -> Option<Vec<Parts>> {
     let mut reqs = Vec::new(alloc);
     for _ in 0..8 {
         let mut req = request(alloc)?;
-        let call = calls.begin(alloc, 0, &req, None)?;
+        let call = calls.begin(alloc, 0, &req, None).ok()?;
         if !calls.waits(call, &mut req, now) {
-            return Err(Fail::from("the call waits"));
+            return None;
         }
-        reqs.push(req)?;
+        reqs.push(req).ok()?;
     }
-    Ok(reqs)
+    Some(reqs)
+}
+
+/// Serves call 0 and whoever is woken, seven calls at the most: how many were signed, and who is left.
+fn served(
+    calls: &mut Calls<KeyProvider, HeaderHmac>,
+    reqs: &mut Vec<Parts>,
+    now: Timestamp,
+) -> Option<(u32, Option<usize>)> {
+    let mut turn = Some(0);
+    for signed in 0..7 {
+        let Some(call) = turn else {
+            return Some((signed, None));
+        };
+        let req = reqs.get_mut(call)?;
+        let CallPoll { answer, wake } = calls.finish(call, req, now)?;
+        if !is_signed(answer, req) {
+            return None;
+        }
+        turn = wake;
+    }
+    Some((7, turn))
 }
 
 /// Whether the call is done, and the request has the header.
@@ -515,16 +518,18 @@ fn is_signed(answer: CallAnswer, req: &Parts) -> bool {
     }
 }
 
+/// The text of the error of a call for which no provider has a key.
+fn error_text(alloc: Global) -> Option<String> {
+    let now = Timestamp::from_second(alloc, 5).ok()?;
+    let mut req = request(alloc)?;
+    let answer = signed(alloc, key_signer(alloc, "/no/keys")?, &mut req, now)?;
+    let error = answer.into_error(alloc, AccessKey::NAME)?;
+    format!(in alloc; "{error}").ok()
+}
+
 /// Where no provider has a key, the call is refused, and the refusal becomes an error.
 #[test]
-fn a_refusal_becomes_an_error(rt: HostRuntime) -> Result<(), Fail> {
-    let alloc = rt.alloc();
-    let now = Timestamp::from_second(alloc, 5)?;
-    let mut req = request(alloc)?;
-    let signer = key_signer(alloc, "/no/keys").map_err(|_| "memory")?;
-    let answer = signed(alloc, signer, &mut req, now).ok_or("the call ends")?;
-    let error = answer.into_error(alloc, AccessKey::NAME).ok_or("an error")?;
-    let text = format!(in alloc; "{error}")?;
-    assert_eq!(rt; text.as_str(), "failed to load signing credential");
-    Ok(())
+fn a_refusal_becomes_an_error(rt: HostRuntime) {
+    let text = error_text(rt.alloc()).expect(&rt, "an error");
+    assert!(rt; text.as_str() == "failed to load signing credential");
 }

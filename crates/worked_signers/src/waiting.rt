@@ -13,11 +13,14 @@ fn call(number: u64) -> CallId
 fn the_waiters_are_served_in_order(rt: HostRuntime) {
     let mut lock = WaitLock::new(rt.alloc());
     assert!(rt; lock.reserve(3).is_ok());
-    assert_eq!(rt; lock.enter(call(1)), Entered::Granted);
-    assert_eq!(rt; lock.enter(call(2)), Entered::Queued);
-    assert_eq!(rt; lock.enter(call(3)), Entered::Queued);
-    assert_eq!(rt; lock.cancel(call(2)), Left::Waiter);
-    assert_eq!(rt; lock.cancel(call(9)), Left::Absent);
-    assert_eq!(rt; lock.release(), Some(call(3)));
-    assert_eq!(rt; lock.release(), None);
+    let entered = [
+        lock.enter(call(1)),
+        lock.enter(call(2)),
+        lock.enter(call(3)),
+    ];
+    assert!(rt; entered == [Entered::Granted, Entered::Queued, Entered::Queued]);
+    let left = [lock.cancel(call(2)), lock.cancel(call(9))];
+    assert!(rt; left == [Left::Waiter, Left::Absent]);
+    let served = [lock.release(), lock.release()];
+    assert!(rt; served == [Some(call(3)), None]);
 }

@@ -5,8 +5,7 @@ ghost use Rattle.std.specs.Prelude.{int_lt};
 use credentials::{DeadlineRule, SigningCredential};
 use sign_base::{Field, Fields, Head, NoMemory, Octets, Timestamp, Version};
 use sign_desk::{Answer, Desk, Event, Loader, Reply, Verdict};
-use std::alloc::{AllocError, Global};
-use std::test::Fail;
+use std::alloc::Global;
 use std::time::Duration;
 use wake_lock::CallId;
 
@@ -42,7 +41,7 @@ impl SigningCredential for Key {
 struct ToTheEnd;
 
 impl DeadlineRule for ToTheEnd {
-    ghost use Rattle.bench_rows.specs.Deadline.{key_deadline};
+    ghost use Rattle.worked_signers.specs.Deadline.{key_deadline};
 
     type Credential = Key;
 
@@ -158,38 +157,46 @@ impl KeySigner {
     }
 }
 
+/// The signer's one cache, rule and handle.
+fn key_signer(alloc: Global) -> Option<KeySigner> {
+    let mut desk = Desk::new(alloc);
+    desk.add_cache(Loader::Single).ok()?;
+    desk.add_rule(ToTheEnd).ok()?;
+    desk.add_handle(0, 0).ok()?;
+    let keys = Keys {
+        lifetime: Duration::from_secs(600),
+        asked: 0,
+    };
+    Some(KeySigner { alloc, desk, keys })
+}
+
+/// The first header of the head that a call at this second comes to.
+fn signed(signer: &mut KeySigner, number: u64, second: i64) -> Option<Octets> {
+    let now = Timestamp::from_second(signer.alloc, second).ok()?;
+    match signer.sign(CallId { handle: 0, number }, "/a", now).ok()? {
+        Reply::Done { head } => head
+            .headers
+            .as_slice()
+            .first()?
+            .value
+            .try_clone(signer.alloc)
+            .ok(),
+        _ => None,
+    }
+}
+
 /// A key serves as long as it lasts to the end of the operation, and then the next is asked for.
 #[test]
-fn a_key_is_asked_for_once_while_it_lasts(rt: HostRuntime) -> Result<(), Fail> {
-    let mut signer = KeySigner {
-        alloc: rt.alloc(),
-        desk: Desk::new(rt.alloc()),
-        keys: Keys {
-            lifetime: Duration::from_secs(600),
-            asked: 0,
-        },
-    };
-    assert_eq!(rt; signer.desk.add_cache(Loader::Single), Ok(0));
-    assert!(rt; signer.desk.add_rule(ToTheEnd).is_ok());
-    assert_eq!(rt; signer.desk.add_handle(0, 0), Ok(0));
+fn a_key_is_asked_for_once_while_it_lasts(rt: HostRuntime) {
+    let mut signer = key_signer(rt.alloc()).expect(&rt, "memory");
     for (number, second, asked, header) in [
         (1, 0, 1, "key 1"),
         (2, 300, 1, "key 1"),
         (3, 539, 1, "key 1"),
         (4, 540, 2, "key 2"),
     ] {
-        let now = Timestamp::from_second(rt.alloc(), second)?;
-        let call = CallId { handle: 0, number };
-        let reply = signer.sign(call, "/a", now).map_err(|_| AllocError)?;
-        let Reply::Done { head } = reply else {
-            return Err(Fail::from("the call is done"));
-        };
-        let Some(field) = head.headers.as_slice().first() else {
-            return Err(Fail::from("the head is signed"));
-        };
-        assert_eq!(rt; field.value.as_slice(), header.as_bytes());
-        assert_eq!(rt; signer.keys.asked, asked);
+        let value = signed(&mut signer, number, second).expect(&rt, "the call is signed");
+        assert!(rt; value.as_slice() == header.as_bytes() && signer.keys.asked == asked);
     }
-    assert_eq!(rt; signer.desk.live(), 0);
-    Ok(())
+    assert!(rt; signer.desk.live() == 0);
 }
