@@ -4,9 +4,9 @@
 ghost use Rattle.std.specs.Prelude.{◌≡◌, ◌+◌, ◌==◌, ◌∷◌, ◌++◌, [], Ok, Err, length, codes, decimal, slice_index, if◌then◌else◌};
 ghost use Rattle.sign_base.specs.Bytes.{newline};
 
-use crate::LineCommand;
 use itoa::Buffer;
 use sign_base::NoMemory;
+use signctl_driver::LineCommand;
 use std::alloc::Global;
 
 /// The number of lines so far.

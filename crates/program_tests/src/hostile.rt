@@ -1,8 +1,6 @@
 //! One script with three waiting calls, cut at each byte, and with a fault at each read and at each
-//! write in turn; and a head with every byte.
-use super::row::SIGNING;
-use super::{ROOM, answer, ends_as, joined, run_script};
-use sign_base::{FaultySink, FaultySource, MemorySource};
+//! write in turn; a read behind a grant's lines; and a head with every byte.
+use crate::ran::{Fault, bytes, ends_as, run_command};
 use signctl_core::Status;
 use std::alloc::{AllocError, Global};
 use std::process::Abort;
@@ -75,10 +73,10 @@ fn is_whole(number: usize, part: &str) -> bool {
 
 /// Whether the script that ends in the middle of the line of this number is answered up to there.
 fn is_answered_where_cut(rt: &impl Abort, alloc: Global, whole: usize, part: &str) {
-    let bytes = input(alloc, whole, part).expect(rt, "memory");
-    let (text, ends) = cut_answers(alloc, whole, part).expect(rt, "memory");
-    let (sink, status) = answer(alloc, bytes).expect(rt, "memory");
-    ends_as(rt, (sink.written(), status), (text.as_slice(), ends), &part);
+    let input = input(alloc, whole, part).expect(rt, "memory");
+    let (text, status) = cut_answers(alloc, whole, part).expect(rt, "memory");
+    let ran = run_command(alloc, "script", input, 4_096, Fault::Nowhere);
+    ends_as(rt, ran, text.as_slice(), status);
 }
 
 #[test]
@@ -90,22 +88,12 @@ fn a_script_is_cut_at_each_byte(rt: HostRuntime) {
     }
 }
 
-/// What a script is answered, and how it ends, where the read of this number fails.
-fn answer_up_to_read(alloc: Global, bytes: Vec<u8>, read: usize) -> Option<(FaultySink, Status)> {
-    let fails = vec![in alloc; read as u64].ok()?;
-    let mut source = FaultySource::new(bytes, 1, fails);
-    let mut sink = FaultySink::new(alloc, ROOM, 4096, Vec::new(alloc)).ok()?;
-    let status = run_script(alloc, &mut source, &mut sink).ok()?;
-    Some((sink, status))
-}
-
 /// The lines before the fault are answered, and the one that it cuts is not.
 fn stops_at_read(rt: &impl Abort, alloc: Global, read: usize, lines: usize) {
-    let bytes = input(alloc, LINES.len(), "").expect(rt, "memory");
+    let input = input(alloc, LINES.len(), "").expect(rt, "memory");
     let output = answers(alloc, lines, "").expect(rt, "memory");
-    let (sink, status) = answer_up_to_read(alloc, bytes, read).expect(rt, "memory");
-    let expected = (output.as_slice(), Status::ReadFault);
-    ends_as(rt, (sink.written(), status), expected, &read);
+    let ran = run_command(alloc, "script", input, 1, Fault::Read(read));
+    ends_as(rt, ran, output.as_slice(), Status::ReadFault);
 }
 
 #[test]
@@ -120,26 +108,11 @@ fn each_read_fails_in_turn(rt: HostRuntime) {
     }
 }
 
-/// What a script is answered, and how it ends, where the write of this number fails, of a sink that
-/// takes one byte at a time.
-fn answer_up_to_write(alloc: Global, bytes: Vec<u8>, write: usize) -> Option<(FaultySink, Status)> {
-    let fails = vec![in alloc; write as u64].ok()?;
-    let mut source = MemorySource::new(bytes);
-    let mut sink = FaultySink::new(alloc, ROOM, 1, fails).ok()?;
-    let status = run_script(alloc, &mut source, &mut sink).ok()?;
-    Some((sink, status))
-}
-
 /// The sink holds all bytes before the write that failed.
 fn stops_at_write(rt: &impl Abort, alloc: Global, write: usize, output: &[u8]) {
-    let bytes = input(alloc, LINES.len(), "").expect(rt, "memory");
-    let (sink, status) = answer_up_to_write(alloc, bytes, write).expect(rt, "memory");
-    ends_as(
-        rt,
-        (sink.written(), status),
-        (output, Status::WriteFault),
-        &write,
-    );
+    let input = input(alloc, LINES.len(), "").expect(rt, "memory");
+    let ran = run_command(alloc, "script", input, 1, Fault::Write(write));
+    ends_as(rt, ran, output, Status::WriteFault);
 }
 
 #[test]
@@ -151,43 +124,68 @@ fn each_write_fails_in_turn(rt: HostRuntime) {
     }
 }
 
-/// A line of no form, behind lines of a form and their answers.
-const GOOD_LINES: &str = "cache single\nhandle 0 now\nbegin 0 1 - GET https://e.x/ 1.1\n";
-
-const GOOD_ANSWERS: &str = "cache 0\nhandle 0\nbegun\n";
-
-const BAD_LINE: &str = "poll 0 01 5\n";
-
+/// A line of no form, behind lines of a form and their answers: where the read of this number in that line
+/// fails, or the one behind it.
 fn stops_in_the_bad_line(rt: &impl Abort, alloc: Global, at: usize) {
-    let (report, ends) = if at < BAD_LINE.len() {
-        ("", Status::ReadFault)
+    let input = bytes(
+        rt,
+        alloc,
+        "cache single\nhandle 0 now\nbegin 0 1 - GET https://e.x/ 1.1\npoll 0 01 5\n",
+    );
+    let ran = run_command(
+        alloc,
+        "script",
+        input,
+        1,
+        Fault::Read(at.saturating_add(59)),
+    );
+    if at < 12 {
+        ends_as(rt, ran, b"cache 0\nhandle 0\nbegun\n", Status::ReadFault);
     } else {
-        ("line 4: not understood\n", Status::Refused)
-    };
-    let bytes = joined(alloc, GOOD_LINES, BAD_LINE).expect(rt, "memory");
-    let output = joined(alloc, GOOD_ANSWERS, report).expect(rt, "memory");
-    let read = GOOD_LINES.len().saturating_add(at);
-    let (sink, status) = answer_up_to_read(alloc, bytes, read).expect(rt, "memory");
-    ends_as(rt, (sink.written(), status), (output.as_slice(), ends), &at);
+        let output = b"cache 0\nhandle 0\nbegun\nline 4: not understood\n";
+        ends_as(rt, ran, output, Status::Refused);
+    }
 }
 
 /// A line that a fault cuts is not answered, whatever its bytes. A line that stands whole before a fault
 /// is bad before the read fails.
 #[test]
 fn a_read_fails_in_a_bad_line_or_behind_it(rt: HostRuntime) {
-    for at in 0..=BAD_LINE.len() {
+    for at in 0..=12 {
         stops_in_the_bad_line(&rt, rt.alloc(), at);
     }
 }
 
+const SIGNED: &str = "cache single\nhandle 0 cred\nbegin 0 1 - GET https://e.x/a 1.1 x-original:v\n\
+    poll 0 1 500\nfound 0 1 501 7 900 1000 600\n\
+    accept 0 1 POST https://e.x/a?auth=1 2 authorization:signed\n";
+
 /// Of a whole call, whose answers are written a byte at a time, the second write fails.
 #[test]
 fn a_write_fails_behind_the_first_byte(rt: HostRuntime) {
-    let accept = "accept 0 1 POST https://e.x/a?auth=1 2 authorization:signed\n";
-    let bytes = joined(rt.alloc(), SIGNING.input, accept).expect(&rt, "memory");
-    let (sink, status) = answer_up_to_write(rt.alloc(), bytes, 1).expect(&rt, "memory");
-    let expected = (b"c".as_slice(), Status::WriteFault);
-    ends_as(&rt, (sink.written(), status), expected, &"the second write");
+    let input = bytes(&rt, rt.alloc(), SIGNED);
+    let ran = run_command(rt.alloc(), "script", input, 1, Fault::Write(1));
+    ends_as(&rt, ran, b"c", Status::WriteFault);
+}
+
+/// Of the lines of a granter, a read in the third line fails.
+#[test]
+fn a_read_fails_behind_two_lines(rt: HostRuntime) {
+    let input = bytes(
+        &rt,
+        rt.alloc(),
+        "cache single\nhandle 0 cred\nbegin 0 1 -\n",
+    );
+    let ran = run_command(rt.alloc(), "grant", input, 1, Fault::Read(30));
+    ends_as(&rt, ran, b"cache 0\nhandle 0\n", Status::ReadFault);
+}
+
+/// The program has a text for `--help`, and the commands have none.
+#[test]
+fn a_word_of_the_program_is_no_command(rt: HostRuntime) {
+    let input = bytes(&rt, rt.alloc(), "cache single\nscript\n");
+    let ran = run_command(rt.alloc(), "--help", input, 4_096, Fault::Nowhere);
+    ends_as(&rt, ran, b"", Status::Usage);
 }
 
 /// The value of a header with all 256 bytes, as a script spells it.
@@ -214,7 +212,6 @@ fn every_byte_of_a_header_comes_back(rt: HostRuntime) {
     let output = format!(in alloc;
         "cache 0\nhandle 0\nbegun\nask 0\nsign 1\ndone GET / 1.1 x:{value}\nfinal 0 1 900 1000 0\n"
     ).expect(&rt, "memory");
-    let (sink, status) = answer(alloc, script.into_bytes()).expect(&rt, "memory");
-    let expected = (output.as_bytes(), Status::Done);
-    ends_as(&rt, (sink.written(), status), expected, &"every byte");
+    let ran = run_command(alloc, "script", script.into_bytes(), 4_096, Fault::Nowhere);
+    ends_as(&rt, ran, output.as_bytes(), Status::Done);
 }

@@ -1,65 +1,42 @@
-//! `load`: its counts, a fault at each byte of its line, and its events on a desk of the test's own.
+//! `load`: a fault at each byte of its line, and its events on a desk of the test's own. Its counts are rows
+//! of `command_rows`.
 ghost use Rattle.std.specs.Prelude.{◌≤◌, ◌<◌, ◌+◌, ◌*◌, IfOk};
 
-use super::{ROOM, ends_as, run_words};
+use crate::ran::{Fault, ends_as, run_command};
 use sequential_signer::{Loader, Reply};
-use sign_base::{FaultySink, FaultySource, MemorySink, MemorySource};
 use sign_desk::Desk;
 use signctl_core::Status;
 use signctl_format::{Item, ScriptCredential, ScriptEvent, ScriptRule, ScriptVersion, read_line};
 use std::alloc::{AllocError, Global};
 use std::process::Abort;
 
-const NO_CALLS: &str = "begun 0 pending 0 ask 0 sign 0 done 0 refused 0 cancelled 0 not-now 0\n";
+const ONE_ROUND: &[u8] = b"begun 8 pending 7 ask 1 sign 8 done 8 refused 0 cancelled 0 not-now 0\n";
 
-const ONE_ROUND: &str = "begun 8 pending 7 ask 1 sign 8 done 8 refused 0 cancelled 0 not-now 0\n";
-
-const FOUR_ROUNDS: &str =
-    "begun 32 pending 14 ask 3 sign 31 done 31 refused 0 cancelled 1 not-now 0\n";
-
-const MOST_CALLS: &str = "begun 100000 pending 43750 ask 9375 sign 96875 done 96875 refused 0 \
-    cancelled 3125 not-now 0\n";
-
-/// The counts of so many calls, and how the run ends. None where memory is lacking.
-fn counts(alloc: Global, calls: &str) -> Option<(MemorySink, Status)> {
-    let mut source = MemorySource::new(Vec::new(alloc));
-    let mut sink = MemorySink::new(alloc, ROOM).ok()?;
-    let status = run_words(alloc, &["load", calls], &mut source, &mut sink).ok()?;
-    Some((sink, status))
-}
-
+/// A source whose first read fails is not asked.
 #[test]
-fn replies_are_counted(rt: HostRuntime) {
-    for (calls, line) in [
-        ("0", NO_CALLS),
-        ("8", ONE_ROUND),
-        ("32", FOUR_ROUNDS),
-        ("100000", MOST_CALLS),
-    ] {
-        let (sink, status) = counts(rt.alloc(), calls).expect(&rt, "memory");
-        let expected = (line.as_bytes(), Status::Done);
-        ends_as(&rt, (sink.written(), status), expected, &calls);
-    }
+fn a_source_that_fails_is_not_asked(rt: HostRuntime) {
+    let ran = run_command(
+        rt.alloc(),
+        "load 8",
+        Vec::new(rt.alloc()),
+        4_096,
+        Fault::Read(0),
+    );
+    ends_as(&rt, ran, ONE_ROUND, Status::Done);
 }
 
-/// The same of eight calls, where the write of this number fails. The source fails at its first read.
-fn counts_up_to(alloc: Global, write: usize) -> Option<(FaultySink, Status)> {
-    let reads = vec![in alloc; 0u64].ok()?;
-    let writes = vec![in alloc; write as u64].ok()?;
-    let mut source = FaultySource::new(Vec::new(alloc), 1, reads);
-    let mut sink = FaultySink::new(alloc, ROOM, 1, writes).ok()?;
-    let status = run_words(alloc, &["load", "8"], &mut source, &mut sink).ok()?;
-    Some((sink, status))
-}
-
-/// A source whose first read fails is not asked, and a sink that takes one byte at a time holds all bytes
-/// before the write that failed.
+/// A sink that takes one byte at a time holds all bytes before the write that failed.
 #[test]
 fn each_byte_of_the_counts_fails_in_turn(rt: HostRuntime) {
     for write in 0..ONE_ROUND.len() {
-        let (sink, status) = counts_up_to(rt.alloc(), write).expect(&rt, "memory");
-        let expected = (&ONE_ROUND.as_bytes()[..write], Status::WriteFault);
-        ends_as(&rt, (sink.written(), status), expected, &write);
+        let ran = run_command(
+            rt.alloc(),
+            "load 8",
+            Vec::new(rt.alloc()),
+            1,
+            Fault::Write(write),
+        );
+        ends_as(&rt, ran, &ONE_ROUND[..write], Status::WriteFault);
     }
 }
 

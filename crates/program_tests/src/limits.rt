@@ -1,10 +1,13 @@
 //! Lines and inputs of exactly the limit, and of one byte more.
 ghost use Rattle.std.specs.Prelude.{◌<◌};
 
-use super::{INPUT_LIMIT, answer, answer_in_pieces, ends_as};
+use crate::ran::{Fault, ends_as, run_command};
 use signctl_core::Status;
 use std::alloc::{AllocError, Global};
 use std::process::Abort;
+
+/// The most bytes of an input that are looked at.
+const INPUT_LIMIT: usize = 67_108_864;
 
 /// A script of so many equal bytes, what it is answered, and how it ends.
 type Repeated = (u8, usize, &'static str, Status);
@@ -13,15 +16,10 @@ type Repeated = (u8, usize, &'static str, Status);
 fn is_answered(rt: &impl Abort, alloc: Global, row: Repeated, piece: usize)
     requires { 0 < piece }
 {
-    let (byte, count, output, ends) = row;
-    let bytes = vec![in alloc; byte; count].expect(rt, "memory");
-    let (sink, status) = answer_in_pieces(alloc, bytes, piece).expect(rt, "memory");
-    ends_as(
-        rt,
-        (sink.written(), status),
-        (output.as_bytes(), ends),
-        &count,
-    );
+    let (byte, count, output, status) = row;
+    let input = vec![in alloc; byte; count].expect(rt, "memory");
+    let ran = run_command(alloc, "script", input, piece, Fault::Nowhere);
+    ends_as(rt, ran, output.as_bytes(), status);
 }
 
 /// Lines of exactly the limit, and of one byte more.
@@ -32,7 +30,7 @@ fn long_lines_are_refused(rt: HostRuntime) {
             (b'#', 65_536, "", Status::Done),
             (b'#', 65_537, "line 1: too long\n", Status::Refused),
             (b'x', 65_537, "line 1: too long\n", Status::Refused),
-            (b'#', INPUT_LIMIT + 1, "line 1: too long\n", Status::Refused),
+            (b'#', 67_108_865, "line 1: too long\n", Status::Refused),
         ] {
             is_answered(&rt, rt.alloc(), row, piece);
         }
@@ -42,7 +40,7 @@ fn long_lines_are_refused(rt: HostRuntime) {
 /// A newline more than an input may have bytes.
 #[test]
 fn newlines_are_too_many_in_pieces(rt: HostRuntime) {
-    let row = (b'\n', INPUT_LIMIT + 1, "input too long\n", Status::Refused);
+    let row = (b'\n', 67_108_865, "input too long\n", Status::Refused);
     is_answered(&rt, rt.alloc(), row, 1);
     is_answered(&rt, rt.alloc(), row, 4_096);
 }
@@ -62,17 +60,16 @@ fn remarks(alloc: Global, end: &[u8]) -> Result<Vec<u8>, AllocError> {
 /// Inputs of exactly the limit, in remarks of 64 bytes, and of one byte more.
 #[test]
 fn long_inputs_are_refused(rt: HostRuntime) {
-    for (end, output, ends) in [
-        (b"".as_slice(), "", Status::Done),
-        (b"#", "input too long\n", Status::Refused),
+    for (end, output, status) in [
+        (b"".as_slice(), b"".as_slice(), Status::Done),
+        (
+            b"#".as_slice(),
+            b"input too long\n".as_slice(),
+            Status::Refused,
+        ),
     ] {
-        let bytes = remarks(rt.alloc(), end).expect(&rt, "memory");
-        let (sink, status) = answer(rt.alloc(), bytes).expect(&rt, "memory");
-        ends_as(
-            &rt,
-            (sink.written(), status),
-            (output.as_bytes(), ends),
-            &end.len(),
-        );
+        let input = remarks(rt.alloc(), end).expect(&rt, "memory");
+        let ran = run_command(rt.alloc(), "script", input, INPUT_LIMIT, Fault::Nowhere);
+        ends_as(&rt, ran, output, status);
     }
 }
