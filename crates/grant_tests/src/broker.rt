@@ -4,8 +4,8 @@ use crate::key::{Key, UntilNow};
 use grant_desk::{AddError, GrantDesk};
 use sequential_signer::{Answer, GrantEvent, GrantReply, GrantWhy, Loader, Made};
 use sign_base::Timestamp;
-use std::alloc::{AllocError, Global};
-use std::test::Fail;
+use std::alloc::Global;
+use std::process::Abort;
 use wake_lock::CallId;
 
 /// A broker, and how often its provider was asked.
@@ -17,18 +17,12 @@ struct Broker {
 
 impl Broker {
     /// A desk with one cache, one rule and one handle.
-    fn new(alloc: Global) -> Result<Broker, AllocError> {
+    fn new(alloc: Global) -> Option<Broker> {
         let mut desk = GrantDesk::new(alloc);
-        if desk.add_cache(Loader::Single).is_err() {
-            return Err(AllocError);
-        }
-        if desk.add_rule(UntilNow).is_err() {
-            return Err(AllocError);
-        }
-        if desk.add_handle(0, 0).is_err() {
-            return Err(AllocError);
-        }
-        Ok(Broker { desk, asked: 0 })
+        desk.add_cache(Loader::Single).ok()?;
+        desk.add_rule(UntilNow).ok()?;
+        desk.add_handle(0, 0).ok()?;
+        Some(Broker { desk, asked: 0 })
     }
 
     /// What the provider answers: another key each time, which expires at this moment.
@@ -64,8 +58,9 @@ fn call(number: u64) -> CallId {
     CallId { handle: 0, number }
 }
 
-fn second(alloc: Global, second: i64) -> Result<Timestamp, AllocError> {
-    Timestamp::from_second(alloc, second).map_err(|_| AllocError)
+/// The moment of this second since 1970.
+fn at(rt: &impl Abort, alloc: Global, second: i64) -> Timestamp {
+    Timestamp::from_second(alloc, second).expect(rt, "a moment")
 }
 
 /// Begins a call and drives it to the number of the key that is given.
@@ -85,20 +80,18 @@ fn given(broker: &mut Broker, number: u64, now: Timestamp, expires: Timestamp) -
 }
 
 #[test]
-fn a_source_is_loaded_once_while_it_is_fresh(rt: HostRuntime) -> Result<(), Fail> {
-    let mut broker = Broker::new(rt.alloc())?;
-    for (number, at, until, want, asked) in [
+fn a_source_is_loaded_once_while_it_is_fresh(rt: HostRuntime) {
+    let mut broker = Broker::new(rt.alloc()).expect(&rt, "memory");
+    for (number, now, until, want, asked) in [
         (1, 0, 600, 101, 1),
         (2, 300, 600, 101, 1),
         (3, 600, 900, 102, 2),
     ] {
-        let (now, expires) = (second(rt.alloc(), at)?, second(rt.alloc(), until)?);
-        let made = given(&mut broker, number, now, expires);
-        assert_eq!(rt; made, Some(want));
-        assert_eq!(rt; broker.asked, asked);
+        let (now, expires) = (at(&rt, rt.alloc(), now), at(&rt, rt.alloc(), until));
+        assert!(rt; given(&mut broker, number, now, expires) == Some(want));
+        assert!(rt; broker.asked == asked);
     }
-    assert_eq!(rt; broker.desk.live(), 0);
-    Ok(())
+    assert!(rt; broker.desk.live() == 0);
 }
 
 /// A call that is begun, polled, provided for and made for at one moment.
@@ -133,21 +126,22 @@ fn stale_at(reply: &GrantReply<Key>) -> Option<Timestamp> {
     }
 }
 
-#[test]
-fn a_granted_key_that_expires_now_is_stale(rt: HostRuntime) -> Result<(), Fail> {
-    let mut broker = Broker::new(rt.alloc())?;
-    let (now, later) = (second(rt.alloc(), 5)?, second(rt.alloc(), 6)?);
-    let source = broker.source(later);
+/// The moment that the refusal names of a call whose key expires now.
+fn stale(broker: &mut Broker, now: Timestamp, later: Timestamp) -> Option<Timestamp> {
     let made = Made::Made(Key {
         number: 7,
         expires: now,
     });
-    let replies = broker
-        .desk
-        .run(&one_call(now, source, made))
-        .map_err(|_| AllocError)?;
-    assert_eq!(rt; replies.last().and_then(stale_at), Some(now));
-    Ok(())
+    let source = broker.source(later);
+    let replies = broker.desk.run(&one_call(now, source, made)).ok()?;
+    stale_at(replies.last()?)
+}
+
+#[test]
+fn a_granted_key_that_expires_now_is_stale(rt: HostRuntime) {
+    let mut broker = Broker::new(rt.alloc()).expect(&rt, "memory");
+    let (now, later) = (at(&rt, rt.alloc(), 5), at(&rt, rt.alloc(), 6));
+    assert!(rt; stale(&mut broker, now, later) == Some(now));
 }
 
 /// The two calls of one cache, whose loads are open at once.
@@ -178,62 +172,84 @@ fn two_loads(now: Timestamp, first: Answer<Key>, second: Answer<Key>) -> [GrantE
     ]
 }
 
+/// A reply: what it is, and the number of the source or of the provider.
+fn told(reply: &GrantReply<Key>) -> (&'static str, u64) {
+    match reply {
+        GrantReply::Begun => ("begun", 0),
+        GrantReply::Ask { provider } => ("ask", u64::from(*provider)),
+        GrantReply::Grant { source } => ("grant", source.number),
+        GrantReply::Refused {
+            why: GrantWhy::Missing,
+        } => ("missing", 0),
+        _ => ("other", 0),
+    }
+}
+
+/// What is replied where the two loads are answered.
+fn two_answers(
+    broker: &mut Broker,
+    now: Timestamp,
+    later: Timestamp,
+) -> Option<Vec<GrantReply<Key>>> {
+    let first = broker.source(later);
+    let last = broker.source(later);
+    broker.desk.run(&two_loads(now, first, last)).ok()
+}
+
+const TWO_ANSWERS: [(&str, u64); 6] = [
+    ("begun", 0),
+    ("begun", 0),
+    ("ask", 0),
+    ("ask", 0),
+    ("grant", 1),
+    ("grant", 2),
+];
+
 #[test]
-fn the_last_of_two_open_loads_stays(rt: HostRuntime) -> Result<(), Fail> {
-    let mut broker = Broker::new(rt.alloc())?;
-    let (now, later) = (second(rt.alloc(), 5)?, second(rt.alloc(), 50)?);
-    let (first, last) = (broker.source(later), broker.source(later));
-    let replies = broker
-        .desk
-        .run(&two_loads(now, first, last))
-        .map_err(|_| AllocError)?;
-    let [begun, again, ask, asks, grant, grants] = replies.as_slice() else {
-        return Err(Fail::from("six replies"));
-    };
-    assert!(rt; matches!((begun, again), (GrantReply::Begun, GrantReply::Begun)));
-    assert!(rt;
-        matches!(
-            (ask, asks),
-            (
-                GrantReply::Ask { provider: 0 },
-                GrantReply::Ask { provider: 0 }
-            )
-        )
-    );
-    let (GrantReply::Grant { source: one }, GrantReply::Grant { source: two }) = (grant, grants)
-    else {
-        return Err(Fail::from("two sources"));
-    };
-    assert_eq!(rt; (one.number, two.number), (1, 2));
-    assert_eq!(rt; broker.desk.cached(0).map(|key| key.number), Some(2));
-    Ok(())
+fn the_last_of_two_open_loads_stays(rt: HostRuntime) {
+    let mut broker = Broker::new(rt.alloc()).expect(&rt, "memory");
+    let (now, later) = (at(&rt, rt.alloc(), 5), at(&rt, rt.alloc(), 50));
+    let replies = two_answers(&mut broker, now, later).expect(&rt, "memory");
+    assert!(rt; replies.len() == TWO_ANSWERS.len());
+    for (reply, wanted) in replies.iter().zip(&TWO_ANSWERS) {
+        assert!(rt; told(reply) == *wanted);
+    }
+    assert!(rt; broker.desk.cached(0).map(|key| key.number) == Some(2));
+}
+
+/// What adding answers: a handle with no cache and with no rule, and with both; and the rule.
+fn answers(desk: &mut GrantDesk<Key, UntilNow>) -> ([Result<u32, AddError>; 4], Option<u32>) {
+    let without_cache = desk.add_handle(0, 0);
+    let cache = desk.add_cache(Loader::Chain(0));
+    let without_rule = desk.add_handle(0, 0);
+    let rule = desk.add_rule(UntilNow).ok();
+    (
+        [without_cache, cache, without_rule, desk.add_handle(0, 0)],
+        rule,
+    )
 }
 
 #[test]
-fn adding_calls_refuse_in_order(rt: HostRuntime) -> Result<(), Fail> {
-    let mut desk: GrantDesk<Key, UntilNow> = GrantDesk::new(rt.alloc());
-    assert_eq!(rt; desk.add_handle(0, 0), Err(AddError::NoCache(0)));
-    assert_eq!(rt; desk.add_cache(Loader::Chain(0)), Ok(0));
-    assert_eq!(rt; desk.add_handle(0, 0), Err(AddError::NoRule(0)));
-    assert_eq!(rt; desk.add_rule(UntilNow).map_err(|_| AllocError)?, 0);
-    assert_eq!(rt; desk.add_handle(0, 0), Ok(0));
+fn adding_calls_refuse_in_order(rt: HostRuntime) {
+    let mut desk = GrantDesk::new(rt.alloc());
+    let (answers, rule) = answers(&mut desk);
+    assert!(rt; rule == Some(0));
+    assert!(rt;
+        answers
+            == [
+                Err(AddError::NoCache(0)),
+                Ok(0),
+                Err(AddError::NoRule(0)),
+                Ok(0)
+            ]
+    );
     let begun = desk.step(&GrantEvent::Begin {
         call: call(1),
         expires_in: None,
     });
-    assert!(rt; matches!(begun, GrantReply::Begun));
-    assert_eq!(rt; desk.add_cache(Loader::Single), Err(AddError::Late));
-    let missing = desk.step(&GrantEvent::Poll {
-        call: call(1),
-        now: second(rt.alloc(), 5)?,
-    });
-    assert!(rt;
-        matches!(
-            missing,
-            GrantReply::Refused {
-                why: GrantWhy::Missing
-            }
-        )
-    );
-    Ok(())
+    assert!(rt; told(&begun) == ("begun", 0));
+    assert!(rt; desk.add_cache(Loader::Single) == Err(AddError::Late));
+    let now = at(&rt, rt.alloc(), 5);
+    let missing = desk.step(&GrantEvent::Poll { call: call(1), now });
+    assert!(rt; told(&missing) == ("missing", 0));
 }

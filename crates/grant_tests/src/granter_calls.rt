@@ -8,7 +8,7 @@ use credentials::{ProvideCredentialChain, Providers, SigningCredential};
 use granter::{AddError, AddRefused, GrantPoll, GrantRefusal, Granter};
 use sign_base::{Error, Timestamp};
 use std::alloc::Global;
-use std::test::Fail;
+use std::process::Abort;
 
 /// A granter with these, whose sources expire at second 60.
 fn granter_of(
@@ -57,49 +57,52 @@ fn polled(mut granter: Granter<Source, Issuer>, now: Timestamp) -> Result<Outcom
 }
 
 /// What a single provider and a service come to at this second.
-fn outcome_of(alloc: Global, source: Source, issuer: Issuer, second: i64) -> Result<Outcome, Fail> {
-    let now = Timestamp::from_second(alloc, second)?;
-    let Some(granter) = granter_of(alloc, Providers::Single(source), issuer) else {
-        return Err(Fail::from("memory"));
-    };
-    Ok(polled(granter, now)?)
+fn outcome_of(alloc: Global, source: Source, issuer: Issuer, second: i64) -> Option<Outcome> {
+    let now = Timestamp::from_second(alloc, second).ok()?;
+    polled(granter_of(alloc, Providers::Single(source), issuer)?, now).ok()
+}
+
+/// The number of the key that is given, and by which poll.
+fn given(outcome: Outcome) -> Option<(u64, u32)> {
+    match outcome {
+        Outcome::Given(key, by) => Some((key.number, by)),
+        _ => None,
+    }
 }
 
 #[test]
-fn what_is_made_is_given(rt: HostRuntime) -> Result<(), Fail> {
+fn what_is_made_is_given(rt: HostRuntime) {
     for (source, issuer, polls) in [
         (Source::Finds, Issuer::Makes, 1),
         (Source::FindsLater, Issuer::Makes, 2),
         (Source::FindsLater, Issuer::MakesLater, 3),
         (Source::FindsWithoutMemory, Issuer::MakesWithoutMemory, 3),
     ] {
-        let outcome = outcome_of(rt.alloc(), source, issuer, 5)?;
-        let Outcome::Given(key, by) = outcome else {
-            return Err(Fail::from("a key is given"));
-        };
-        assert_eq!(rt; (key.number, by), (101, polls));
+        let outcome = outcome_of(rt.alloc(), source, issuer, 5).expect(&rt, "memory");
+        assert!(rt; given(outcome) == Some((101, polls)));
     }
-    Ok(())
 }
 
 /// The error of a call that is refused, with its lines.
-fn error_text(alloc: Global, outcome: Outcome) -> Result<String, Fail> {
-    let Outcome::Refused(why) = outcome else {
-        return Err(Fail::from("the call is refused"));
+fn error_text(alloc: Global, source: Source, issuer: Issuer, second: i64) -> Option<String> {
+    let Outcome::Refused(why) = outcome_of(alloc, source, issuer, second)? else {
+        return None;
     };
-    let Ok(error) = why.into_error(alloc, Key::NAME) else {
-        return Err(Fail::from("memory"));
-    };
-    let kind = error.kind();
-    let context = error.context();
-    Ok(format!(in alloc; "{kind:?} {error} {context:?}")?)
+    let error = why.into_error(alloc, Key::NAME).ok()?;
+    let (kind, context) = (error.kind(), error.context());
+    format!(in alloc; "{kind:?} {error} {context:?}").ok()
+}
+
+/// Whether this was told.
+fn is_text(rt: &impl Abort, told: Option<String>, wanted: &str) {
+    let told = told.expect(rt, "memory");
+    assert!(rt; told.as_str() == wanted, "{told}");
 }
 
 #[test]
-fn refusals_become_errors(rt: HostRuntime) -> Result<(), Fail> {
-    let alloc = rt.alloc();
-    let expires = Timestamp::from_second(alloc, 5)?;
-    for (source, issuer, second, text) in [
+fn refusals_become_errors(rt: HostRuntime) {
+    let expires = Timestamp::from_second(rt.alloc(), 5).expect(&rt, "a moment");
+    for (source, issuer, second, wanted) in [
         (
             Source::FindsNone,
             Issuer::Makes,
@@ -123,63 +126,36 @@ fn refusals_become_errors(rt: HostRuntime) -> Result<(), Fail> {
         (Source::Fails, Issuer::Makes, 5, "RateLimited no source []"),
         (Source::Finds, Issuer::Fails, 5, "RateLimited no grant []"),
     ] {
-        let outcome = outcome_of(alloc, source, issuer, second)?;
-        assert_eq!(rt; error_text(alloc, outcome)?.as_str(), text);
+        is_text(&rt, error_text(rt.alloc(), source, issuer, second), wanted);
     }
-    Ok(())
 }
 
-#[test]
-fn a_chain_passes_over_failures(rt: HostRuntime) -> Result<(), Fail> {
-    let alloc = rt.alloc();
-    let mut providers = Vec::with_capacity(alloc, 3)?;
+/// What a granter comes to whose first provider fails, whose second finds none, and whose third finds later.
+fn outcome_of_three(alloc: Global) -> Option<Outcome> {
+    let mut providers = Vec::with_capacity(alloc, 3).ok()?;
     providers.push_reserved(Source::Fails);
     providers.push_reserved(Source::FindsNone);
     providers.push_reserved(Source::FindsLater);
     let chain = Providers::Chain(ProvideCredentialChain::from_vec(providers));
-    let Some(granter) = granter_of(alloc, chain, Issuer::Makes) else {
-        return Err(Fail::from("memory"));
-    };
-    let now = Timestamp::from_second(alloc, 5)?;
-    let Outcome::Given(key, by) = polled(granter, now)? else {
-        return Err(Fail::from("a key is given"));
-    };
-    assert_eq!(rt; (key.number, by), (103, 2));
-    Ok(())
+    let now = Timestamp::from_second(alloc, 5).ok()?;
+    polled(granter_of(alloc, chain, Issuer::Makes)?, now).ok()
+}
+
+#[test]
+fn a_chain_passes_over_failures(rt: HostRuntime) {
+    let outcome = outcome_of_three(rt.alloc()).expect(&rt, "memory");
+    assert!(rt; given(outcome) == Some((103, 2)));
 }
 
 /// Handles are added until the first call is begun.
 #[test]
-fn handles_are_added_before_the_first_call(rt: HostRuntime) -> Result<(), Fail> {
-    let Some(granter) = granter_of(rt.alloc(), Providers::Single(Source::Finds), Issuer::Makes)
-    else {
-        return Err(Fail::from("memory"));
-    };
-    let expires = Timestamp::from_second(rt.alloc(), 60)?;
-    let Added {
-        before,
-        is_begun,
-        after,
-    } = added_handles(granter, expires);
-    assert_eq!(rt; before, [Ok(1), Ok(2), Ok(3)]);
-    assert!(rt; is_begun);
-    assert_eq!(rt; after, [Err(AddError::Late); 3]);
-    Ok(())
-}
-
-/// What adding answers before a call is begun and after it.
-struct Added {
-    before: [Result<u32, AddError>; 3],
-    is_begun: bool,
-    after: [Result<u32, AddError>; 3],
-}
-
-fn added_handles(mut granter: Granter<Source, Issuer>, expires: Timestamp) -> Added {
-    Added {
-        before: add_each(&mut granter, expires),
-        is_begun: has_handle_and_room(&granter) && granter.grant(0, None).is_ok(),
-        after: add_each(&mut granter, expires),
-    }
+fn handles_are_added_before_the_first_call(rt: HostRuntime) {
+    let single = Providers::Single(Source::Finds);
+    let mut granter = granter_of(rt.alloc(), single, Issuer::Makes).expect(&rt, "memory");
+    let expires = Timestamp::from_second(rt.alloc(), 60).expect(&rt, "a moment");
+    assert!(rt; add_each(&mut granter, expires) == [Ok(1), Ok(2), Ok(3)]);
+    assert!(rt; has_handle_and_room(&granter) && granter.grant(0, None).is_ok());
+    assert!(rt; add_each(&mut granter, expires) == [Err(AddError::Late); 3]);
 }
 
 /// Adds a handle with another context, one with another service and one with another provider.
@@ -215,32 +191,21 @@ fn number_or_cause<T: Drop>(added: Result<u32, AddRefused<T>>) -> Result<u32, Ad
     }
 }
 
-/// No debug form of a granter or of an answer shows a key.
-#[test]
-fn no_text_shows_a_key(rt: HostRuntime) -> Result<(), Fail> {
-    let Some(granter) = granter_of(rt.alloc(), Providers::Single(Source::Finds), Issuer::Makes)
-    else {
-        return Err(Fail::from("memory"));
-    };
-    let now = Timestamp::from_second(rt.alloc(), 5)?;
-    let (poll, whole) = shown(rt.alloc(), granter, now)?;
-    assert_eq!(rt; poll.as_str(), "Given");
-    assert_eq!(rt; whole.as_str(), "Granter { credential: \"Key\" }");
-    Ok(())
+/// How the answer of a call's first poll shows, and how the granter does then.
+fn shown(alloc: Global) -> Option<String> {
+    let mut granter = granter_of(alloc, Providers::Single(Source::Finds), Issuer::Makes)?;
+    let now = Timestamp::from_second(alloc, 5).ok()?;
+    let begun = granter.grant(0, None).ok()?;
+    let poll = granter.poll(begun, now);
+    format!(in alloc; "{poll:?} {granter:?}").ok()
 }
 
-/// How the answer of a call's first poll shows, and how the granter does then.
-fn shown(
-    alloc: Global,
-    mut granter: Granter<Source, Issuer>,
-    now: Timestamp,
-) -> Result<(String, String), Fail>
-    requires { 0 < length granter.desk.handles }
-{
-    let begun = granter.grant(0, None)?;
-    let poll = granter.poll(begun, now);
-    Ok((
-        format!(in alloc; "{poll:?}")?,
-        format!(in alloc; "{granter:?}")?,
-    ))
+/// No debug form of a granter or of an answer shows a key.
+#[test]
+fn no_text_shows_a_key(rt: HostRuntime) {
+    is_text(
+        &rt,
+        shown(rt.alloc()),
+        "Given Granter { credential: \"Key\" }",
+    );
 }

@@ -9,5 +9,3 @@ mod granter_calls;
 mod key;
 #[cfg(test)]
 mod objects;
-#[cfg(test)]
-mod scripts;

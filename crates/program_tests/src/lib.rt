@@ -1,6 +1,17 @@
-//! What no clause of `signctl_core` says, as tests. They stand in a crate of their own, since a crate with
-//! tests is proved twice. Nothing stands on this crate.
+//! What no clause of `signctl_core` and of the crates of its commands says, as tests: faults, limits, and lines
+//! that are read. They stand in a crate of their own, since a crate with tests is proved twice. Nothing stands
+//! on this crate. Whole inputs with their answers are rows of `command_rows`.
 #![tactic(auto)]
 
 #[cfg(test)]
-mod scripts;
+mod driver;
+#[cfg(test)]
+mod format;
+#[cfg(test)]
+mod hostile;
+#[cfg(test)]
+mod limits;
+#[cfg(test)]
+mod load;
+#[cfg(test)]
+mod ran;

@@ -8,8 +8,6 @@ pub mod output;
 mod printing;
 mod service;
 pub mod status;
-#[cfg(test)]
-mod tests;
 
 pub use command::LineCommand;
 pub use driver::drive;

@@ -29,6 +29,3 @@ pub use read::read_line;
 pub use read_error::ReadError;
 pub use script_event::ScriptEvent;
 pub use script_version::{ScriptVersion, is_version_line};
-
-#[cfg(test)]
-mod tests;

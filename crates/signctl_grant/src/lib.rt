@@ -14,6 +14,3 @@ pub use grant_script_event::GrantScriptEvent;
 pub use grant_session::GrantSession;
 pub use print_grant::push_grant_reply;
 pub use read_grant::read_grant_line;
-
-#[cfg(test)]
-mod tests;

@@ -1,0 +1,535 @@
+//! What the author of a service signer writes: a credential, two providers in a chain, and a service; and
+//! how calls are signed with these. docs/GUIDE.md walks through this file.
+ghost use Rattle.std.specs.Prelude.{◌≡◌, ◌≢◌, true, ⊤, length, IfOk, IfSome};
+ghost use Rattle.worked_signers.specs.Usable.{is_before};
+ghost use Rattle.credentials.specs.declared.polled.Polled.{Polled};
+ghost use Rattle.credentials.specs.Deadline.{operation_end};
+
+use crate::calls::{CallAnswer, CallPoll, Calls, signed};
+use credentials::{
+    Context, DeadlineRule, FileRead, NoopCommandExecute, NoopHttpSend, Polled, ProvideCredential,
+    ProvideCredentialChain, Providers, SignRequest, SigningCredential, StaticEnv, operation_end,
+};
+use hmac_core::hash;
+use http::request::Parts;
+use sign_base::{
+    Error, ErrorKind, Field, Fields, Head, NoMemory, Octets, Redact, Timestamp, Version,
+};
+use sign_request::{SigningRequest, parts_of};
+use signer::Signer;
+use std::alloc::Global;
+use std::collections::HashMap;
+use std::fmt;
+use std::marker::Model;
+use std::time::Duration;
+
+/// An access key and its secret, which can be used until they expire.
+#[derive(Drop)]
+struct AccessKey {
+    id: String,
+    secret: String,
+    /// None where the key does not expire.
+    expires: Option<Timestamp>,
+}
+
+/// Contracts see a key by its texts, so a copy in another vector is an equal key.
+impl Model for AccessKey {
+    ghost use Rattle.std.specs.String.{string_bytes};
+    ghost use Rattle.worked_signers.specs.Usable.{KeyView};
+
+    ghost Value = { KeyView };
+
+    ghost view = { λ key. record {
+      id = string_bytes key.id;
+      secret = string_bytes key.secret;
+      expires = key.expires;
+    } };
+}
+
+/// Of the secret it shows what `Redact` shows.
+impl fmt::Debug for AccessKey {
+    fn fmt<W: fmt::Write>(&self, f: &mut fmt::Formatter<W>) -> fmt::Result {
+        let mut parts = f.debug_struct("AccessKey");
+        parts.field("id", &self.id);
+        parts.field("secret", &Redact::from(&self.secret));
+        parts.finish()
+    }
+}
+
+impl SigningCredential for AccessKey {
+    const NAME: &'static str = "AccessKey";
+
+    ghost valid = { λ key now. is_before key.expires now };
+
+    ghost valid_at = { λ key moment now. is_before key.expires moment };
+
+    fn is_valid(&self, now: Timestamp) -> bool {
+        is_before(self.expires, now)
+    }
+
+    fn is_valid_at(&self, ts: Timestamp, _now: Timestamp) -> bool {
+        is_before(self.expires, ts)
+    }
+
+    fn try_clone(&self, alloc: Global) -> Result<AccessKey, NoMemory<()>> {
+        Ok(AccessKey {
+            id: String::from_str(alloc, self.id.as_str())?,
+            secret: String::from_str(alloc, self.secret.as_str())?,
+            expires: self.expires,
+        })
+    }
+}
+
+/// Whether the moment comes before the key expires.
+fn is_before(expires: Option<Timestamp>, moment: Timestamp) -> bool
+    ensures { result ≡ is_before expires moment }
+{
+    match expires {
+        Some(expires) => moment < expires,
+        None => true,
+    }
+}
+
+/// One file with a text. A read of it answers at its second poll, as one of a disk might.
+#[derive(Drop)]
+struct KeyFile {
+    path: &'static str,
+    text: &'static str,
+}
+
+/// A read that was begun: whether it was polled, and whether there is such a file.
+#[derive(Drop)]
+struct KeyFileRead {
+    polled: bool,
+    found: bool,
+}
+
+impl FileRead for KeyFile {
+    type Read = KeyFileRead;
+
+    ghost started = { λ file path read. ⊤ };
+
+    ghost ready = { λ file read. read.polled ≡ true };
+
+    ghost gives = { λ file path answer. ⊤ };
+
+    fn file_read(&self, _alloc: Global, path: &str) -> Result<KeyFileRead, NoMemory<()>> {
+        Ok(KeyFileRead {
+            polled: false,
+            found: path == self.path,
+        })
+    }
+
+    fn poll_read(&self, alloc: Global, read: &mut KeyFileRead) -> Polled<Vec<u8>> {
+        if !read.polled {
+            read.polled = true;
+            return Polled::Pending;
+        }
+        if !read.found {
+            return no_such_file(alloc);
+        }
+        match Vec::from_slice(alloc, self.text.as_bytes()) {
+            Ok(bytes) => Polled::Ready(bytes),
+            Err(_) => Polled::OutOfMemory,
+        }
+    }
+}
+
+fn no_such_file(alloc: Global) -> Polled<Vec<u8>>
+    ensures { result ≢ Polled.Pending }
+{
+    match Error::config_invalid(alloc, "no such file") {
+        Ok(error) => Polled::Failed(error),
+        Err(_) => Polled::OutOfMemory,
+    }
+}
+
+/// What the providers and the service work in.
+type KeyContext = Context<KeyFile, NoopHttpSend, StaticEnv, NoopCommandExecute>;
+
+/// Where a key may come from. A chain has providers of one type, so this is an enum.
+#[derive(Drop)]
+enum KeyProvider {
+    /// The variables `ACCESS_KEY_ID` and `SECRET_ACCESS_KEY`. Their key does not expire.
+    Environment,
+    /// A file that has the id, the secret, and the second at which the key expires, between spaces.
+    File(&'static str),
+}
+
+/// A load that was begun.
+#[derive(Drop)]
+enum KeyLoad {
+    Environment,
+    Reading(KeyFileRead),
+    /// What the file holds. It stays until there was memory for its key.
+    Text(Vec<u8>),
+}
+
+impl ProvideCredential for KeyProvider {
+    type Credential = AccessKey;
+
+    type Ctx = KeyContext;
+
+    type Load = KeyLoad;
+
+    ghost started = { λ provider ctx load. ⊤ };
+
+    ghost ready = { λ provider ctx load. ⊥ };
+
+    ghost gives = { λ provider ctx answer. ⊤ };
+
+    fn provide_credential(&self, alloc: Global, ctx: &KeyContext) -> Result<KeyLoad, NoMemory<()>> {
+        match self {
+            KeyProvider::Environment => Ok(KeyLoad::Environment),
+            KeyProvider::File(path) => Ok(KeyLoad::Reading(ctx.file_read(alloc, path)?)),
+        }
+    }
+
+    fn poll_load(
+        &self,
+        alloc: Global,
+        ctx: &KeyContext,
+        load: &mut KeyLoad,
+    ) -> Polled<Option<AccessKey>> {
+        if let KeyLoad::Reading(read) = load {
+            match ctx.poll_file_read(alloc, read) {
+                Polled::Ready(text) => *load = KeyLoad::Text(text),
+                Polled::Pending => return Polled::Pending,
+                Polled::Failed(error) => return Polled::Failed(error),
+                Polled::OutOfMemory => return Polled::OutOfMemory,
+            }
+        }
+        let key = match load {
+            KeyLoad::Text(text) => key_of_text(alloc, text.as_slice()),
+            KeyLoad::Environment | KeyLoad::Reading(_) => key_of_environment(alloc, ctx),
+        };
+        match key {
+            Ok(key) => Polled::Ready(key),
+            Err(_) => Polled::OutOfMemory,
+        }
+    }
+}
+
+/// The environment first, and then this file.
+fn environment_then_file(
+    alloc: Global,
+    path: &'static str,
+) -> Result<ProvideCredentialChain<KeyProvider>, NoMemory<()>>
+    ensures { IfOk result (λ chain. length chain ≡ 2) }
+{
+    let mut providers = Vec::with_capacity(alloc, 2)?;
+    providers.push_reserved(KeyProvider::Environment);
+    providers.push_reserved(KeyProvider::File(path));
+    Ok(ProvideCredentialChain::from_vec(providers))
+}
+
+/// The key of the environment, where both variables are set.
+fn key_of_environment(alloc: Global, ctx: &KeyContext) -> Result<Option<AccessKey>, NoMemory<()>> {
+    let Some(id) = ctx.env_var(alloc, "ACCESS_KEY_ID")? else {
+        return Ok(None);
+    };
+    let Some(secret) = ctx.env_var(alloc, "SECRET_ACCESS_KEY")? else {
+        return Ok(None);
+    };
+    Ok(Some(AccessKey {
+        id,
+        secret,
+        expires: None,
+    }))
+}
+
+/// The key of a file, where the text is one.
+fn key_of_text(alloc: Global, text: &[u8]) -> Result<Option<AccessKey>, NoMemory<()>> {
+    let Ok(text) = std::str::from_utf8(text) else {
+        return Ok(None);
+    };
+    let mut words = text.split(' ');
+    let (Some(id), Some(secret), Some(second), None) = (
+        words.next(),
+        words.next(),
+        words.next(),
+        words.next(),
+    ) else {
+        return Ok(None);
+    };
+    let Ok(second) = second.parse::<i64>() else {
+        return Ok(None);
+    };
+    let expires = match Timestamp::from_second(alloc, second) {
+        Ok(moment) => moment,
+        Err(error) if error.kind() == ErrorKind::OutOfMemory => return Err(NoMemory { back: () }),
+        Err(_) => return Ok(None),
+    };
+    Ok(Some(AccessKey {
+        id: String::from_str(alloc, id)?,
+        secret: String::from_str(alloc, secret)?,
+        expires: Some(expires),
+    }))
+}
+
+/// Signs by an HMAC of the request's canonical texts, in the header `authorization`.
+#[derive(Clone, Copy, Debug)]
+struct HeaderHmac;
+
+/// The key has to last to the end of the operation.
+impl DeadlineRule for HeaderHmac {
+    type Credential = AccessKey;
+
+    ghost deadline = { λ service key duration now. operation_end duration now };
+
+    fn required_valid_until(
+        &self,
+        _credential: &AccessKey,
+        expires_in: Option<Duration>,
+        now: Timestamp,
+    ) -> Option<Timestamp> {
+        operation_end(expires_in, now)
+    }
+}
+
+/// A signing that was begun, with its copy of the key.
+#[derive(Drop)]
+struct HmacWork {
+    key: AccessKey,
+}
+
+impl SignRequest for HeaderHmac {
+    type Ctx = KeyContext;
+
+    type Work = HmacWork;
+
+    // The work has the key that it was begun with.
+    ghost started = { λ service ctx operation work. work.key ≡ operation.credential };
+
+    // It needs nobody else, so it is never pending.
+    ghost ready = { λ service ctx work. ⊤ };
+
+    // The URI stays as it was begun.
+    ghost gives = { λ service ctx operation head outcome. outcome.candidate.uri ≡ head.uri };
+
+    fn sign_request(
+        &self,
+        alloc: Global,
+        _ctx: &KeyContext,
+        credential: &AccessKey,
+        _expires_in: Option<Duration>,
+    ) -> Result<HmacWork, NoMemory<()>> {
+        Ok(HmacWork {
+            key: credential.try_clone(alloc)?,
+        })
+    }
+
+    fn poll_sign(
+        &self,
+        alloc: Global,
+        _ctx: &KeyContext,
+        work: &mut HmacWork,
+        candidate: &mut Head,
+    ) -> Polled<()> {
+        match authorization(alloc, &work.key, candidate) {
+            Ok(field) => match candidate.headers.push(field) {
+                Ok(()) => Polled::Ready(()),
+                Err(_) => Polled::OutOfMemory,
+            },
+            Err(error) if error.kind() == ErrorKind::OutOfMemory => Polled::OutOfMemory,
+            Err(error) => Polled::Failed(error),
+        }
+    }
+}
+
+/// The header that signs this head.
+fn authorization(alloc: Global, key: &AccessKey, head: &Head) -> Result<Field, Error> {
+    let parts = parts_of(alloc, head)?;
+    let text = canonical_text(alloc, SigningRequest::build(alloc, &parts)?)?;
+    Ok(header(alloc, key, text.as_bytes())?)
+}
+
+/// What is signed of a request: method, authority, path and sorted query, a line each.
+fn canonical_text(alloc: Global, view: SigningRequest) -> Result<String, NoMemory<()>> {
+    let method = view.method;
+    let authority = view.authority;
+    let path = view.path;
+    let query = SigningRequest::query_to_string(alloc, view.query, "=", "&").map_err(|_| NoMemory {
+        back: (),
+    })?;
+    Ok(format!(in alloc;
+        "{}\n{}\n{path}\n{query}\n",
+        method.as_str(),
+        authority.as_str()
+    )?)
+}
+
+/// The header with the key's id and the HMAC of the text under its secret.
+fn header(alloc: Global, key: &AccessKey, text: &[u8]) -> Result<Field, NoMemory<()>> {
+    let hmac = hash::hex_hmac_sha256(alloc, key.secret.as_bytes(), text)?;
+    let value = format!(in alloc; "HMAC {}:{hmac}", key.id)?;
+    Ok(Field {
+        name: Octets::from_slice(alloc, b"authorization")?,
+        value: Octets::from_slice(alloc, value.as_bytes())?,
+    })
+}
+
+/// A context with the file and no variables.
+fn key_context(alloc: Global) -> KeyContext {
+    let env = StaticEnv {
+        home_dir: None,
+        envs: HashMap::new(alloc),
+    };
+    let file = KeyFile {
+        path: "/keys",
+        text: "me secret 1000",
+    };
+    Context::new().with_env(env).with_file_read(file)
+}
+
+/// A signer with the chain and the service.
+fn key_signer(alloc: Global, path: &'static str) -> Option<Signer<KeyProvider, HeaderHmac>>
+    ensures { IfSome result (λ signer. signer.begun ≡ 0) }
+{
+    let chain = Providers::Chain(environment_then_file(alloc, path).ok()?);
+    Signer::new(alloc, key_context(alloc), chain, HeaderHmac).ok()
+}
+
+const URI: &str = "https://example.com/a%2Fb?y=2&x=1";
+
+/// The header of that URI, as another implementation of HMAC-SHA256 has it.
+const SIGNED_BY_ME: &str =
+    "HMAC me:e359a741623dc63f085e2aa8af69a333a750346530903cdce9ff1a89a0f82f94";
+
+/// A head to be signed.
+fn head(alloc: Global) -> Result<Head, NoMemory<()>> {
+    Ok(Head {
+        method: Octets::from_slice(alloc, b"GET")?,
+        uri: Octets::from_slice(alloc, URI.as_bytes())?,
+        version: Version::V11,
+        headers: Fields::new(alloc),
+    })
+}
+
+/// A request to be signed.
+fn request(alloc: Global) -> Option<Parts> {
+    parts_of(alloc, &head(alloc).ok()?).ok()
+}
+
+fn key(alloc: Global) -> Option<AccessKey> {
+    Some(AccessKey {
+        id: String::from_str(alloc, "me").ok()?,
+        secret: String::from_str(alloc, "secret").ok()?,
+        expires: None,
+    })
+}
+
+/// What the service puts on a head.
+fn signed_head(alloc: Global) -> Option<Head> {
+    let mut work = HmacWork { key: key(alloc)? };
+    let mut candidate = head(alloc).ok()?;
+    match HeaderHmac.poll_sign(alloc, &key_context(alloc), &mut work, &mut candidate) {
+        Polled::Ready(()) => Some(candidate),
+        _ => None,
+    }
+}
+
+/// The service puts the HMAC of the canonical texts into a header, and leaves the rest.
+#[test]
+fn heads_are_signed(rt: HostRuntime) {
+    let head = signed_head(rt.alloc()).expect(&rt, "the head is signed");
+    let field = head.headers.as_slice().first().expect(&rt, "a header");
+    assert!(rt; field.name.as_slice() == b"authorization".as_slice());
+    assert!(rt; field.value.as_slice() == SIGNED_BY_ME.as_bytes());
+}
+
+/// The id of the key that a chain finds at its second poll.
+fn second_found(alloc: Global) -> Option<String> {
+    let ctx = key_context(alloc);
+    let chain = environment_then_file(alloc, "/keys").ok()?;
+    let mut load = chain.provide_credential(alloc, &ctx).ok()?;
+    let Polled::Pending = chain.poll_load(alloc, &ctx, &mut load) else {
+        return None;
+    };
+    match chain.poll_load(alloc, &ctx, &mut load) {
+        Polled::Ready(Some(key)) => Some(key.id),
+        _ => None,
+    }
+}
+
+/// The environment has no key, and the file answers at its second poll.
+#[test]
+fn the_chain_goes_on_to_the_file(rt: HostRuntime) {
+    let id = second_found(rt.alloc()).expect(&rt, "the file has a key");
+    assert!(rt; id.as_str() == "me");
+}
+
+/// Eight calls on an empty cache. The first asks the file, and the others wait for its load. One is given
+/// up, and each that is woken is polled and is signed.
+#[test]
+fn eight_calls_wait_for_one_load(rt: HostRuntime) {
+    let signer = key_signer(rt.alloc(), "/keys").expect(&rt, "memory");
+    let mut calls = Calls::new(rt.alloc(), signer);
+    let now = Timestamp::from_second(rt.alloc(), 5).expect(&rt, "a moment");
+    let mut reqs = waiting_requests(rt.alloc(), &mut calls, now).expect(&rt, "calls that wait");
+    assert!(rt; calls.cancel(3).is_none());
+    assert!(rt; served(&mut calls, &mut reqs, now) == Some((7, None)));
+}
+
+/// Begins eight calls and polls each once, which finds that it has to wait.
+fn waiting_requests(
+    alloc: Global,
+    calls: &mut Calls<KeyProvider, HeaderHmac>,
+    now: Timestamp,
+) -> Option<Vec<Parts>> {
+    let mut reqs = Vec::new(alloc);
+    for _ in 0..8 {
+        let mut req = request(alloc)?;
+        let call = calls.begin(alloc, 0, &req, None).ok()?;
+        if !calls.waits(call, &mut req, now) {
+            return None;
+        }
+        reqs.push(req).ok()?;
+    }
+    Some(reqs)
+}
+
+/// Serves call 0 and whoever is woken, seven calls at the most: how many were signed, and who is left.
+fn served(
+    calls: &mut Calls<KeyProvider, HeaderHmac>,
+    reqs: &mut Vec<Parts>,
+    now: Timestamp,
+) -> Option<(u32, Option<usize>)> {
+    let mut turn = Some(0);
+    for signed in 0..7 {
+        let Some(call) = turn else {
+            return Some((signed, None));
+        };
+        let req = reqs.get_mut(call)?;
+        let CallPoll { answer, wake } = calls.finish(call, req, now)?;
+        if !is_signed(answer, req) {
+            return None;
+        }
+        turn = wake;
+    }
+    Some((7, turn))
+}
+
+/// Whether the call is done, and the request has the header.
+fn is_signed(answer: CallAnswer, req: &Parts) -> bool {
+    match (answer, req.headers.get("authorization")) {
+        (CallAnswer::Done, Some(value)) => value.as_bytes() == SIGNED_BY_ME.as_bytes(),
+        _ => false,
+    }
+}
+
+/// The text of the error of a call for which no provider has a key.
+fn error_text(alloc: Global) -> Option<String> {
+    let now = Timestamp::from_second(alloc, 5).ok()?;
+    let mut req = request(alloc)?;
+    let answer = signed(alloc, key_signer(alloc, "/no/keys")?, &mut req, now)?;
+    let error = answer.into_error(alloc, AccessKey::NAME)?;
+    format!(in alloc; "{error}").ok()
+}
+
+/// Where no provider has a key, the call is refused, and the refusal becomes an error.
+#[test]
+fn a_refusal_becomes_an_error(rt: HostRuntime) {
+    let text = error_text(rt.alloc()).expect(&rt, "an error");
+    assert!(rt; text.as_str() == "failed to load signing credential");
+}
