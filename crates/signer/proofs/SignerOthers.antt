@@ -61,7 +61,7 @@ module _ {K D : Type 0} (old new : DeskState K D) where
 
   pub keeps-state : {L W : Type 0} (m : CallMeaning K L W) (begun : BegunCall) → KeepsCall begun.id old new → (state : SignState K L W) → IsStateMade m begun old state → IsStateMade m begun new state
   keeps-state m begun k (Waiting candidate) h = (keeps-waiting begun k h.0, h.1)
-  keeps-state m begun k (Loading candidate provider l) h = ((k.record_is ∙ h.0.0, keeps-provider begun.id k begun.id.handle provider h.0.1), h.1)
+  keeps-state m begun k (Loading candidate provider l) h = ((k.record_is ∙ h.0.0, keeps-provider begun.id k begun.id.handle provider h.0.1), h.1, h.2)
   keeps-state m begun k (Signing credential w) h = ((h.0.0, k.record_is ∙ h.0.1), h.1)
 
 -- a call whose state was made is live

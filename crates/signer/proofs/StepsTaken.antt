@@ -53,19 +53,19 @@ module _ {K L : Type 0} (gives : Polled (Option K) → Type 0) where
 
 module _ {W : Type 0} (gives : SignOutcome → Type 0) where
   accepted-given : (w : WorkState W) (candidate : Head) → gives (record { answer = polled.Ready tt; candidate = candidate }) → KeepsWork w (work.Signed candidate) → IsVerdictGiven gives w (verdict.Accepted candidate)
-  accepted-given work.Unstarted candidate h keeps = h
+  accepted-given (work.Unstarted begun) candidate h keeps = h
   accepted-given (work.Started x head) candidate h keeps = h
   accepted-given (work.Signed kept) candidate h keeps = cc
 
   -- a service that fails
   pub fails-now : (w : WorkState W) (e : ErrorParts) → ((candidate : Head) × gives (record { answer = polled.Failed e; candidate = candidate })) → IsWorkOpen w → FailsWith gives w e
-  fails-now work.Unstarted e h unanswered = inl h
+  fails-now (work.Unstarted begun) e h unanswered = inl h
   fails-now (work.Started x head) e h unanswered = inl h
   fails-now (work.Signed kept) e h unanswered = absurd unanswered
 
   -- a head that `http` does not accept
   pub fails-by-target : (w : WorkState W) (candidate : Head) (e : ErrorParts) → gives (record { answer = polled.Ready tt; candidate = candidate }) → KeepsWork w (work.Signed candidate) → RefusedAs (RefusesTarget candidate) e → FailsWith gives w e
-  fails-by-target work.Unstarted candidate e h keeps refused = inr (candidate, h, refused)
+  fails-by-target (work.Unstarted begun) candidate e h keeps refused = inr (candidate, h, refused)
   fails-by-target (work.Started x head) candidate e h keeps refused = inr (candidate, h, refused)
   fails-by-target (work.Signed kept) candidate e h keeps refused = let same : candidate ≡ kept = cc in subst (λ head. RefusedAs (RefusesTarget head) e) same refused
 
@@ -237,7 +237,7 @@ module _ {K D L W : Type 0} (v : PolledCall K D L W) (change : StepChange K D) w
         → Ends v (Signing credential w) change None (end.Pending (Signing credential (work.Started started candidate)))
     work-pending started candidate same still signing made pending gives =
         ends-without v (Signing credential w) change.old change (end.Pending (Signing credential (work.Started started candidate)))
-        (Pends (Signing credential (work.Started started candidate))) refl still (refl, pending, gives) (refl, same) (signing, made, inr (inl gives))
+        (Pends (Signing credential (work.Started started candidate))) refl still (refl, pending, gives) (refl, same) (signing, (made, inr (inl gives)))
 
     pub work-without-memory : (kept : WorkState W) → change.after ≡ change.before → change.new ≡ change.old → IsSigning v.begun change.old
         → IsWorkMade v.meaning v.begun credential kept → WorkRunsOut (v.meaning.work_gives credential) w kept

@@ -20,7 +20,7 @@ returns-in-Pending g c = λ service is.
     let said = subst (λ s. IsWorkAnswer (service_meaning g.S.SignRequest s c.args.objects.now.ctx.now c.args.begun.now c.args.credential) c.args.work c.poll_service.result) one c.poll_service.ensures in
     let answered = subst (IsWorkAnswer (service_meaning g.S.SignRequest service c.args.objects.now.ctx.now c.args.begun.now c.args.credential) c.args.work) c.in-Pending.is said in
     subst (IsTaken v (Signing c.args.credential c.args.work) change) (sym c.over.ensures)
-    (work-pending v change c.args.credential c.args.work c.in-Pending.work c.in-Pending.candidate refl refl (c.requires.made service is).0 answered.0 answered.1.0 answered.1.1)
+    (work-pending v change c.args.credential c.args.work c.in-Pending.work c.in-Pending.candidate refl refl (c.requires.made service is).0 answered.0 answered.1 answered.2)
 
 pub returns-in-OutOfMemory : goal.returns-in-OutOfMemory
 returns-in-OutOfMemory g c = λ service is.

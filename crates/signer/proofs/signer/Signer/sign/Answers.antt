@@ -1,4 +1,4 @@
-use Rattle.std.proofs.Common.{◌<◌, ◌+◌, length, refl, sym, subst}
+use Rattle.std.proofs.Common.{◌<◌, ◌+◌, ◌∙◌, length, refl, sym, subst}
 use Rattle.sign_base.specs.declared.head.Head.{Head}
 use Rattle.sign_request.specs.PlainHead.{IsHeadOf}
 use Rattle.sequential_signer.specs.Policy.{policy_of}
