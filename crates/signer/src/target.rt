@@ -47,12 +47,13 @@ pub(crate) fn hand_in<K: SigningCredential, D: DeadlineRule<Credential = K>>(
         (record { old = desk.old; new = desk.new; before = req.old; after = req.new })) }
     ensures others { LeavesOthers begun.now.id desk.old desk.new }
 {
-    match give_accepted(desk, begun, candidate) {
-        (Reply::Done { .. }, _) => {
+    let (reply, back) = give_accepted(desk, begun, candidate);
+    match reply {
+        Reply::Done { .. } => {
             req.uri = target.uri;
             req.headers = target.headers;
             None
         }
-        (_, candidate) => Some(candidate),
+        _ => Some(back),
     }
 }

@@ -8,7 +8,7 @@ use Rattle.granter.specs.GranterObjects.{meanings_of, with_service}
 use Rattle.granter.specs.PollStep.{StepChange, IsTaken}
 use Rattle.granter.specs.StepReply.{went_after_found}
 use Rattle.granter.specs.declared.grant.CallState.TheVariants.{Loading}
-use Rattle.granter.proofs.ObjectMeanings.{load-started, load-pends, load-made, load-gives}
+use Rattle.granter.proofs.ObjectMeanings.{load-started, load-pends, load-left, load-made, load-gives}
 use Rattle.granter.proofs.StepsTaken.{load-pending, load-without-memory, found-taken, missing-taken, failed-taken}
 use Rattle.granter.proofs.step_call.step_loading.Goals as goal
 
@@ -33,7 +33,8 @@ returns-in-OutOfMemory g c = λ service is.
     let o = with_service c.args.objects.now service in
     let there : provider_at c.args.objects.now.providers.now c.args.provider ≡ Some c.unwrap-asked.result.now = sym c.provider_at.ensures ∙ ap option_copied c.unwrap-asked.ensures in
     let said = subst (IsLoadAnswer (provider_meaning g.P.ProvideCredential c.unwrap-asked.result.now c.args.objects.now.ctx.now) c.args.load) c.in-OutOfMemory.is c.poll_provider.ensures in
-    load-without-memory v change c.args.provider c.args.load c.in-OutOfMemory.load refl (c.requires.made service is).0 (load-made m o c.args.begun.now c.args.provider c.unwrap-asked.result.now there c.in-OutOfMemory.load said.0) said.1
+    load-without-memory v change c.args.provider c.args.load c.in-OutOfMemory.load refl (c.requires.made service is).0 (load-made m o c.args.begun.now c.args.provider c.unwrap-asked.result.now there c.in-OutOfMemory.load said.0)
+    (load-left m o c.args.begun.now c.args.provider c.unwrap-asked.result.now there c.args.load c.in-OutOfMemory.load said.1)
 
 pub returns-in-Found : goal.returns-in-Found
 returns-in-Found g c = λ service is.

@@ -9,7 +9,7 @@ use Rattle.signer.specs.SignerObjects.{meanings_of, with_service}
 use Rattle.desk_parts.specs.ProviderList.{provider_at}
 use Rattle.signer.specs.StepReply.{taken_after_found}
 use Rattle.signer.specs.declared.sign.SignState.TheVariants.{Loading}
-use Rattle.signer.proofs.ObjectMeanings.{load-started, load-pends, load-made, load-gives}
+use Rattle.signer.proofs.ObjectMeanings.{load-started, load-pends, load-left, load-made, load-gives}
 use Rattle.signer.proofs.StepsTaken.{load-pending, load-without-memory, found-taken, missing-taken, failed-taken}
 use Rattle.signer.proofs.step_call.step_loading.Goals as goal
 
@@ -36,7 +36,8 @@ returns-in-OutOfMemory g c = λ request service is.
     let there : provider_at c.args.objects.now.providers.now c.args.provider ≡ Some c.unwrap-asked.result.now = sym c.provider_at.ensures ∙ ap option_copied c.unwrap-asked.ensures in
     let said = subst (IsLoadAnswer (provider_meaning g.P.ProvideCredential c.unwrap-asked.result.now c.args.objects.now.ctx.now) c.args.load) c.in-OutOfMemory.is c.poll_provider.ensures in
     subst (IsTaken v (Loading c.args.candidate c.args.provider c.args.load) change) (sym c.over-in-OutOfMemory.ensures)
-    (load-without-memory v change c.args.candidate (c.requires.made service is).2 c.args.provider c.args.load refl c.in-OutOfMemory.load refl (c.requires.made service is).0 (load-made m o c.args.begun.now c.args.provider c.unwrap-asked.result.now there c.in-OutOfMemory.load said.0) said.1)
+    (load-without-memory v change c.args.candidate (c.requires.made service is).2 c.args.provider c.args.load refl c.in-OutOfMemory.load refl (c.requires.made service is).0 (load-made m o c.args.begun.now c.args.provider c.unwrap-asked.result.now there c.in-OutOfMemory.load said.0)
+    (load-left m o c.args.begun.now c.args.provider c.unwrap-asked.result.now there c.args.load c.in-OutOfMemory.load said.1))
 
 pub returns-in-Found : goal.returns-in-Found
 returns-in-Found g c = λ request service is.
