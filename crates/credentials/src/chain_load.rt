@@ -1,5 +1,5 @@
 //! How a chain asks its providers.
-ghost use Rattle.std.specs.Prelude.{◌≡◌, ◌≢◌, ◌+◌, ◌^◌, ◌<◌, ◌⊎◌, length, [], IfOk, IsOk, IfSome, IfNone, None, MatchOption};
+ghost use Rattle.std.specs.Prelude.{◌≡◌, ◌≢◌, ◌+◌, ◌^◌, ◌<◌, ◌⊎◌, length, [], IfOk, IsOk, IfSome, IfNone, None, OnErr, MatchOption};
 ghost use Rattle.credentials.specs.Chain.{ChainStarted, ChainReady, ChainGives, is_passed_over};
 ghost use Rattle.credentials.specs.Polled.{CanBePolledAgain};
 
@@ -56,6 +56,7 @@ impl<P: ProvideCredential> ProvideCredential for ProvideCredentialChain<P> {
     ) -> Result<ChainLoad<P::Load>, NoMemory<()>>
         ensures started { IfOk result (λ load.
             ChainStarted (λ p a. P.gives p ctx.now a) (λ p l. P.started p ctx.now l) self.now load) }
+        ensures memory { OnErr result (ChainGives (λ p a. P.gives p ctx.now a) self.now Polled.OutOfMemory) }
         ensures empty { self.now ≡ [] → IsOk result }
     {
         let open_load = match self.providers.first() {

@@ -1,5 +1,5 @@
 //! What makes one credential of another.
-ghost use Rattle.std.specs.Prelude.{◌≡◌, ◌≢◌, IfOk, option_map};
+ghost use Rattle.std.specs.Prelude.{◌≡◌, ◌≢◌, IfOk, OnErr, option_map};
 ghost use Rattle.std.specs.Duration.{as_nanos};
 ghost use Rattle.credentials.specs.declared.polled.Polled.{Polled};
 ghost use Rattle.credentials.specs.Polled.{CanBePolledAgain};
@@ -35,7 +35,8 @@ pub trait GrantCredential: DeadlineRule {
     ghost gives: { Self → Self.Ctx → Operation Self.Credential → Polled Self.Credential → Type 0 };
 
     /// Begins a grant from this source. How long the granted credential is to serve, where the
-    /// operation says so, is `expires_in`.
+    /// operation says so, is `expires_in`. That there was no memory for it counts as an answer of the
+    /// service.
     fn grant_credential(
         &self,
         alloc: Global,
@@ -43,9 +44,12 @@ pub trait GrantCredential: DeadlineRule {
         source: &Self::Credential,
         expires_in: Option<Duration>,
     ) -> Result<Self::Work, NoMemory<()>>
-        ensures { let operation : Operation Self.Credential =
+        ensures started { let operation : Operation Self.Credential =
             record { credential = source.now; expires_in = option_map as_nanos expires_in }
-            in IfOk result (λ work. started self.now ctx.now operation work) };
+            in IfOk result (λ work. started self.now ctx.now operation work) }
+        ensures memory { let operation : Operation Self.Credential =
+            record { credential = source.now; expires_in = option_map as_nanos expires_in }
+            in OnErr result (gives self.now ctx.now operation Polled.OutOfMemory) };
 
     /// Goes on with a work, as far as it can now. `Ready(c)` is the granted credential.
     fn poll_grant(

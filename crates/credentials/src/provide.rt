@@ -1,5 +1,5 @@
 //! Where credentials come from.
-ghost use Rattle.std.specs.Prelude.{◌≡◌, ◌≢◌, Option, IfOk};
+ghost use Rattle.std.specs.Prelude.{◌≡◌, ◌≢◌, Option, IfOk, OnErr};
 ghost use Rattle.credentials.specs.declared.polled.Polled.{Polled};
 ghost use Rattle.credentials.specs.Polled.{CanBePolledAgain};
 
@@ -31,9 +31,10 @@ pub trait ProvideCredential: Drop {
     /// What a poll of a load may answer: the provider, the context, the answer.
     ghost gives: { Self → Self.Ctx → Polled (Option Self.Credential) → Type 0 };
 
-    /// Begins a load.
+    /// Begins a load. That there was no memory for it counts as an answer of the provider.
     fn provide_credential(&self, alloc: Global, ctx: &Self::Ctx) -> Result<Self::Load, NoMemory<()>>
-        ensures { IfOk result (λ load. started self.now ctx.now load) };
+        ensures started { IfOk result (λ load. started self.now ctx.now load) }
+        ensures memory { OnErr result (gives self.now ctx.now Polled.OutOfMemory) };
 
     /// Goes on with a load, as far as it can now. `Ready(Some(c))` is a credential that was found,
     /// and `Ready(None)` says that there is none.

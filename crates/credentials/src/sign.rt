@@ -1,5 +1,5 @@
 //! What signs a request.
-ghost use Rattle.std.specs.Prelude.{◌≡◌, ◌≢◌, IfOk, option_map};
+ghost use Rattle.std.specs.Prelude.{◌≡◌, ◌≢◌, IfOk, OnErr, option_map};
 ghost use Rattle.std.specs.Duration.{as_nanos};
 ghost use Rattle.sign_base.specs.declared.head.Head.{Head};
 ghost use Rattle.credentials.specs.Polled.{CanBePolledAgain};
@@ -35,7 +35,8 @@ pub trait SignRequest: DeadlineRule {
     ghost gives: { Self → Self.Ctx → Operation Self.Credential → Head → SignOutcome → Type 0 };
 
     /// Begins to sign with this credential. How long the signature is to serve, where the operation
-    /// says so, is `expires_in`.
+    /// says so, is `expires_in`. That there was no memory for it counts as an answer of the service,
+    /// which leaves the head as it is.
     fn sign_request(
         &self,
         alloc: Global,
@@ -43,9 +44,13 @@ pub trait SignRequest: DeadlineRule {
         credential: &Self::Credential,
         expires_in: Option<Duration>,
     ) -> Result<Self::Work, NoMemory<()>>
-        ensures { let operation : Operation Self.Credential =
+        ensures started { let operation : Operation Self.Credential =
             record { credential = credential.now; expires_in = option_map as_nanos expires_in }
-            in IfOk result (λ work. started self.now ctx.now operation work) };
+            in IfOk result (λ work. started self.now ctx.now operation work) }
+        ensures memory { let operation : Operation Self.Credential =
+            record { credential = credential.now; expires_in = option_map as_nanos expires_in }
+            in OnErr result ((head : Head) → gives self.now ctx.now operation head
+            (record { answer = Polled.OutOfMemory; candidate = head })) };
 
     /// Goes on with a work, as far as it can now. The candidate is the head to be signed, at every
     /// poll of a work the same one; after `Ready(())` it is the signed head. Of it the caller takes

@@ -21,16 +21,21 @@ module _ {K L : Type 0} where
   IsLoadPending started ready (load_state.Started load) = ¬ (ready load)
   IsLoadPending started ready (load_state.Found credential) = ⊥
 
-  -- what is kept of a load afterwards: a credential that was found stays, and a load that was started is not started again
+  -- what is kept of a load afterwards: a credential that was found stays
   abbrev pub KeepsLoad : LoadState K L → LoadState K L → Type 0
   KeepsLoad (load_state.Found credential) kept = kept ≡ load_state.Found credential
-  KeepsLoad (load_state.Started load) load_state.Unstarted = ⊥
   KeepsLoad before kept = Unit {0}
 
   -- no answer of the load is kept
   abbrev pub IsLoadOpen : LoadState K L → Type 0
   IsLoadOpen (load_state.Found credential) = ⊥
   IsLoadOpen l = Unit {0}
+
+  -- what is left of a load for which its provider had no memory: it is not started yet, or it was polled
+  abbrev pub LoadRunsOut : (Polled (Option K) → Type 0) → LoadState K L → LoadState K L → Type 0
+  LoadRunsOut gives before load_state.Unstarted = (before ≡ load_state.Unstarted) × gives polled.OutOfMemory
+  LoadRunsOut gives before (load_state.Started load) = IsLoadOpen before × gives polled.OutOfMemory
+  LoadRunsOut gives before (load_state.Found credential) = ⊥
 
 -- what a provider means
 pub record ProviderMeaning (K L : Type 0) : Type 1 where
@@ -41,7 +46,7 @@ pub record ProviderMeaning (K L : Type 0) : Type 1 where
 -- what the provider answered to a poll of what was kept of the load
 abbrev pub IsLoadAnswer : {K L : Type 0} → ProviderMeaning K L → LoadState K L → LoadAnswer K L → Type 0
 IsLoadAnswer m before (Pending load) = m.started load × IsLoadPending m.started m.ready before
-IsLoadAnswer m before (OutOfMemory kept) = IsLoadKept m.started m.gives kept × KeepsLoad before kept
+IsLoadAnswer m before (OutOfMemory kept) = IsLoadKept m.started m.gives kept × LoadRunsOut m.gives before kept
 IsLoadAnswer m before (Found credential) = m.gives (polled.Ready (Some credential)) × KeepsLoad before (load_state.Found credential)
 IsLoadAnswer m before Missing = m.gives (polled.Ready None) × IsLoadOpen before
 IsLoadAnswer m before (Failed e) = m.gives (polled.Failed e) × IsLoadOpen before

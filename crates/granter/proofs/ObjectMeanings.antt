@@ -1,7 +1,7 @@
 -- What the objects of a call mean, by the one that is asked.
 use Rattle.std.proofs.Common.{◌≡◌, ℕ, Option, Some, None, IsSome, IsSomeAnd, refl, sym, subst}
 use Rattle.credentials.specs.declared.polled.Polled.{Polled}
-use Rattle.desk_parts.specs.LoadAnswer.{IsLoadKept, IsLoadPending}
+use Rattle.desk_parts.specs.LoadAnswer.{IsLoadKept, IsLoadPending, LoadRunsOut}
 use Rattle.granter.specs.MadeBy.{IsLoadMade}
 use Rattle.granter.specs.GranterObjects.{Meanings, Objects, call_meaning}
 use Rattle.desk_parts.specs.ProviderList.{provider_at}
@@ -13,6 +13,10 @@ module _ {P G K C L W : Type 0} (m : Meanings P G K C L W) (o : Objects P G C) (
       → IsLoadPending ((call_meaning m begun o).load_started place) ((call_meaning m begun o).load_ready place) l
   load-pends l h =
       subst (λ (x : Option P). IsLoadPending (λ (load : L). IsSomeAnd x (λ q. m.load_started q o.ctx load)) (λ (load : L). IsSomeAnd x (λ q. m.load_ready q o.ctx load)) l) (sym there) h
+
+  pub load-left : (before l : LoadState K L) → LoadRunsOut (m.load_gives p o.ctx) before l → LoadRunsOut ((call_meaning m begun o).load_gives place) before l
+  load-left before l h =
+      subst (λ (x : Option P). LoadRunsOut (λ (a : Polled (Option K)). IsSomeAnd x (λ q. m.load_gives q o.ctx a)) before l) (sym there) h
 
   pub load-made : (l : LoadState K L) → IsLoadKept (m.load_started p o.ctx) (m.load_gives p o.ctx) l → IsLoadMade (call_meaning m begun o) place l
   load-made l h =

@@ -8,10 +8,10 @@ use Rattle.desk_parts.specs.Places.{provider_count}
 use Rattle.desk_parts.specs.ProviderList.{loader_for, provider_at}
 use Rattle.desk_parts.proofs.ListPlaces.{place-there}
 use Rattle.grant_desk.specs.GrantDeskState.{GrantState}
-use Rattle.granter.specs.Course.{PollEnd, Pends, Gives, Refuses, RunsOut, PolledCall, IsDriven, IsEnd, IsAnswerMade, IsAnswerKept, state_behind}
+use Rattle.granter.specs.Course.{PollEnd, Pends, Gives, Refuses, RunsOut, PolledCall, IsDriven, IsEnd, IsAnswerMade}
 use Rattle.granter.specs.MadeBy.{IsStateMade}
 use Rattle.granter.specs.ObjectPoll.{BegunCall}
-use Rattle.granter.specs.PollStep.{StepChange, ComesLater, IsStepEnd, IsEndMade, IsEndKept, answer_by}
+use Rattle.granter.specs.PollStep.{StepChange, ComesLater, IsStepEnd, IsEndMade, answer_by}
 use Rattle.granter.specs.declared.grant.CallState.{CallState}
 use Rattle.granter.specs.declared.grant.CallState.TheVariants.{Waiting, Loading, Granting}
 use Rattle.granter.specs.declared.went.StepEnd.{StepEnd}
@@ -19,23 +19,23 @@ use Rattle.granter.specs.declared.went.StepEnd.TheVariants.{Pending, Given, Refu
 use Rattle.granter.proofs.PollSteps.{CourseEnds}
 
 module _ (P G C : Type 0) {K L W : Type 0} (begun : BegunCall) where
-  end-answers : (end : StepEnd K L W) (by : PollEnd K) → IsStepEnd end by → IsEnd (answer_by {P = P} {G = G} {C = C} begun end) by
-  end-answers (Pending state) Pends h = h
+  end-answers : (end : StepEnd K L W) (by : PollEnd K L W) → IsStepEnd end by → IsEnd (answer_by {P = P} {G = G} {C = C} begun end) by
+  end-answers (Pending state) (Pends left) h = h
   end-answers (Pending state) (Gives credential) h = absurd h
   end-answers (Pending state) (Refuses why) h = absurd h
-  end-answers (Pending state) RunsOut h = absurd h
-  end-answers (Given credential) Pends h = absurd h
+  end-answers (Pending state) (RunsOut left) h = absurd h
+  end-answers (Given credential) (Pends left) h = absurd h
   end-answers (Given credential) (Gives given) h = h
   end-answers (Given credential) (Refuses why) h = absurd h
-  end-answers (Given credential) RunsOut h = absurd h
-  end-answers (Refused why) Pends h = absurd h
+  end-answers (Given credential) (RunsOut left) h = absurd h
+  end-answers (Refused why) (Pends left) h = absurd h
   end-answers (Refused why) (Gives credential) h = absurd h
   end-answers (Refused why) (Refuses cause) h = h
-  end-answers (Refused why) RunsOut h = absurd h
-  end-answers (OutOfMemory state) Pends h = absurd h
+  end-answers (Refused why) (RunsOut left) h = absurd h
+  end-answers (OutOfMemory state) (Pends left) h = absurd h
   end-answers (OutOfMemory state) (Gives credential) h = absurd h
   end-answers (OutOfMemory state) (Refuses why) h = absurd h
-  end-answers (OutOfMemory state) RunsOut h = h
+  end-answers (OutOfMemory state) (RunsOut left) h = h
 
 module _ (P G C : Type 0) {K D L W : Type 0} (v : PolledCall K D L W) where
   made-answers : (end : StepEnd K L W) (desk : GrantState K D) → IsEndMade v desk end → IsAnswerMade v.meaning v.begun desk (answer_by {P = P} {G = G} {C = C} v.begun end)
@@ -44,12 +44,6 @@ module _ (P G C : Type 0) {K D L W : Type 0} (v : PolledCall K D L W) where
   made-answers (Refused why) desk h = tt
   made-answers (OutOfMemory state) desk h = (refl, h)
 
-  kept-answers : (end : StepEnd K L W) (state : CallState K L W) → IsEndKept state end → IsAnswerKept state (answer_by {P = P} {G = G} {C = C} v.begun end)
-  kept-answers (Pending kept) state h = h
-  kept-answers (Given credential) state h = tt
-  kept-answers (Refused why) state h = tt
-  kept-answers (OutOfMemory kept) state h = h
-
   pub driven : (start : CallState K L W) (change : StepChange K D) (end : StepEnd K L W) → CourseEnds v start change end
       → IsDriven v start change.old change.new (answer_by {P = P} {G = G} {C = C} v.begun end)
   driven start change end e = record {
@@ -57,7 +51,6 @@ module _ (P G C : Type 0) {K D L W : Type 0} (v : PolledCall K D L W) where
     course = e.course;
     end = end-answers P G C v.begun end e.run.end e.ended;
     made = made-answers end change.new e.made;
-    kept = kept-answers end (state_behind start e.run.entries) e.kept;
     others = e.others;
   }
 

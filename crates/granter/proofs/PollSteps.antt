@@ -1,6 +1,5 @@
 -- The steps of a poll, and the course that they make.
 use Rattle.std.proofs.Common.{◌≡◌, ◌++◌, ◌∷◌, [], List, refl, sym, ◌∙◌, ap, subst}
-use Rattle.std.specs.Option.{unwrap_or}
 use Rattle.std.proofs.lemmas.List.{append-nil, append_assoc}
 use Rattle.wake_lock.specs.declared.CallId.{CallId}
 use Rattle.sequential_signer.specs.declared.grant_event.GrantEntry.{GrantEntry}
@@ -8,10 +7,11 @@ use Rattle.sequential_signer.specs.declared.grant_event.GrantEvent.{GrantEvent}
 use Rattle.sequential_signer.specs.declared.grant_event.GrantReply.{GrantReply}
 use Rattle.desk_parts.specs.CallAt.{LeavesOthers}
 use Rattle.grant_desk.specs.GrantDeskState.{GrantState, GrantRepresents}
-use Rattle.grant_desk.specs.GrantSteps.{IsGrantStep}
-use Rattle.granter.specs.Course.{PollEnd, PollRun, PolledCall, IsGiven, IsCourse, stops, ends, goes_on, StopsAt, EndsBy, state_after, state_behind}
+use Rattle.desk_parts.specs.Memory.{ClonesAreFree}
+use Rattle.grant_desk.specs.GrantSteps.{IsGrantStep, RunsOutAtBegins}
+use Rattle.granter.specs.Course.{PollEnd, PollRun, PolledCall, IsGiven, IsCourse, stops, ends, goes_on, StopsAt, EndsBy, state_after}
 use Rattle.granter.specs.MadeBy.{IsStateMade}
-use Rattle.granter.specs.PollStep.{StepChange, IsStepEnd, IsEndMade, IsEndKept, GoesOn, Ends}
+use Rattle.granter.specs.PollStep.{StepChange, IsStepEnd, IsEndMade, GoesOn, Ends}
 use Rattle.granter.specs.declared.grant.CallState.{CallState}
 use Rattle.granter.specs.declared.went.StepEnd.{StepEnd}
 
@@ -30,37 +30,35 @@ module _ {K D : Type 0} where
 
 module _ {K D L W : Type 0} (v : PolledCall K D L W) where
   -- a desk that represents a transcript represents it with the events of the course behind it
-  pub course-represents : (state : CallState K L W) (old new : GrantState K D) (run : PollRun K) → IsCourse v state old run new
+  pub course-represents : (state : CallState K L W) (old new : GrantState K D) (run : PollRun K L W) → IsCourse v state old run new
       → (entries : List (GrantEntry K)) → GrantRepresents v.policy old entries → GrantRepresents v.policy new (entries ++ run.entries)
   course-represents state old new run (stops s desk end stop) entries stood = subst (GrantRepresents v.policy desk) (sym (append-nil entries)) stood
-  course-represents state old new run (ends s o n event answered end given step by) entries stood = step.represents entries stood
+  course-represents state old new run (ends s o n event answered end given step memory by) entries stood = step.represents entries stood
   course-represents state old new run (goes_on s next o between n event answered rest given step after course) entries stood =
       let e : GrantEntry K = record { event = event; reply = answered } in
       let more = course-represents next between new rest course (entries ++ e ∷ []) (step.represents entries stood) in
       subst (GrantRepresents v.policy new) (append_assoc entries (e ∷ []) rest.entries) more
 
   -- a step that makes no event
-  pub ends-without : (state : CallState K L W) (desk : GrantState K D) (change : StepChange K D) (end : StepEnd K L W) (by : PollEnd K) → change.old ≡ desk → change.new ≡ desk
-      → StopsAt v.meaning state by → IsStepEnd end by → IsEndMade v desk end → IsEndKept state end → Ends v state change end
-  ends-without state desk change end by was is stop ended made kept = record {
+  pub ends-without : (state : CallState K L W) (desk : GrantState K D) (change : StepChange K D) (end : StepEnd K L W) (by : PollEnd K L W) → change.old ≡ desk → change.new ≡ desk
+      → StopsAt v.meaning state by → IsStepEnd end by → IsEndMade v desk end → Ends v state change end
+  ends-without state desk change end by was is stop ended made = record {
     run = record { entries = []; end = by };
     course = subst (λ d. IsCourse v state d (record { entries = []; end = by }) change.new) (sym was) (subst (λ d. IsCourse v state desk (record { entries = []; end = by }) d) (sym is) (stops state desk by stop));
     ended = ended;
     made = subst (λ d. IsEndMade v d end) (sym is) made;
-    kept = kept;
     others = subst (λ d. LeavesOthers v.begun.id d change.new) (sym was) (subst (λ d. LeavesOthers v.begun.id desk d) (sym is) (leaves-self v.begun.id desk));
   }
 
   -- a step whose event ends the poll
-  pub ends-by : (state : CallState K L W) (change : StepChange K D) (event : GrantEvent K) (answered : GrantReply K) (end : StepEnd K L W) (by : PollEnd K)
-      → IsGiven v state event → IsGrantStep v.policy event change.old answered change.new → EndsBy v.meaning state event answered by
-      → IsStepEnd end by → IsEndMade v change.new end → IsEndKept (unwrap_or (state_after answered) state) end → LeavesOthers v.begun.id change.old change.new → Ends v state change end
-  ends-by state change event answered end by given step ends_so ended made kept others = record {
+  pub ends-by : (state : CallState K L W) (change : StepChange K D) (event : GrantEvent K) (answered : GrantReply K) (end : StepEnd K L W) (by : PollEnd K L W)
+      → IsGiven v state event → IsGrantStep v.policy event change.old answered change.new → (ClonesAreFree v.clones_freely → RunsOutAtBegins event answered)
+      → EndsBy v.meaning state event answered by → IsStepEnd end by → IsEndMade v change.new end → LeavesOthers v.begun.id change.old change.new → Ends v state change end
+  ends-by state change event answered end by given step memory ends_so ended made others = record {
     run = record { entries = record { event = event; reply = answered } ∷ []; end = by };
-    course = ends state change.old change.new event answered by given step ends_so;
+    course = ends state change.old change.new event answered by given step memory ends_so;
     ended = ended;
     made = made;
-    kept = kept;
     others = others;
   }
 
@@ -69,24 +67,17 @@ pub record PollPlace (K D L W : Type 0) : Type 0 where
   pub state : CallState K L W
   pub desk : GrantState K D
 
-module _ {K L W : Type 0} where
-  behind-append : (state : CallState K L W) (xs ys : List (GrantEntry K)) → state_behind state (xs ++ ys) ≡ state_behind (state_behind state xs) ys
-  behind-append state [] ys = refl
-  behind-append state (x ∷ xs) ys = behind-append (unwrap_or (state_after x.reply) state) xs ys
-
 module _ {K D L W : Type 0} (v : PolledCall K D L W) where
   -- a poll that began in this state, with this desk, has come to this place
   pub record Reached (start : CallState K L W) (old : GrantState K D) (place : PollPlace K D L W) : Type 0 where
     pub entries : List (GrantEntry K)
-    pub behind : state_behind start entries ≡ place.state
-    pub leads : (run : PollRun K) (new : GrantState K D) → IsCourse v place.state place.desk run new → IsCourse v start old (record { entries = entries ++ run.entries; end = run.end }) new
+    pub leads : (run : PollRun K L W) (new : GrantState K D) → IsCourse v place.state place.desk run new → IsCourse v start old (record { entries = entries ++ run.entries; end = run.end }) new
     pub others : LeavesOthers v.begun.id old place.desk
     pub made : IsStateMade v.meaning v.begun place.desk place.state
 
   pub reached-start : (start : CallState K L W) (old : GrantState K D) → IsStateMade v.meaning v.begun old start → Reached start old (record { state = start; desk = old })
   reached-start start old made = record {
     entries = [];
-    behind = refl;
     leads = λ run new course. course;
     others = leaves-self v.begun.id old;
     made = made;
@@ -100,9 +91,6 @@ module _ {K D L W : Type 0} (v : PolledCall K D L W) where
       let others : LeavesOthers v.begun.id place.desk change.new = subst (λ d. LeavesOthers v.begun.id d change.new) from g.others in
       record {
         entries = r.entries ++ e ∷ [];
-        behind =
-            behind-append start r.entries (e ∷ []) ∙ ap (λ x. unwrap_or (state_after g.answered) x) r.behind
-            ∙ ap (λ o. unwrap_or o place.state) g.after;
         leads = λ run new course.
             subst (λ l. IsCourse v start old (record { entries = l; end = run.end }) new) (sym (append_assoc r.entries (e ∷ []) run.entries))
             (r.leads (record { entries = e ∷ run.entries; end = run.end }) new (goes_on place.state next place.desk change.new new g.event g.answered run g.given step g.after course));
@@ -112,11 +100,10 @@ module _ {K D L W : Type 0} (v : PolledCall K D L W) where
 
   -- a poll that has come to its last step
   pub record CourseEnds (start : CallState K L W) (change : StepChange K D) (end : StepEnd K L W) : Type 0 where
-    pub run : PollRun K
+    pub run : PollRun K L W
     pub course : IsCourse v start change.old run change.new
     pub ended : IsStepEnd end run.end
     pub made : IsEndMade v change.new end
-    pub kept : IsEndKept (state_behind start run.entries) end
     pub others : LeavesOthers v.begun.id change.old change.new
 
   pub reached-end : (start : CallState K L W) (old : GrantState K D) (place : PollPlace K D L W) → Reached start old place → (change : StepChange K D) → change.old ≡ place.desk
@@ -126,6 +113,5 @@ module _ {K D L W : Type 0} (v : PolledCall K D L W) where
     course = r.leads e.run change.new (subst (λ d. IsCourse v place.state d e.run change.new) from e.course);
     ended = e.ended;
     made = e.made;
-    kept = subst (λ x. IsEndKept x end) (sym (behind-append start r.entries e.run.entries ∙ ap (λ x. state_behind x e.run.entries) r.behind)) e.kept;
     others = leaves-trans r.others (subst (λ d. LeavesOthers v.begun.id d change.new) from e.others);
   }

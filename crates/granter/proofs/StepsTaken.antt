@@ -4,6 +4,7 @@ use Rattle.sign_base.specs.Error.{ErrorParts}
 use Rattle.credentials.specs.declared.polled.Polled.{Polled}
 use Rattle.credentials.specs.declared.polled.Polled.TheVariants as polled
 use Rattle.sequential_signer.specs.declared.event.Answer.TheVariants.{Found, Missing, Failed}
+use Rattle.sequential_signer.specs.declared.grant_event.GrantEvent.{GrantEvent}
 use Rattle.sequential_signer.specs.declared.grant_event.GrantEvent.TheVariants.{Poll, Provided, Granted}
 use Rattle.sequential_signer.specs.declared.grant_event.GrantReply.{GrantReply}
 use Rattle.sequential_signer.specs.declared.grant_event.GrantReply.TheVariants as reply
@@ -11,14 +12,15 @@ use Rattle.sequential_signer.specs.declared.grant_event.GrantWhy.{GrantWhy}
 use Rattle.sequential_signer.specs.declared.grant_event.GrantWhy.TheVariants as why
 use Rattle.sequential_signer.specs.declared.grant_event.Made.TheVariants as made
 use Rattle.desk_parts.specs.CallAt.{IsAsking, IsSigning, LeavesOthers}
-use Rattle.desk_parts.specs.LoadAnswer.{IsLoadPending, KeepsLoad, IsLoadOpen}
+use Rattle.desk_parts.specs.LoadAnswer.{IsLoadPending, KeepsLoad, IsLoadOpen, LoadRunsOut}
 use Rattle.desk_parts.specs.declared.load_state.LoadState.{LoadState}
 use Rattle.desk_parts.specs.declared.load_state.LoadState.TheVariants as load
-use Rattle.grant_desk.specs.GrantSteps.{IsGrantStep}
+use Rattle.desk_parts.specs.Memory.{ClonesAreFree}
+use Rattle.grant_desk.specs.GrantSteps.{IsGrantStep, RunsOutAtBegins}
 use Rattle.granter.specs.CallStep.{IsUnpolled, AfterPoll, AfterFound, AfterNone, AfterMade, is_of_look, is_of_check}
 use Rattle.granter.specs.Course.{PolledCall, Pends, Gives, Refuses, RunsOut, IsAnswerGiven, IsMadeGiven, IsRefusal}
 use Rattle.granter.specs.MadeBy.{IsLoadMade, IsWorkMade}
-use Rattle.granter.specs.ObjectAnswer.{IsWorkPending, KeepsWork, IsWorkOpen}
+use Rattle.granter.specs.ObjectAnswer.{IsWorkPending, KeepsWork, IsWorkOpen, WorkRunsOut}
 use Rattle.granter.specs.PollStep.{StepChange, IsTaken, Ends}
 use Rattle.granter.specs.StepReply.{plain_refusal, went_after_poll, went_after_found, went_after_none, went_after_made}
 use Rattle.granter.specs.declared.grant.CallState.TheVariants.{Waiting, Loading, Granting}
@@ -27,18 +29,6 @@ use Rattle.granter.specs.declared.grant.WorkState.TheVariants as work
 use Rattle.granter.specs.declared.refusal.GrantRefusal.TheVariants as refusal
 use Rattle.granter.specs.declared.went.StepEnd.TheVariants as end
 use Rattle.granter.proofs.PollSteps.{ends-without, ends-by}
-
--- where the load is pending it is kept
-keeps-pending : {K L : Type 0} (started ready : L → Type 0) (l : LoadState K L) (x : L) → IsLoadPending started ready l → KeepsLoad l (load.Started x)
-keeps-pending started ready load.Unstarted x pending = tt
-keeps-pending started ready (load.Started y) x pending = tt
-keeps-pending started ready (load.Found source) x pending = absurd pending
-
--- where the work is pending it is kept
-keeps-pending-work : {K W : Type 0} (started ready : W → Type 0) (w : WorkState K W) (x : W) → IsWorkPending started ready w → KeepsWork w (work.Started x)
-keeps-pending-work started ready work.Unstarted x pending = tt
-keeps-pending-work started ready (work.Started y) x pending = tt
-keeps-pending-work started ready (work.Made credential) x pending = absurd pending
 
 module _ {K L : Type 0} (gives : Polled (Option K) → Type 0) where
   found-given : (l : LoadState K L) (found : K) → gives (polled.Ready (Some found)) → KeepsLoad l (load.Found found) → IsAnswerGiven gives l (Found found)
@@ -68,6 +58,10 @@ module _ {K W : Type 0} (gives : Polled K → Type 0) where
   unmade-given (work.Made kept) n e h unanswered = absurd unanswered
 
 module _ {K D L W : Type 0} (v : PolledCall K D L W) (change : StepChange K D) where
+  -- memory runs out by a clone of a credential that may take some
+  abbrev pub HasCause : GrantEvent K → GrantReply K → Type 0
+  HasCause event answered = ClonesAreFree v.clones_freely → RunsOutAtBegins event answered
+
   refuses-look : (cause : GrantWhy) → IsTrue (is_of_look cause) → IsRefusal v.meaning Waiting cause (plain_refusal cause)
   refuses-look why.Missing h = tt
   refuses-look why.Range h = tt
@@ -77,10 +71,10 @@ module _ {K D L W : Type 0} (v : PolledCall K D L W) (change : StepChange K D) w
   refuses-look (why.Stale moment) h = absurd (cc)
 
   pub poll-taken : (answered : GrantReply K) → IsUnpolled v.begun change.old → IsGrantStep v.policy (Poll v.begun.id v.now) change.old answered change.new
-      → AfterPoll v.begun answered change.new → LeavesOthers v.begun.id change.old change.new → IsTaken v Waiting change (went_after_poll answered)
-  poll-taken reply.OutOfMemory unpolled step after others =
-      ends-without v Waiting change.old change (end.OutOfMemory Waiting) RunsOut refl step.unchanged tt tt unpolled tt
-  poll-taken (reply.Ask provider) unpolled step after others = record {
+      → HasCause (Poll v.begun.id v.now) answered → AfterPoll v.begun answered change.new → LeavesOthers v.begun.id change.old change.new → IsTaken v Waiting change (went_after_poll answered)
+  poll-taken reply.OutOfMemory unpolled step memory after others =
+      ends-by v Waiting change (Poll v.begun.id v.now) reply.OutOfMemory (end.OutOfMemory Waiting) (RunsOut Waiting) (refl, refl) step memory tt refl after others
+  poll-taken (reply.Ask provider) unpolled step memory after others = record {
     event = Poll v.begun.id v.now;
     answered = reply.Ask provider;
     given = (refl, refl);
@@ -90,7 +84,7 @@ module _ {K D L W : Type 0} (v : PolledCall K D L W) (change : StepChange K D) w
     made = (after.1, tt);
     others = others;
   }
-  poll-taken (reply.Grant source) unpolled step after others = record {
+  poll-taken (reply.Grant source) unpolled step memory after others = record {
     event = Poll v.begun.id v.now;
     answered = reply.Grant source;
     given = (refl, refl);
@@ -100,14 +94,14 @@ module _ {K D L W : Type 0} (v : PolledCall K D L W) (change : StepChange K D) w
     made = (after, tt);
     others = others;
   }
-  poll-taken (reply.Refused cause) unpolled step after others =
-      ends-by v Waiting change (Poll v.begun.id v.now) (reply.Refused cause) (end.Refused (plain_refusal cause)) (Refuses (plain_refusal cause)) (refl, refl) step
-      (refuses-look cause after) refl tt tt others
-  poll-taken reply.Begun unpolled step after others = absurd after
-  poll-taken reply.Pending unpolled step after others = absurd after
-  poll-taken reply.NotNow unpolled step after others = absurd after
-  poll-taken (reply.Given credential) unpolled step after others = absurd after
-  poll-taken reply.Cancelled unpolled step after others = absurd after
+  poll-taken (reply.Refused cause) unpolled step memory after others =
+      ends-by v Waiting change (Poll v.begun.id v.now) (reply.Refused cause) (end.Refused (plain_refusal cause)) (Refuses (plain_refusal cause)) (refl, refl) step memory
+      (refuses-look cause after) refl tt others
+  poll-taken reply.Begun unpolled step memory after others = absurd after
+  poll-taken reply.Pending unpolled step memory after others = absurd after
+  poll-taken reply.NotNow unpolled step memory after others = absurd after
+  poll-taken (reply.Given credential) unpolled step memory after others = absurd after
+  poll-taken reply.Cancelled unpolled step memory after others = absurd after
 
   module _ (provider : ℕ) (l : LoadState K L) where
     refuses-check : (cause : GrantWhy) → IsTrue (is_of_check cause) → IsRefusal v.meaning (Loading provider l) cause (plain_refusal cause)
@@ -122,17 +116,18 @@ module _ {K D L W : Type 0} (v : PolledCall K D L W) (change : StepChange K D) w
         → IsLoadPending (v.meaning.load_started provider) (v.meaning.load_ready provider) l
         → Ends v (Loading provider l) change (end.Pending (Loading provider (load.Started started)))
     load-pending started still asking made pending =
-        ends-without v (Loading provider l) change.old change (end.Pending (Loading provider (load.Started started))) Pends refl still pending tt (asking, made) (refl, keeps-pending (v.meaning.load_started provider) (v.meaning.load_ready provider) l started pending)
+        ends-without v (Loading provider l) change.old change (end.Pending (Loading provider (load.Started started))) (Pends (Loading provider (load.Started started))) refl still (refl, pending) refl (asking, made)
 
-    pub load-without-memory : (kept : LoadState K L) → change.new ≡ change.old → IsAsking v.begun provider change.old → IsLoadMade v.meaning provider kept → KeepsLoad l kept
+    pub load-without-memory : (kept : LoadState K L) → change.new ≡ change.old → IsAsking v.begun provider change.old → IsLoadMade v.meaning provider kept → LoadRunsOut (v.meaning.load_gives provider) l kept
         → Ends v (Loading provider l) change (end.OutOfMemory (Loading provider kept))
-    load-without-memory kept still asking made keeps =
-        ends-without v (Loading provider l) change.old change (end.OutOfMemory (Loading provider kept)) RunsOut refl still tt tt (asking, made) (refl, keeps)
+    load-without-memory kept still asking made left =
+        ends-without v (Loading provider l) change.old change (end.OutOfMemory (Loading provider kept)) (RunsOut (Loading provider kept)) refl still (refl, left) refl (asking, made)
 
     pub found-taken : (found : K) (answered : GrantReply K) → IsAsking v.begun provider change.old → v.meaning.load_gives provider (polled.Ready (Some found)) → KeepsLoad l (load.Found found)
-        → IsGrantStep v.policy (Provided v.begun.id v.now (Found found)) change.old answered change.new → AfterFound v.begun provider answered change.new
+        → IsGrantStep v.policy (Provided v.begun.id v.now (Found found)) change.old answered change.new
+        → HasCause (Provided v.begun.id v.now (Found found)) answered → AfterFound v.begun provider answered change.new
         → LeavesOthers v.begun.id change.old change.new → IsTaken v (Loading provider l) change (went_after_found provider found answered)
-    found-taken found (reply.Grant source) asking gives keeps step after others = record {
+    found-taken found (reply.Grant source) asking gives keeps step memory after others = record {
       event = Provided v.begun.id v.now (Found found);
       answered = reply.Grant source;
       given = (refl, refl, found-given (v.meaning.load_gives provider) l found gives keeps);
@@ -142,17 +137,18 @@ module _ {K D L W : Type 0} (v : PolledCall K D L W) (change : StepChange K D) w
       made = (after, tt);
       others = others;
     }
-    found-taken found (reply.Refused cause) asking gives keeps step after others =
+    found-taken found (reply.Refused cause) asking gives keeps step memory after others =
         ends-by v (Loading provider l) change (Provided v.begun.id v.now (Found found)) (reply.Refused cause) (end.Refused (plain_refusal cause)) (Refuses (plain_refusal cause))
-        (refl, refl, found-given (v.meaning.load_gives provider) l found gives keeps) step (refuses-check cause after) refl tt tt others
-    found-taken found reply.OutOfMemory asking gives keeps step after others =
-        ends-without v (Loading provider l) change.old change (end.OutOfMemory (Loading provider (load.Found found))) RunsOut refl step.unchanged tt tt (asking, gives) (refl, keeps)
-    found-taken found reply.Begun asking gives keeps step after others = absurd after
-    found-taken found reply.Pending asking gives keeps step after others = absurd after
-    found-taken found reply.NotNow asking gives keeps step after others = absurd after
-    found-taken found (reply.Ask next) asking gives keeps step after others = absurd after
-    found-taken found (reply.Given credential) asking gives keeps step after others = absurd after
-    found-taken found reply.Cancelled asking gives keeps step after others = absurd after
+        (refl, refl, found-given (v.meaning.load_gives provider) l found gives keeps) step memory (refuses-check cause after) refl tt others
+    found-taken found reply.OutOfMemory asking gives keeps step memory after others =
+        ends-by v (Loading provider l) change (Provided v.begun.id v.now (Found found)) reply.OutOfMemory (end.OutOfMemory (Loading provider (load.Found found)))
+        (RunsOut (Loading provider (load.Found found))) (refl, refl, found-given (v.meaning.load_gives provider) l found gives keeps) step memory refl refl (after, gives) others
+    found-taken found reply.Begun asking gives keeps step memory after others = absurd after
+    found-taken found reply.Pending asking gives keeps step memory after others = absurd after
+    found-taken found reply.NotNow asking gives keeps step memory after others = absurd after
+    found-taken found (reply.Ask next) asking gives keeps step memory after others = absurd after
+    found-taken found (reply.Given credential) asking gives keeps step memory after others = absurd after
+    found-taken found reply.Cancelled asking gives keeps step memory after others = absurd after
 
     pub missing-taken : (answered : GrantReply K) → v.meaning.load_gives provider (polled.Ready None) → IsLoadOpen l
         → IsGrantStep v.policy (Provided v.begun.id v.now Missing) change.old answered change.new → AfterNone v.begun provider why.Missing answered change.new
@@ -169,7 +165,7 @@ module _ {K D L W : Type 0} (v : PolledCall K D L W) (change : StepChange K D) w
     }
     missing-taken (reply.Refused why.Missing) gives unanswered step after others =
         ends-by v (Loading provider l) change (Provided v.begun.id v.now Missing) (reply.Refused why.Missing) (end.Refused refusal.Missing) (Refuses refusal.Missing)
-        (refl, refl, missing-given (v.meaning.load_gives provider) l gives unanswered) step tt refl tt tt others
+        (refl, refl, missing-given (v.meaning.load_gives provider) l gives unanswered) step (λ free out. absurd (cc)) tt refl tt others
     missing-taken (reply.Refused (why.Short d)) gives unanswered step after others = absurd (cc)
     missing-taken (reply.Refused why.Range) gives unanswered step after others = absurd (cc)
     missing-taken (reply.Refused (why.Loader n)) gives unanswered step after others = absurd (cc)
@@ -198,10 +194,10 @@ module _ {K D L W : Type 0} (v : PolledCall K D L W) (change : StepChange K D) w
     }
     failed-taken n e (reply.Refused why.Missing) gives unanswered step after others =
         ends-by v (Loading provider l) change (Provided v.begun.id v.now (Failed n)) (reply.Refused why.Missing) (end.Refused refusal.Missing) (Refuses refusal.Missing)
-        (refl, refl, failed-given (v.meaning.load_gives provider) l n e gives unanswered) step tt refl tt tt others
+        (refl, refl, failed-given (v.meaning.load_gives provider) l n e gives unanswered) step (λ free out. absurd (cc)) tt refl tt others
     failed-taken n e (reply.Refused (why.Loader m)) gives unanswered step after others =
         ends-by v (Loading provider l) change (Provided v.begun.id v.now (Failed n)) (reply.Refused (why.Loader m)) (end.Refused (refusal.Loader e)) (Refuses (refusal.Loader e))
-        (refl, refl, failed-given (v.meaning.load_gives provider) l n e gives unanswered) step gives refl tt tt others
+        (refl, refl, failed-given (v.meaning.load_gives provider) l n e gives unanswered) step (λ free out. absurd (cc)) gives refl tt others
     failed-taken n e (reply.Refused (why.Short d)) gives unanswered step after others = absurd (cc)
     failed-taken n e (reply.Refused why.Range) gives unanswered step after others = absurd (cc)
     failed-taken n e (reply.Refused (why.Service m)) gives unanswered step after others = absurd (cc)
@@ -219,39 +215,41 @@ module _ {K D L W : Type 0} (v : PolledCall K D L W) (change : StepChange K D) w
         → v.meaning.work_started source started → IsWorkPending (v.meaning.work_started source) v.meaning.work_ready w
         → Ends v (Granting source w) change (end.Pending (Granting source (work.Started started)))
     work-pending started still granting made pending =
-        ends-without v (Granting source w) change.old change (end.Pending (Granting source (work.Started started))) Pends refl still pending tt (granting, made) (refl, keeps-pending-work (v.meaning.work_started source) v.meaning.work_ready w started pending)
+        ends-without v (Granting source w) change.old change (end.Pending (Granting source (work.Started started))) (Pends (Granting source (work.Started started))) refl still (refl, pending) refl (granting, made)
 
-    pub work-without-memory : (kept : WorkState K W) → change.new ≡ change.old → IsSigning v.begun change.old → IsWorkMade v.meaning source kept → KeepsWork w kept
+    pub work-without-memory : (kept : WorkState K W) → change.new ≡ change.old → IsSigning v.begun change.old → IsWorkMade v.meaning source kept → WorkRunsOut (v.meaning.work_gives source) w kept
         → Ends v (Granting source w) change (end.OutOfMemory (Granting source kept))
-    work-without-memory kept still granting made keeps =
-        ends-without v (Granting source w) change.old change (end.OutOfMemory (Granting source kept)) RunsOut refl still tt tt (granting, made) (refl, keeps)
+    work-without-memory kept still granting made left =
+        ends-without v (Granting source w) change.old change (end.OutOfMemory (Granting source kept)) (RunsOut (Granting source kept)) refl still (refl, left) refl (granting, made)
 
     pub unmade-taken : (n : ℕ) (e : ErrorParts) → v.meaning.work_gives source (polled.Failed e) → IsWorkOpen w
         → IsGrantStep v.policy (Granted v.begun.id v.now (made.Failed n)) change.old (reply.Refused (why.Service n)) change.new → LeavesOthers v.begun.id change.old change.new
         → Ends v (Granting source w) change (end.Refused (refusal.Service e))
     unmade-taken n e gives unanswered step others =
         ends-by v (Granting source w) change (Granted v.begun.id v.now (made.Failed n)) (reply.Refused (why.Service n)) (end.Refused (refusal.Service e)) (Refuses (refusal.Service e))
-        (refl, refl, unmade-given (v.meaning.work_gives source) w n e gives unanswered) step (gives, unanswered) refl tt tt others
+        (refl, refl, unmade-given (v.meaning.work_gives source) w n e gives unanswered) step (λ free out. absurd (cc)) (gives, unanswered) refl tt others
 
     pub made-taken : (credential : K) (answered : GrantReply K) → IsSigning v.begun change.old → v.meaning.work_gives source (polled.Ready credential) → KeepsWork w (work.Made credential)
-        → IsGrantStep v.policy (Granted v.begun.id v.now (made.Made credential)) change.old answered change.new → AfterMade v.begun v.now credential answered change.new
+        → IsGrantStep v.policy (Granted v.begun.id v.now (made.Made credential)) change.old answered change.new
+        → HasCause (Granted v.begun.id v.now (made.Made credential)) answered → AfterMade v.begun v.now credential answered change.new
         → LeavesOthers v.begun.id change.old change.new → IsTaken v (Granting source w) change (went_after_made source credential answered)
-    made-taken credential (reply.Given handed) granting gives keeps step after others =
+    made-taken credential (reply.Given handed) granting gives keeps step memory after others =
         ends-by v (Granting source w) change (Granted v.begun.id v.now (made.Made credential)) (reply.Given handed) (end.Given handed) (Gives credential)
-        (refl, refl, made-given (v.meaning.work_gives source) w credential gives keeps) step (after, refl) after tt tt others
-    made-taken credential (reply.Refused (why.Stale moment)) granting gives keeps step after others =
+        (refl, refl, made-given (v.meaning.work_gives source) w credential gives keeps) step memory (after, refl) after tt others
+    made-taken credential (reply.Refused (why.Stale moment)) granting gives keeps step memory after others =
         ends-by v (Granting source w) change (Granted v.begun.id v.now (made.Made credential)) (reply.Refused (why.Stale moment)) (end.Refused (refusal.Stale moment)) (Refuses (refusal.Stale moment))
-        (refl, refl, made-given (v.meaning.work_gives source) w credential gives keeps) step refl refl tt tt others
-    made-taken credential reply.OutOfMemory granting gives keeps step after others =
-        ends-without v (Granting source w) change.old change (end.OutOfMemory (Granting source (work.Made credential))) RunsOut refl step.unchanged tt tt (granting, gives) (refl, keeps)
-    made-taken credential (reply.Refused why.Missing) granting gives keeps step after others = absurd (cc)
-    made-taken credential (reply.Refused (why.Short d)) granting gives keeps step after others = absurd (cc)
-    made-taken credential (reply.Refused why.Range) granting gives keeps step after others = absurd (cc)
-    made-taken credential (reply.Refused (why.Loader n)) granting gives keeps step after others = absurd (cc)
-    made-taken credential (reply.Refused (why.Service n)) granting gives keeps step after others = absurd (cc)
-    made-taken credential reply.Begun granting gives keeps step after others = absurd after
-    made-taken credential reply.Pending granting gives keeps step after others = absurd after
-    made-taken credential reply.NotNow granting gives keeps step after others = absurd after
-    made-taken credential (reply.Ask next) granting gives keeps step after others = absurd after
-    made-taken credential (reply.Grant s) granting gives keeps step after others = absurd after
-    made-taken credential reply.Cancelled granting gives keeps step after others = absurd after
+        (refl, refl, made-given (v.meaning.work_gives source) w credential gives keeps) step memory refl refl tt others
+    made-taken credential reply.OutOfMemory granting gives keeps step memory after others =
+        ends-by v (Granting source w) change (Granted v.begun.id v.now (made.Made credential)) reply.OutOfMemory (end.OutOfMemory (Granting source (work.Made credential)))
+        (RunsOut (Granting source (work.Made credential))) (refl, refl, made-given (v.meaning.work_gives source) w credential gives keeps) step memory refl refl (after, gives) others
+    made-taken credential (reply.Refused why.Missing) granting gives keeps step memory after others = absurd (cc)
+    made-taken credential (reply.Refused (why.Short d)) granting gives keeps step memory after others = absurd (cc)
+    made-taken credential (reply.Refused why.Range) granting gives keeps step memory after others = absurd (cc)
+    made-taken credential (reply.Refused (why.Loader n)) granting gives keeps step memory after others = absurd (cc)
+    made-taken credential (reply.Refused (why.Service n)) granting gives keeps step memory after others = absurd (cc)
+    made-taken credential reply.Begun granting gives keeps step memory after others = absurd after
+    made-taken credential reply.Pending granting gives keeps step memory after others = absurd after
+    made-taken credential reply.NotNow granting gives keeps step memory after others = absurd after
+    made-taken credential (reply.Ask next) granting gives keeps step memory after others = absurd after
+    made-taken credential (reply.Grant s) granting gives keeps step memory after others = absurd after
+    made-taken credential reply.Cancelled granting gives keeps step memory after others = absurd after

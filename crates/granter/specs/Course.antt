@@ -1,6 +1,5 @@
 -- What a poll of a granter does: events of its desk, one after another, by what the objects answer.
 use Rattle.std.specs.Prelude.{◌≡◌, ℤ, List, [], ◌∷◌, ◌++◌, Option, Some, None}
-use Rattle.std.specs.Option.{unwrap_or}
 use Rattle.sign_base.specs.Error.{ErrorParts}
 use Rattle.credentials.specs.declared.polled.Polled.{Polled}
 use Rattle.credentials.specs.declared.polled.Polled.TheVariants as polled
@@ -17,14 +16,15 @@ use Rattle.sequential_signer.specs.declared.grant_event.GrantWhy.TheVariants as 
 use Rattle.sequential_signer.specs.declared.grant_event.Made.{Made}
 use Rattle.sequential_signer.specs.declared.grant_event.Made.TheVariants as made
 use Rattle.desk_parts.specs.CallAt.{LeavesOthers}
-use Rattle.desk_parts.specs.LoadAnswer.{IsLoadPending, KeepsLoad}
+use Rattle.desk_parts.specs.LoadAnswer.{IsLoadPending, LoadRunsOut}
 use Rattle.desk_parts.specs.declared.load_state.LoadState.{LoadState}
 use Rattle.desk_parts.specs.declared.load_state.LoadState.TheVariants as load
 use Rattle.grant_desk.specs.GrantDeskState.{GrantState, GrantRepresents}
-use Rattle.grant_desk.specs.GrantSteps.{IsGrantStep}
+use Rattle.desk_parts.specs.Memory.{ClonesAreFree}
+use Rattle.grant_desk.specs.GrantSteps.{IsGrantStep, RunsOutAtBegins}
 use Rattle.granter.specs.GranterObjects.{Meanings, Objects, CallMeaning, call_meaning}
 use Rattle.granter.specs.MadeBy.{IsStateMade}
-use Rattle.granter.specs.ObjectAnswer.{IsWorkPending, KeepsWork, IsWorkOpen}
+use Rattle.granter.specs.ObjectAnswer.{IsWorkPending, IsWorkOpen, WorkRunsOut}
 use Rattle.granter.specs.ObjectPoll.{BegunCall}
 use Rattle.granter.specs.declared.grant.CallState.{CallState}
 use Rattle.granter.specs.declared.grant.CallState.TheVariants.{Waiting, Loading, Granting}
@@ -36,24 +36,26 @@ use Rattle.granter.specs.declared.refusal.GrantRefusal.{GrantRefusal}
 use Rattle.granter.specs.declared.refusal.GrantRefusal.TheVariants as refusal
 
 -- how a poll ends
-pub data PollEnd (K : Type 0) : Type 0 where
-  -- an object that was asked is not ready
-  Pends : PollEnd K
+pub data PollEnd (K L W : Type 0) : Type 0 where
+  -- an object that was asked is not ready, and the call is here
+  Pends : CallState K L W → PollEnd K L W
   -- this credential was granted
-  Gives : K → PollEnd K
+  Gives : K → PollEnd K L W
   -- the call is refused
-  Refuses : GrantRefusal → PollEnd K
-  -- an allocation failed
-  RunsOut : PollEnd K
+  Refuses : GrantRefusal → PollEnd K L W
+  -- an allocation failed, and the call is here
+  RunsOut : CallState K L W → PollEnd K L W
 
 -- the events of a poll with their replies, and its end
-pub record PollRun (K : Type 0) : Type 0 where
+pub record PollRun (K L W : Type 0) : Type 0 where
   pub entries : List (GrantEntry K)
-  pub end : PollEnd K
+  pub end : PollEnd K L W
 
--- a call that is polled: what its objects mean, what it was begun with, and the moment of the poll
+-- a call that is polled: which credentials' clones take no memory, what its objects mean, what it was begun with, and the moment of
+-- the poll
 pub record PolledCall (K D L W : Type 0) : Type 1 where
   pub policy : Policy K D
+  pub clones_freely : K → Type 0
   pub meaning : CallMeaning K L W
   pub begun : BegunCall
   pub now : ℤ
@@ -78,18 +80,6 @@ module _ {K L W : Type 0} where
   state_after (reply.Grant source) = Some (Granting source work.Unstarted)
   state_after _ = None
 
-  -- where a call is behind these replies
-  abbrev pub state_behind : CallState K L W → List (GrantEntry K) → CallState K L W
-  state_behind state [] = state
-  state_behind state (e ∷ rest) = state_behind (unwrap_or (state_after e.reply) state) rest
-
-  -- the call is where it was, and nothing of its load or work was dropped
-  abbrev pub KeepsState : CallState K L W → CallState K L W → Type 0
-  KeepsState Waiting Waiting = Unit {0}
-  KeepsState (Loading provider l) (Loading same kept) = (same ≡ provider) × KeepsLoad l kept
-  KeepsState (Granting source w) (Granting same kept) = (same ≡ source) × KeepsWork w kept
-  KeepsState state kept = ⊥
-
   -- the refusal of a granter is that of its desk, with the error of the object
   abbrev pub IsRefusal : CallMeaning K L W → CallState K L W → GrantWhy → GrantRefusal → Type 0
   IsRefusal m state why.Missing refusal.Missing = Unit {0}
@@ -100,17 +90,21 @@ module _ {K L W : Type 0} where
   IsRefusal m state (why.Stale checked) (refusal.Stale moment) = moment ≡ checked
   IsRefusal m state cause refused = ⊥
 
-  -- the poll ends by this reply
-  abbrev pub EndsBy : CallMeaning K L W → CallState K L W → GrantEvent K → GrantReply K → PollEnd K → Type 0
+  -- the poll ends by this reply; where the desk had no memory, the call has the very answer that the desk was given
+  abbrev pub EndsBy : CallMeaning K L W → CallState K L W → GrantEvent K → GrantReply K → PollEnd K L W → Type 0
+  EndsBy m Waiting event reply.OutOfMemory (RunsOut Waiting) = Unit {0}
+  EndsBy m (Loading provider l) (Provided call now (Found source)) reply.OutOfMemory (RunsOut left) = left ≡ Loading provider (load.Found source)
+  EndsBy m (Granting source w) (Granted call now (made.Made credential)) reply.OutOfMemory (RunsOut left) = left ≡ Granting source (work.Made credential)
   EndsBy m state (Granted call now (made.Made credential)) (reply.Given handed) (Gives given) = (handed ≡ credential) × (given ≡ credential)
   EndsBy m state event (reply.Refused cause) (Refuses refused) = IsRefusal m state cause refused
   EndsBy m state event answered end = ⊥
 
-  -- the poll ends without an event: an allocation failed, or the object that is asked is not ready
-  abbrev pub StopsAt : CallMeaning K L W → CallState K L W → PollEnd K → Type 0
-  StopsAt m state RunsOut = Unit {0}
-  StopsAt m (Loading provider l) Pends = IsLoadPending (m.load_started provider) (m.load_ready provider) l
-  StopsAt m (Granting source w) Pends = IsWorkPending (m.work_started source) m.work_ready w
+  -- the poll ends without an event: the object that is asked is not ready, or has no memory
+  abbrev pub StopsAt : CallMeaning K L W → CallState K L W → PollEnd K L W → Type 0
+  StopsAt m (Loading provider l) (Pends (Loading same (load.Started left))) = (same ≡ provider) × IsLoadPending (m.load_started provider) (m.load_ready provider) l
+  StopsAt m (Loading provider l) (RunsOut (Loading same left)) = (same ≡ provider) × LoadRunsOut (m.load_gives provider) l left
+  StopsAt m (Granting source w) (Pends (Granting same (work.Started left))) = (same ≡ source) × IsWorkPending (m.work_started source) m.work_ready w
+  StopsAt m (Granting source w) (RunsOut (Granting same left)) = (same ≡ source) × WorkRunsOut (m.work_gives source) w left
   StopsAt m state end = ⊥
 
 module _ {K D L W : Type 0} (v : PolledCall K D L W) where
@@ -122,23 +116,24 @@ module _ {K D L W : Type 0} (v : PolledCall K D L W) where
   IsGiven state event = ⊥
 
   -- from a call in this state and this desk, the poll has this run, and leaves this desk
-  pub data IsCourse : CallState K L W → GrantState K D → PollRun K → GrantState K D → Type 0 where
-    stops : (state : CallState K L W) (desk : GrantState K D) (end : PollEnd K) → StopsAt v.meaning state end
+  pub data IsCourse : CallState K L W → GrantState K D → PollRun K L W → GrantState K D → Type 0 where
+    stops : (state : CallState K L W) (desk : GrantState K D) (end : PollEnd K L W) → StopsAt v.meaning state end
         → IsCourse state desk (record { entries = []; end = end }) desk
-    ends : (state : CallState K L W) (old new : GrantState K D) (event : GrantEvent K) (answered : GrantReply K) (end : PollEnd K)
-        → IsGiven state event → IsGrantStep v.policy event old answered new → EndsBy v.meaning state event answered end
+    ends : (state : CallState K L W) (old new : GrantState K D) (event : GrantEvent K) (answered : GrantReply K) (end : PollEnd K L W)
+        → IsGiven state event → IsGrantStep v.policy event old answered new → (ClonesAreFree v.clones_freely → RunsOutAtBegins event answered)
+        → EndsBy v.meaning state event answered end
         → IsCourse state old (record { entries = record { event = event; reply = answered } ∷ []; end = end }) new
-    goes_on : (state next : CallState K L W) (old between new : GrantState K D) (event : GrantEvent K) (answered : GrantReply K) (run : PollRun K)
+    goes_on : (state next : CallState K L W) (old between new : GrantState K D) (event : GrantEvent K) (answered : GrantReply K) (run : PollRun K L W)
         → IsGiven state event → IsGrantStep v.policy event old answered between → state_after answered ≡ Some next → IsCourse next between run new
         → IsCourse state old (record { entries = record { event = event; reply = answered } ∷ run.entries; end = run.end }) new
 
 module _ {P G K C L W : Type 0} where
   -- the answer is that of the end
-  abbrev pub IsEnd : GrantPoll P G K C L C W K → PollEnd K → Type 0
-  IsEnd (answer.Pending grant) Pends = Unit {0}
+  abbrev pub IsEnd : GrantPoll P G K C L C W K → PollEnd K L W → Type 0
+  IsEnd (answer.Pending grant) (Pends left) = grant.state ≡ left
   IsEnd (answer.Given credential) (Gives given) = credential ≡ given
   IsEnd (answer.Refused refused) (Refuses cause) = refused ≡ cause
-  IsEnd (answer.OutOfMemory grant) RunsOut = Unit {0}
+  IsEnd (answer.OutOfMemory grant) (RunsOut left) = grant.state ≡ left
   IsEnd given end = ⊥
 
   -- a state that is handed back is one that was made for the call
@@ -148,20 +143,12 @@ module _ {P G K C L W : Type 0} where
   IsAnswerMade m begun desk (answer.Given credential) = Unit {0}
   IsAnswerMade m begun desk (answer.Refused refused) = Unit {0}
 
-  -- a state that is handed back is where the call is, with all that was kept
-  abbrev pub IsAnswerKept : CallState K L W → GrantPoll P G K C L C W K → Type 0
-  IsAnswerKept state (answer.Pending grant) = KeepsState state grant.state
-  IsAnswerKept state (answer.OutOfMemory grant) = KeepsState state grant.state
-  IsAnswerKept state (answer.Given credential) = Unit {0}
-  IsAnswerKept state (answer.Refused refused) = Unit {0}
-
 -- a call in this state is driven by these events of the desk, and ends by them
 pub record IsDriven {P G K C D L W : Type 0} (v : PolledCall K D L W) (state : CallState K L W) (old new : GrantState K D) (poll : GrantPoll P G K C L C W K) : Type 0 where
-  pub run : PollRun K
+  pub run : PollRun K L W
   pub course : IsCourse v state old run new
   pub end : IsEnd poll run.end
   pub made : IsAnswerMade v.meaning v.begun new poll
-  pub kept : IsAnswerKept (state_behind state run.entries) poll
   pub others : LeavesOthers v.begun.id old new
 
 -- the poll of a call in this state: whatever transcript the desk represents, it then represents that with the events of the poll
@@ -170,5 +157,6 @@ pub record IsGrantPoll {P G K C D L W : Type 0} (v : PolledCall K D L W) (state 
   pub represents : (entries : List (GrantEntry K)) → GrantRepresents v.policy old entries → GrantRepresents v.policy new (entries ++ driven.run.entries)
 
 -- the call that is polled, with these objects
-abbrev pub polled_call : {P G K C L W : Type 0} → Policy K G → Meanings P G K C L W → Objects P G C → BegunCall → ℤ → PolledCall K G L W
-polled_call policy m objects begun now = record { policy = policy; meaning = call_meaning m begun objects; begun = begun; now = now }
+abbrev pub polled_call : {P G K C L W : Type 0} → Policy K G → (K → Type 0) → Meanings P G K C L W → Objects P G C → BegunCall → ℤ → PolledCall K G L W
+polled_call policy clones_freely m objects begun now =
+    record { policy = policy; clones_freely = clones_freely; meaning = call_meaning m begun objects; begun = begun; now = now }

@@ -15,6 +15,7 @@ use Rattle.granter.specs.declared.went.Went.{Went}
 -- what a poll of a call works with, beside the service, which is a rule of the desk
 pub record Driving (P G K C L W : Type 0) : Type 1 where
   pub policy : Policy K G
+  pub clones_freely : K → Type 0
   pub meanings : Meanings P G K C L W
   pub objects : CallObjects P C
   pub begun : BegunCall
@@ -23,7 +24,7 @@ pub record Driving (P G K C L W : Type 0) : Type 1 where
 module _ {P G K C L W : Type 0} (d : Driving P G K C L W) where
   -- the call with this service
   abbrev pub call_with : G → PolledCall K G L W
-  call_with service = polled_call d.policy d.meanings (with_service d.objects service) d.begun d.now
+  call_with service = polled_call d.policy d.clones_freely d.meanings (with_service d.objects service) d.begun d.now
 
   -- this service is the call's
   abbrev pub IsService : GrantState K G → G → Type 0

@@ -20,16 +20,21 @@ module _ {K W : Type 0} where
   IsWorkPending started ready (work_state.Started work) = ¬ (ready work)
   IsWorkPending started ready (work_state.Made credential) = ⊥
 
-  -- what is kept of a work afterwards: a credential that was made stays, and a work that was started is not started again
+  -- what is kept of a work afterwards: a credential that was made stays
   abbrev pub KeepsWork : WorkState K W → WorkState K W → Type 0
   KeepsWork (work_state.Made credential) kept = kept ≡ work_state.Made credential
-  KeepsWork (work_state.Started work) work_state.Unstarted = ⊥
   KeepsWork before kept = Unit {0}
 
   -- no answer of the work is kept
   abbrev pub IsWorkOpen : WorkState K W → Type 0
   IsWorkOpen (work_state.Made credential) = ⊥
   IsWorkOpen w = Unit {0}
+
+  -- what is left of a work for which its service had no memory: it is not started yet, or it was polled
+  abbrev pub WorkRunsOut : (Polled K → Type 0) → WorkState K W → WorkState K W → Type 0
+  WorkRunsOut gives before work_state.Unstarted = (before ≡ work_state.Unstarted) × gives polled.OutOfMemory
+  WorkRunsOut gives before (work_state.Started work) = IsWorkOpen before × gives polled.OutOfMemory
+  WorkRunsOut gives before (work_state.Made credential) = ⊥
 
 -- what a granting service means for an operation
 pub record ServiceMeaning (K W : Type 0) : Type 1 where
@@ -40,6 +45,6 @@ pub record ServiceMeaning (K W : Type 0) : Type 1 where
 -- what the service answered to a poll of what was kept of the work
 abbrev pub IsWorkAnswer : {K W : Type 0} → ServiceMeaning K W → WorkState K W → WorkAnswer K W → Type 0
 IsWorkAnswer m before (Pending work) = m.started work × IsWorkPending m.started m.ready before
-IsWorkAnswer m before (OutOfMemory kept) = IsWorkKept m.started m.gives kept × KeepsWork before kept
+IsWorkAnswer m before (OutOfMemory kept) = IsWorkKept m.started m.gives kept × WorkRunsOut m.gives before kept
 IsWorkAnswer m before (Made credential) = m.gives (polled.Ready credential) × KeepsWork before (work_state.Made credential)
 IsWorkAnswer m before (Failed e) = m.gives (polled.Failed e) × IsWorkOpen before

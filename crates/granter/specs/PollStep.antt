@@ -5,7 +5,7 @@ use Rattle.sequential_signer.specs.declared.grant_event.GrantReply.{GrantReply}
 use Rattle.desk_parts.specs.CallAt.{LeavesOthers}
 use Rattle.grant_desk.specs.GrantDeskState.{GrantState}
 use Rattle.grant_desk.specs.GrantSteps.{IsGrantStep}
-use Rattle.granter.specs.Course.{PollEnd, Pends, Gives, Refuses, RunsOut, PollRun, PolledCall, IsGiven, IsCourse, state_after, state_behind, KeepsState}
+use Rattle.granter.specs.Course.{PollEnd, Pends, Gives, Refuses, RunsOut, PollRun, PolledCall, IsGiven, IsCourse, state_after}
 use Rattle.granter.specs.MadeBy.{IsStateMade}
 use Rattle.granter.specs.ObjectPoll.{BegunCall}
 use Rattle.granter.specs.declared.grant.CallState.{CallState}
@@ -38,19 +38,12 @@ module _ {K L W : Type 0} where
   answer_by begun (Refused cause) = answer.Refused cause
   answer_by begun (OutOfMemory state) = answer.OutOfMemory (record { begun = begun; state = state })
 
-  -- a state that is handed back at the end is where the call is, with all that was kept
-  abbrev pub IsEndKept : CallState K L W → StepEnd K L W → Type 0
-  IsEndKept state (Pending kept) = KeepsState state kept
-  IsEndKept state (OutOfMemory kept) = KeepsState state kept
-  IsEndKept state (Given credential) = Unit {0}
-  IsEndKept state (Refused refused) = Unit {0}
-
   -- the step ends the poll so
-  abbrev pub IsStepEnd : StepEnd K L W → PollEnd K → Type 0
-  IsStepEnd (Pending state) Pends = Unit {0}
+  abbrev pub IsStepEnd : StepEnd K L W → PollEnd K L W → Type 0
+  IsStepEnd (Pending state) (Pends left) = state ≡ left
   IsStepEnd (Given credential) (Gives given) = credential ≡ given
   IsStepEnd (Refused refused) (Refuses cause) = refused ≡ cause
-  IsStepEnd (OutOfMemory state) RunsOut = Unit {0}
+  IsStepEnd (OutOfMemory state) (RunsOut left) = state ≡ left
   IsStepEnd end other = ⊥
 
 module _ {K D L W : Type 0} (v : PolledCall K D L W) where
@@ -74,11 +67,10 @@ module _ {K D L W : Type 0} (v : PolledCall K D L W) where
 
   -- the step is the last of the poll
   pub record Ends (state : CallState K L W) (change : StepChange K D) (end : StepEnd K L W) : Type 0 where
-    pub run : PollRun K
+    pub run : PollRun K L W
     pub course : IsCourse v state change.old run change.new
     pub ended : IsStepEnd end run.end
     pub made : IsEndMade change.new end
-    pub kept : IsEndKept (state_behind state run.entries) end
     pub others : LeavesOthers v.begun.id change.old change.new
 
   -- what the step of a call in this state came to

@@ -7,7 +7,8 @@ ghost use Rattle.sequential_signer.specs.declared.grant_event.GrantEvent.TheVari
 ghost use Rattle.sequential_signer.specs.declared.grant_event.GrantReply.TheVariants.{Begun, Cancelled, Refused};
 ghost use Rattle.sequential_signer.specs.declared.grant_event.GrantWhy.TheVariants as why;
 ghost use Rattle.sequential_signer.specs.declared.grant_event.Made.TheVariants as made;
-ghost use Rattle.grant_desk.specs.GrantSteps.{IsGrantStep};
+ghost use Rattle.desk_parts.specs.Memory.{ClonesAreFree};
+ghost use Rattle.grant_desk.specs.GrantSteps.{IsGrantStep, RunsOutAtBegins};
 ghost use Rattle.desk_parts.specs.CallAt.{IsLive, IsAsking, IsSigning, LeavesOthers};
 ghost use Rattle.granter.specs.CallStep.{IsUnpolled, IsBegun, AfterPoll, AfterFound, AfterNone, AfterMade, found_in_event, made_in_event};
 
@@ -65,6 +66,7 @@ pub(crate) fn poll_call<K: SigningCredential, D: DeadlineRule<Credential = K>>(
     requires there { IsSome (slice_get desk.old.handles begun.now.id.handle) }
     requires unpolled { IsUnpolled begun.now desk.old }
     ensures step { IsGrantStep (policy_of K.valid K.valid_at D.deadline) (Poll begun.now.id now) desk.old result desk.new }
+    ensures memory { ClonesAreFree K.clones_freely → RunsOutAtBegins (Poll begun.now.id now) result }
     ensures after { AfterPoll begun.now result desk.new }
     ensures others { LeavesOthers begun.now.id desk.old desk.new }
 {
@@ -87,6 +89,8 @@ pub(crate) fn give_found<K: SigningCredential, D: DeadlineRule<Credential = K>>(
     requires asking { IsAsking begun.now provider desk.old }
     ensures step { IsGrantStep (policy_of K.valid K.valid_at D.deadline)
         (Provided begun.now.id now (answer.Found source)) desk.old result.0 desk.new }
+    ensures memory { ClonesAreFree K.clones_freely
+        → RunsOutAtBegins (Provided begun.now.id now (answer.Found source)) result.0 }
     ensures after { AfterFound begun.now provider result.0 desk.new }
     ensures others { LeavesOthers begun.now.id desk.old desk.new }
     ensures back { result.1 ≡ source }
@@ -156,6 +160,8 @@ pub(crate) fn give_made<K: SigningCredential, D: DeadlineRule<Credential = K>>(
     requires granting { IsSigning begun.now desk.old }
     ensures step { IsGrantStep (policy_of K.valid K.valid_at D.deadline)
         (Granted begun.now.id now (made.Made credential)) desk.old result.0 desk.new }
+    ensures memory { ClonesAreFree K.clones_freely
+        → RunsOutAtBegins (Granted begun.now.id now (made.Made credential)) result.0 }
     ensures after { AfterMade begun.now now credential result.0 desk.new }
     ensures others { LeavesOthers begun.now.id desk.old desk.new }
     ensures back { result.1 ≡ credential }

@@ -32,6 +32,7 @@ where
     requires loads { loader_of desk.old grant.begun.id.handle ≡ Some (loader_for objects.now.providers.now) }
     requires made { IsMadeFor (record {
       policy = policy_of P.Credential.valid P.Credential.valid_at G.deadline;
+      clones_freely = P.Credential.clones_freely;
       meanings = meanings_of P.ProvideCredential G.GrantCredential.own;
       objects = objects.now;
       begun = grant.begun;
@@ -39,6 +40,7 @@ where
     }) desk.old grant.state }
     ensures { IsDrivenFrom (record {
       policy = policy_of P.Credential.valid P.Credential.valid_at G.deadline;
+      clones_freely = P.Credential.clones_freely;
       meanings = meanings_of P.ProvideCredential G.GrantCredential.own;
       objects = objects.now;
       begun = grant.begun;

@@ -283,7 +283,8 @@ where
     pub fn poll(&mut self, grant: Grant<P, G>, now: Timestamp) -> GrantPoll<P, G>
         requires { IsGrantMadeBy (meanings_of P.ProvideCredential G.GrantCredential.own) self.old grant }
         ensures poll { (o : Objects P G P.Ctx) → objects_of self.old grant.begun.id.handle ≡ Some o
-            → IsGrantPoll (polled_call (policy_of P.Credential.valid P.Credential.valid_at G.deadline) (meanings_of P.ProvideCredential G.GrantCredential.own) o grant.begun now) grant.state self.old.desk self.new.desk result }
+            → IsGrantPoll (polled_call (policy_of P.Credential.valid P.Credential.valid_at G.deadline) P.Credential.clones_freely
+            (meanings_of P.ProvideCredential G.GrantCredential.own) o grant.begun now) grant.state self.old.desk self.new.desk result }
         ensures made { IsAnswerMadeBy (meanings_of P.ProvideCredential G.GrantCredential.own) self.new grant.begun.id result }
         ensures same { self.new ≡ record self.old { desk = self.new.desk } }
         ensures others { KeepsOthers (meanings_of P.ProvideCredential G.GrantCredential.own) grant.begun.id (record { old = self.old; new = self.new }) }

@@ -36,6 +36,7 @@ where
     requires loads { loader_of desk.old begun.now.id.handle ≡ Some (loader_for objects.now.providers.now) }
     requires made { IsMadeFor (record {
       policy = policy_of P.Credential.valid P.Credential.valid_at G.deadline;
+      clones_freely = P.Credential.clones_freely;
       meanings = meanings_of P.ProvideCredential G.GrantCredential.own;
       objects = objects.now;
       begun = begun.now;
@@ -43,6 +44,7 @@ where
     }) desk.old state }
     ensures { IsStepTaken (record {
       policy = policy_of P.Credential.valid P.Credential.valid_at G.deadline;
+      clones_freely = P.Credential.clones_freely;
       meanings = meanings_of P.ProvideCredential G.GrantCredential.own;
       objects = objects.now;
       begun = begun.now;
@@ -78,6 +80,7 @@ where
     requires loads { loader_of desk.old begun.now.id.handle ≡ Some (loader_for objects.now.providers.now) }
     requires made { IsMadeFor (record {
       policy = policy_of P.Credential.valid P.Credential.valid_at G.deadline;
+      clones_freely = P.Credential.clones_freely;
       meanings = meanings_of P.ProvideCredential G.GrantCredential.own;
       objects = objects.now;
       begun = begun.now;
@@ -85,6 +88,7 @@ where
     }) desk.old (Loading provider load) }
     ensures { IsStepTaken (record {
       policy = policy_of P.Credential.valid P.Credential.valid_at G.deadline;
+      clones_freely = P.Credential.clones_freely;
       meanings = meanings_of P.ProvideCredential G.GrantCredential.own;
       objects = objects.now;
       begun = begun.now;
@@ -136,6 +140,7 @@ where
     requires there { IsSome (service_of desk.old begun.now.id.handle) }
     requires made { IsMadeFor (record {
       policy = policy_of P.Credential.valid P.Credential.valid_at G.deadline;
+      clones_freely = P.Credential.clones_freely;
       meanings = meanings_of P.ProvideCredential G.GrantCredential.own;
       objects = objects.now;
       begun = begun.now;
@@ -143,6 +148,7 @@ where
     }) desk.old (Granting source work) }
     ensures { IsStepTaken (record {
       policy = policy_of P.Credential.valid P.Credential.valid_at G.deadline;
+      clones_freely = P.Credential.clones_freely;
       meanings = meanings_of P.ProvideCredential G.GrantCredential.own;
       objects = objects.now;
       begun = begun.now;

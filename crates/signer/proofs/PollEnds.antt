@@ -11,8 +11,8 @@ use Rattle.desk_parts.specs.CallAt.{HasProvider, loader_of}
 use Rattle.signer.specs.MadeBy.{IsStateMade}
 use Rattle.desk_parts.specs.ProviderList.{loader_for}
 use Rattle.desk_parts.specs.ProviderList.{provider_at}
-use Rattle.signer.specs.Course.{PollEnd, Pends, Finishes, Refuses, RunsOut, PolledCall, IsDriven, IsEnd, IsAnswerMade, IsAnswerKept, state_behind}
-use Rattle.signer.specs.PollStep.{StepChange, ComesLater, IsStepEnd, IsEndMade, IsEndKept, answer_by}
+use Rattle.signer.specs.Course.{PollEnd, Pends, Finishes, Refuses, RunsOut, PolledCall, IsDriven, IsEnd, IsAnswerMade}
+use Rattle.signer.specs.PollStep.{StepChange, ComesLater, IsStepEnd, IsEndMade, answer_by}
 use Rattle.sign_desk.specs.Records.{BegunCall}
 use Rattle.signer.specs.declared.sign.SignState.{SignState}
 use Rattle.signer.specs.declared.sign.SignState.TheVariants.{Waiting, Loading, Signing}
@@ -22,23 +22,23 @@ use Rattle.desk_parts.proofs.ListPlaces.{place-there}
 use Rattle.signer.proofs.PollSteps.{CourseEnds}
 
 module _ (P S C : Type 0) {K L W : Type 0} (begun : BegunCall) where
-  end-answers : (end : StepEnd K L W) (by : PollEnd) (before after : Parts) → IsStepEnd end before after by → IsEnd (answer_by {P = P} {S = S} {C = C} begun end) before after by
-  end-answers (Pending state) Pends before after h = h
+  end-answers : (end : StepEnd K L W) (by : PollEnd K L W) (before after : Parts) → IsStepEnd end before after by → IsEnd (answer_by {P = P} {S = S} {C = C} begun end) before after by
+  end-answers (Pending state) (Pends left) before after h = h
   end-answers (Pending state) (Finishes head) before after h = absurd h
   end-answers (Pending state) (Refuses why) before after h = absurd h
-  end-answers (Pending state) RunsOut before after h = absurd h
-  end-answers Done Pends before after h = absurd h
+  end-answers (Pending state) (RunsOut left) before after h = absurd h
+  end-answers Done (Pends left) before after h = absurd h
   end-answers Done (Finishes head) before after h = h
   end-answers Done (Refuses why) before after h = absurd h
-  end-answers Done RunsOut before after h = absurd h
-  end-answers (Refused why) Pends before after h = absurd h
+  end-answers Done (RunsOut left) before after h = absurd h
+  end-answers (Refused why) (Pends left) before after h = absurd h
   end-answers (Refused why) (Finishes head) before after h = absurd h
   end-answers (Refused why) (Refuses cause) before after h = h
-  end-answers (Refused why) RunsOut before after h = absurd h
-  end-answers (OutOfMemory state) Pends before after h = absurd h
+  end-answers (Refused why) (RunsOut left) before after h = absurd h
+  end-answers (OutOfMemory state) (Pends left) before after h = absurd h
   end-answers (OutOfMemory state) (Finishes head) before after h = absurd h
   end-answers (OutOfMemory state) (Refuses why) before after h = absurd h
-  end-answers (OutOfMemory state) RunsOut before after h = h
+  end-answers (OutOfMemory state) (RunsOut left) before after h = h
 
 module _ (P S C : Type 0) {K D L W : Type 0} (v : PolledCall K D L W) where
   made-answers : (end : StepEnd K L W) (desk : DeskState K D) → IsEndMade v desk end → IsAnswerMade v.meaning v.begun desk (answer_by {P = P} {S = S} {C = C} v.begun end)
@@ -46,12 +46,6 @@ module _ (P S C : Type 0) {K D L W : Type 0} (v : PolledCall K D L W) where
   made-answers Done desk h = tt
   made-answers (Refused why) desk h = tt
   made-answers (OutOfMemory state) desk h = (refl, h)
-
-  kept-answers : (end : StepEnd K L W) (state : SignState K L W) → IsEndKept state end → IsAnswerKept state (answer_by {P = P} {S = S} {C = C} v.begun end)
-  kept-answers (Pending kept) state h = h
-  kept-answers Done state h = tt
-  kept-answers (Refused why) state h = tt
-  kept-answers (OutOfMemory kept) state h = h
 
   pub driven : (start : SignState K L W) (change : StepChange K D) (wake : Option CallId) (end : StepEnd K L W) → CourseEnds v start change wake end
       → IsDriven v start change.old change.new (record { poll = record { answer = answer_by {P = P} {S = S} {C = C} v.begun end; wake = wake }; before = change.before; after = change.after })
@@ -61,14 +55,13 @@ module _ (P S C : Type 0) {K D L W : Type 0} (v : PolledCall K D L W) where
     end = end-answers P S C v.begun end e.run.end change.before change.after e.ended;
     wake = e.named;
     made = made-answers end change.new e.made;
-    kept = kept-answers end (state_behind start e.run.entries) e.kept;
     others = e.others;
   }
 
 -- the most steps that a poll can still make, of a call whose cache is loaded so
 abbrev pub steps_left : {K L W : Type 0} → Loader → SignState K L W → ℕ
-steps_left loader Waiting = suc (suc (provider_count loader))
-steps_left loader (Loading provider l) = suc (provider_count loader - provider)
+steps_left loader (Waiting candidate) = suc (suc (provider_count loader))
+steps_left loader (Loading candidate provider l) = suc (provider_count loader - provider)
 steps_left loader (Signing credential w) = 0
 
 module _ {K D L W : Type 0} (v : PolledCall K D L W) (desk : DeskState K D) (loader : Loader) (loads : loader_of desk v.begun.id.handle ≡ Some loader) where
@@ -77,14 +70,14 @@ module _ {K D L W : Type 0} (v : PolledCall K D L W) (desk : DeskState K D) (loa
 
   -- each step leaves fewer
   pub fewer : (state next : SignState K L W) → IsStateMade v.meaning v.begun desk next → ComesLater state next → steps_left loader next < steps_left loader state
-  fewer Waiting Waiting new later = absurd later
-  fewer Waiting (Loading provider l) new later = omega arith
-  fewer Waiting (Signing credential w) new later = omega arith
-  fewer (Loading provider l) Waiting new later = absurd later
-  fewer (Loading provider l) (Loading next m) new later =
+  fewer (Waiting candidate) (Waiting copy) new later = absurd later
+  fewer (Waiting candidate) (Loading copy provider l) new later = omega arith
+  fewer (Waiting candidate) (Signing credential w) new later = omega arith
+  fewer (Loading candidate provider l) (Waiting copy) new later = absurd later
+  fewer (Loading candidate provider l) (Loading copy next m) new later =
       let h : next < provider_count loader = few next new.0.1 in
       omega (arith, later, h)
-  fewer (Loading provider l) (Signing credential w) new later = omega arith
+  fewer (Loading candidate provider l) (Signing credential w) new later = omega arith
   fewer (Signing credential w) next new later = absurd later
 
 -- a provider that the loader counts is there

@@ -1,17 +1,20 @@
 -- The steps of a poll, and the course that they make.
 use Rattle.std.proofs.Common.{◌≡◌, ◌++◌, ◌∷◌, [], List, Option, Some, None, refl, sym, ◌∙◌, ap, subst}
-use Rattle.std.specs.Option.{option_to_list, option_or, unwrap_or}
+use Rattle.std.specs.Option.{option_to_list, option_or}
 use Rattle.std.proofs.lemmas.List.{append-nil, append_assoc}
+use Rattle.sign_base.specs.declared.head.Head.{Head}
 use Rattle.wake_lock.specs.declared.CallId.{CallId}
 use Rattle.sequential_signer.specs.declared.event.Entry.{Entry}
 use Rattle.sequential_signer.specs.declared.event.Event.{Event}
 use Rattle.sequential_signer.specs.declared.event.Reply.{Reply}
 use Rattle.sign_desk.specs.DeskState.{DeskState, Represents}
+use Rattle.desk_parts.specs.Memory.{ClonesAreFree}
+use Rattle.sign_desk.specs.Memory.{RunsOutAtHeads}
 use Rattle.sign_desk.specs.Steps.{IsStep}
 use Rattle.desk_parts.specs.CallAt.{LeavesOthers}
 use Rattle.signer.specs.MadeBy.{IsStateMade}
-use Rattle.signer.specs.Course.{PollEnd, PollRun, PolledCall, IsGiven, IsCourse, stops, ends, goes_on, StopsAt, EndsBy, state_after, state_behind, wake_in, wakes_in}
-use Rattle.signer.specs.PollStep.{StepChange, ComesLater, NamesNobody, IsStepEnd, IsEndMade, IsEndKept, GoesOn, Ends}
+use Rattle.signer.specs.Course.{PollEnd, PollRun, PolledCall, IsGiven, IsCourse, stops, ends, goes_on, StopsAt, EndsBy, candidate_of, state_after, wake_in, wakes_in}
+use Rattle.signer.specs.PollStep.{StepChange, ComesLater, NamesNobody, IsStepEnd, IsEndMade, GoesOn, Ends}
 use Rattle.sequential_signer.specs.declared.event.Reply.TheVariants as reply
 use Rattle.signer.specs.declared.sign.SignState.{SignState}
 use Rattle.signer.specs.declared.sign.SignState.TheVariants.{Waiting, Loading, Signing}
@@ -38,46 +41,45 @@ module _ {K : Type 0} where
 
 module _ {K D L W : Type 0} (v : PolledCall K D L W) where
   -- a desk that represents a transcript represents it with the events of the course behind it
-  pub course-represents : (state : SignState K L W) (old new : DeskState K D) (run : PollRun K) → IsCourse v state old run new
+  pub course-represents : (state : SignState K L W) (old new : DeskState K D) (run : PollRun K L W) → IsCourse v state old run new
       → (entries : List (Entry K)) → Represents v.policy old entries → Represents v.policy new (entries ++ run.entries)
   course-represents state old new run (stops s desk end stop) entries stood = subst (Represents v.policy desk) (sym (append-nil entries)) stood
-  course-represents state old new run (ends s o n event answered end given step by) entries stood = step.represents entries stood
+  course-represents state old new run (ends s o n event answered end given step memory by) entries stood = step.represents entries stood
   course-represents state old new run (goes_on s next o between n event answered rest given step after course) entries stood =
       let e : Entry K = record { event = event; reply = answered } in
       let more = course-represents next between new rest course (entries ++ e ∷ []) (step.represents entries stood) in
       subst (Represents v.policy new) (append_assoc entries (e ∷ []) rest.entries) more
 
   -- a step that makes no event
-  pub ends-without : (state : SignState K L W) (desk : DeskState K D) (change : StepChange K D) (end : StepEnd K L W) (by : PollEnd) → change.old ≡ desk → change.new ≡ desk
-      → StopsAt v.meaning state by → IsStepEnd end change.before change.after by → IsEndMade v desk end → IsEndKept state end → Ends v state change None end
-  ends-without state desk change end by was is stop ended made kept = record {
+  pub ends-without : (state : SignState K L W) (desk : DeskState K D) (change : StepChange K D) (end : StepEnd K L W) (by : PollEnd K L W) → change.old ≡ desk → change.new ≡ desk
+      → StopsAt v.meaning state by → IsStepEnd end change.before change.after by → IsEndMade v desk end → Ends v state change None end
+  ends-without state desk change end by was is stop ended made = record {
     run = record { entries = []; end = by };
     course = subst (λ d. IsCourse v state d (record { entries = []; end = by }) change.new) (sym was) (subst (λ d. IsCourse v state desk (record { entries = []; end = by }) d) (sym is) (stops state desk by stop));
     ended = ended;
     named = refl;
     quiet = names-nobody state;
     made = subst (λ d. IsEndMade v d end) (sym is) made;
-    kept = kept;
     others = subst (λ d. LeavesOthers v.begun.id d change.new) (sym was) (subst (λ d. LeavesOthers v.begun.id desk d) (sym is) (leaves-self v.begun.id desk));
   }
     where
       names-nobody : (s : SignState K L W) → NamesNobody s None
-      names-nobody Waiting = tt
-      names-nobody (Loading provider l) = tt
+      names-nobody (Waiting candidate) = tt
+      names-nobody (Loading candidate provider l) = tt
       names-nobody (Signing credential w) = refl
 
   -- a step whose event ends the poll
-  pub ends-by : (state : SignState K L W) (change : StepChange K D) (event : Event K) (answered : Reply K) (wake : Option CallId) (end : StepEnd K L W) (by : PollEnd)
-      → IsGiven v state event → IsStep v.policy event change.old answered change.new → EndsBy v.meaning state event answered by → wake ≡ wake_in answered
-      → NamesNobody state wake → IsStepEnd end change.before change.after by → IsEndMade v change.new end → IsEndKept (unwrap_or (state_after answered) state) end → LeavesOthers v.begun.id change.old change.new → Ends v state change wake end
-  ends-by state change event answered wake end by given step ends_so named quiet ended made kept others = record {
+  pub ends-by : (state : SignState K L W) (change : StepChange K D) (event : Event K) (answered : Reply K) (wake : Option CallId) (end : StepEnd K L W) (by : PollEnd K L W)
+      → IsGiven v state event → IsStep v.policy event change.old answered change.new → (ClonesAreFree v.clones_freely → RunsOutAtHeads event answered)
+      → EndsBy v.meaning state event answered by → wake ≡ wake_in answered
+      → NamesNobody state wake → IsStepEnd end change.before change.after by → IsEndMade v change.new end → LeavesOthers v.begun.id change.old change.new → Ends v state change wake end
+  ends-by state change event answered wake end by given step memory ends_so named quiet ended made others = record {
     run = record { entries = record { event = event; reply = answered } ∷ []; end = by };
-    course = ends state change.old change.new event answered by given step ends_so;
+    course = ends state change.old change.new event answered by given step memory ends_so;
     ended = ended;
     named = append-nil (option_to_list (wake_in answered)) ∙ ap option_to_list (sym named);
     quiet = quiet;
     made = made;
-    kept = kept;
     others = others;
   }
 
@@ -94,54 +96,49 @@ NamedBefore (Signing credential w) (Some call) = Unit {0}
 NamedBefore state (Some call) = ⊥
 
 module _ {K L W : Type 0} where
-  behind-append : (state : SignState K L W) (xs ys : List (Entry K)) → state_behind state (xs ++ ys) ≡ state_behind (state_behind state xs) ys
-  behind-append state [] ys = refl
-  behind-append state (x ∷ xs) ys = behind-append (unwrap_or (state_after x.reply) state) xs ys
-
   named-first : (state : SignState K L W) (before after : Option CallId) → NamedBefore state before → NamesNobody state after
       → option_to_list before ++ option_to_list after ≡ option_to_list (option_or before after)
   named-first state None after b n = refl
   named-first (Signing credential w) (Some call) after b n = subst (λ (u : Option CallId). option_to_list (Some call) ++ option_to_list u ≡ option_to_list (option_or (Some call) u)) (sym n) refl
-  named-first Waiting (Some call) after b n = absurd b
-  named-first (Loading provider l) (Some call) after b n = absurd b
+  named-first (Waiting candidate) (Some call) after b n = absurd b
+  named-first (Loading candidate provider l) (Some call) after b n = absurd b
 
   -- a call that goes on has named nobody yet
   unnamed : (state next : SignState K L W) (before : Option CallId) → ComesLater state next → NamedBefore state before → before ≡ None
   unnamed state next None later b = refl
-  unnamed Waiting next (Some call) later b = absurd b
-  unnamed (Loading provider l) next (Some call) later b = absurd b
+  unnamed (Waiting candidate) next (Some call) later b = absurd b
+  unnamed (Loading candidate provider l) next (Some call) later b = absurd b
   unnamed (Signing credential w) next (Some call) later b = absurd later
 
   may-name : (state next : SignState K L W) (wake : Option CallId) → ComesLater state next → NamesNobody state wake
-  may-name Waiting next wake later = tt
-  may-name (Loading provider l) next wake later = tt
+  may-name (Waiting candidate) next wake later = tt
+  may-name (Loading candidate provider l) next wake later = tt
   may-name (Signing credential w) next wake later = absurd later
 
   -- a call is named by a reply by which the call signs
-  named-by : (answered : Reply K) (next : SignState K L W) → state_after answered ≡ Some next → NamedBefore next (wake_in answered)
-  named-by (reply.Ask provider) next after = tt
-  named-by (reply.Sign credential wake) next after =
-      let signs : Signing credential work.Unstarted ≡ next = cc in
+  named-by : (candidate : Head) (answered : Reply K) (next : SignState K L W) → state_after candidate answered ≡ Some next → NamedBefore next (wake_in answered)
+  named-by candidate (reply.Ask provider) next after = tt
+  named-by candidate (reply.Sign credential wake) next after =
+      let signs : Signing credential (work.Unstarted candidate) ≡ next = cc in
       subst (λ n. NamedBefore n wake) signs (by_wake wake)
     where
-      by_wake : (wake : Option CallId) → NamedBefore (let s : SignState K L W = Signing credential work.Unstarted in s) wake
+      by_wake : (wake : Option CallId) → NamedBefore (let s : SignState K L W = Signing credential (work.Unstarted candidate) in s) wake
       by_wake None = tt
       by_wake (Some call) = tt
-  named-by reply.Pending next after = absurd (cc)
-  named-by reply.Begun next after = absurd (cc)
-  named-by reply.NotNow next after = absurd (cc)
-  named-by reply.OutOfMemory next after = absurd (cc)
-  named-by (reply.Refused why wake) next after = absurd (cc)
-  named-by (reply.Done head) next after = absurd (cc)
-  named-by (reply.Cancelled wake) next after = absurd (cc)
+  named-by candidate reply.Pending next after = absurd (cc)
+  named-by candidate reply.Begun next after = absurd (cc)
+  named-by candidate reply.NotNow next after = absurd (cc)
+  named-by candidate reply.OutOfMemory next after = absurd (cc)
+  named-by candidate (reply.Refused why wake) next after = absurd (cc)
+  named-by candidate (reply.Done head) next after = absurd (cc)
+  named-by candidate (reply.Cancelled wake) next after = absurd (cc)
 
 module _ {K D L W : Type 0} (v : PolledCall K D L W) where
   -- a poll that began in this state, with this desk, has come to this place
   pub record Reached (start : SignState K L W) (old : DeskState K D) (place : PollPlace K D L W) : Type 0 where
     pub entries : List (Entry K)
-    pub behind : state_behind start entries ≡ place.state
     pub named : wakes_in entries ≡ option_to_list place.wake
-    pub leads : (run : PollRun K) (new : DeskState K D) → IsCourse v place.state place.desk run new → IsCourse v start old (record { entries = entries ++ run.entries; end = run.end }) new
+    pub leads : (run : PollRun K L W) (new : DeskState K D) → IsCourse v place.state place.desk run new → IsCourse v start old (record { entries = entries ++ run.entries; end = run.end }) new
     pub before : NamedBefore place.state place.wake
     pub others : LeavesOthers v.begun.id old place.desk
     pub made : IsStateMade v.meaning v.begun place.desk place.state
@@ -149,7 +146,6 @@ module _ {K D L W : Type 0} (v : PolledCall K D L W) where
   pub reached-start : (start : SignState K L W) (old : DeskState K D) → IsStateMade v.meaning v.begun old start → Reached start old (record { state = start; desk = old; wake = None })
   reached-start start old made = record {
     entries = [];
-    behind = refl;
     named = refl;
     leads = λ run new course. course;
     before = tt;
@@ -169,26 +165,22 @@ module _ {K D L W : Type 0} (v : PolledCall K D L W) where
       let last : wakes_in (e ∷ []) ≡ option_to_list wake = append-nil (option_to_list (wake_in g.answered)) ∙ ap option_to_list (sym g.named) in
       record {
         entries = r.entries ++ e ∷ [];
-        behind =
-            behind-append start r.entries (e ∷ []) ∙ ap (λ x. unwrap_or (state_after g.answered) x) r.behind
-            ∙ ap (λ o. unwrap_or o place.state) g.after;
         named = wakes-append r.entries (e ∷ []) ∙ ap (λ l. l ++ wakes_in (e ∷ [])) r.named ∙ ap (λ l. option_to_list place.wake ++ l) last ∙ first;
         leads = λ run new course.
             subst (λ l. IsCourse v start old (record { entries = l; end = run.end }) new) (sym (append_assoc r.entries (e ∷ []) run.entries))
             (r.leads (record { entries = e ∷ run.entries; end = run.end }) new (goes_on place.state next place.desk change.new new g.event g.answered run g.given step g.after course));
-        before = subst (λ w. NamedBefore next (option_or w wake)) (sym none) (subst (NamedBefore next) (sym g.named) (named-by g.answered next g.after));
+        before = subst (λ w. NamedBefore next (option_or w wake)) (sym none) (subst (NamedBefore next) (sym g.named) (named-by (candidate_of place.state) g.answered next g.after));
         others = leaves-trans r.others others;
         made = g.made;
       }
 
   -- a poll that has come to its last step
   pub record CourseEnds (start : SignState K L W) (change : StepChange K D) (wake : Option CallId) (end : StepEnd K L W) : Type 0 where
-    pub run : PollRun K
+    pub run : PollRun K L W
     pub course : IsCourse v start change.old run change.new
     pub ended : IsStepEnd end change.before change.after run.end
     pub named : wakes_in run.entries ≡ option_to_list wake
     pub made : IsEndMade v change.new end
-    pub kept : IsEndKept (state_behind start run.entries) end
     pub others : LeavesOthers v.begun.id change.old change.new
 
   pub reached-end : (start : SignState K L W) (old : DeskState K D) (place : PollPlace K D L W) → Reached start old place → (change : StepChange K D) → change.old ≡ place.desk
@@ -200,6 +192,5 @@ module _ {K D L W : Type 0} (v : PolledCall K D L W) where
     ended = e.ended;
     named = wakes-append r.entries e.run.entries ∙ ap (λ l. l ++ wakes_in e.run.entries) r.named ∙ ap (λ l. option_to_list place.wake ++ l) e.named ∙ named-first place.state place.wake wake r.before e.quiet;
     made = e.made;
-    kept = subst (λ x. IsEndKept x end) (sym (behind-append start r.entries e.run.entries ∙ ap (λ x. state_behind x e.run.entries) r.behind)) e.kept;
     others = leaves-trans r.others (subst (λ d. LeavesOthers v.begun.id d change.new) from e.others);
   }

@@ -1,6 +1,7 @@
 -- A signer that begins a call.
 use Rattle.std.proofs.Common.{◌≡◌, ◌<◌, ◌+◌, ℕ, length, inl, IsSomeAnd, refl, sym, ◌∙◌, subst}
 use Rattle.http.specs.declared.request.Parts.{Parts}
+use Rattle.sign_base.specs.declared.head.Head.{Head}
 use Rattle.wake_lock.specs.declared.CallId.{CallId}
 use Rattle.sequential_signer.specs.Policy.{Policy}
 use Rattle.sequential_signer.specs.declared.event.Event.TheVariants.{Begin}
@@ -31,10 +32,10 @@ module _ {P S K C L W : Type 0} (m : Meanings P S K C L W) (old : SignerState P 
   same-objects : (handle : ℕ) → objects_of (record old { desk = desk }) handle ≡ objects_of old handle
   same-objects handle = rw (b.handles, b.rules) refl
 
-  waiting-made : begun.id.handle < length old.desk.handles → IsMadeBy m (record old { desk = desk; begun = old.begun + 1 }) (let x : Sign P S K C L C W K = record { begun = begun; state = Waiting } in x)
-  waiting-made there =
+  waiting-made : (candidate : Head) → candidate ≡ begun.head → begun.id.handle < length old.desk.handles → IsMadeBy m (record old { desk = desk; begun = old.begun + 1 }) (let x : Sign P S K C L C W K = record { begun = begun; state = Waiting candidate } in x)
+  waiting-made candidate copied there =
       let found = has-objects-at old s begun.id.handle there in
-      subst (λ o. IsSomeAnd o (λ (x : Objects P S C). IsStateMade (call_meaning m begun x) begun desk Waiting)) (sym (same-objects begun.id.handle ∙ found.1)) (inl b.at)
+      subst (λ o. IsSomeAnd o (λ (x : Objects P S C). IsStateMade (call_meaning m begun x) begun desk (Waiting candidate))) (sym (same-objects begun.id.handle ∙ found.1)) (inl b.at, copied)
 
   -- the signer that has begun the call is one
   pub signer-begun : begun.id.number ≡ old.begun → IsSigner (record old { desk = desk; begun = old.begun + 1 })
@@ -43,14 +44,14 @@ module _ {P S K C L W : Type 0} (m : Meanings P S K C L W) (old : SignerState P 
       (rw (b.greatest, number) (above-next old.begun old.desk.greatest begun.id.handle s.numbers))
 
   -- what it did is what a signer does that begins a call
-  pub begins : (policy : Policy K S) → begun.id.handle < length old.desk.handles → begun.id.number ≡ old.begun → (parts : Parts) → IsHeadOf parts begun.head
+  pub begins : (policy : Policy K S) (candidate : Head) → candidate ≡ begun.head → begun.id.handle < length old.desk.handles → begun.id.number ≡ old.begun → (parts : Parts) → IsHeadOf parts begun.head
       → IsStep policy (Begin begun.id begun.head begun.expires_in) old.desk Begun desk
-      → Begins m policy (record { old = old; new = record old { desk = desk; begun = old.begun + 1 } }) parts (record { begun = begun; state = Waiting })
-  begins policy there number parts head step = record {
+      → Begins m policy (record { old = old; new = record old { desk = desk; begun = old.begun + 1 } }) parts (record { begun = begun; state = Waiting candidate })
+  begins policy candidate copied there number parts head step = record {
     number = number;
     head = head;
     step = step;
     next = refl;
-    made = waiting-made there;
+    made = waiting-made candidate copied there;
     others = λ other apart made. keeps-made m old desk other (keeps-apart other.begun.id apart) made;
   }

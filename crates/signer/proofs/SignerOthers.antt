@@ -60,15 +60,18 @@ module _ {K D : Type 0} (old new : DeskState K D) where
   keeps-waiting begun k (inr h) = inr (k.record_is ∙ h)
 
   pub keeps-state : {L W : Type 0} (m : CallMeaning K L W) (begun : BegunCall) → KeepsCall begun.id old new → (state : SignState K L W) → IsStateMade m begun old state → IsStateMade m begun new state
-  keeps-state m begun k Waiting h = keeps-waiting begun k h
-  keeps-state m begun k (Loading provider l) h = ((k.record_is ∙ h.0.0, keeps-provider begun.id k begun.id.handle provider h.0.1), h.1)
+  keeps-state m begun k (Waiting candidate) h = (keeps-waiting begun k h.0, h.1)
+  keeps-state m begun k (Loading candidate provider l) h = ((k.record_is ∙ h.0.0, keeps-provider begun.id k begun.id.handle provider h.0.1), h.1, h.2)
   keeps-state m begun k (Signing credential w) h = ((h.0.0, k.record_is ∙ h.0.1), h.1)
 
 -- a call whose state was made is live
 pub made-live : {K D L W : Type 0} (m : CallMeaning K L W) (begun : BegunCall) (desk : DeskState K D) (state : SignState K L W) → IsStateMade m begun desk state → IsLive begun desk
-made-live m begun desk Waiting (inl h) = (stage.Unpolled, 0, h)
-made-live m begun desk Waiting (inr h) = (stage.Queued, 0, h)
-made-live m begun desk (Loading provider l) h = (stage.Loading, provider, h.0.0)
+made-live m begun desk (Waiting candidate) h = waiting-live h.0
+  where
+    waiting-live : IsWaiting begun desk → IsLive begun desk
+    waiting-live (inl w) = (stage.Unpolled, 0, w)
+    waiting-live (inr w) = (stage.Queued, 0, w)
+made-live m begun desk (Loading candidate provider l) h = (stage.Loading, provider, h.0.0)
 made-live m begun desk (Signing credential w) h = (stage.Signing, h.0.0, h.0.1)
 
 module _ {P S K C L W : Type 0} (m : Meanings P S K C L W) where

@@ -1,6 +1,5 @@
 -- What a poll of a signer does: events of its desk, one after another, by what the objects answer.
 use Rattle.std.specs.Prelude.{◌≡◌, ◌⊎◌, ℤ, List, [], ◌∷◌, ◌++◌, Option, Some, None, option_to_list}
-use Rattle.std.specs.Option.{unwrap_or}
 use Rattle.http.specs.declared.request.Parts.{Parts}
 use Rattle.sign_base.specs.Error.{ErrorParts}
 use Rattle.sign_base.specs.declared.head.Head.{Head}
@@ -23,9 +22,11 @@ use Rattle.sequential_signer.specs.declared.event.Why.TheVariants as why
 use Rattle.sign_request.specs.PlainHead.{RefusesTarget, Commits}
 use Rattle.sign_request.specs.Refusal.{RefusedAs}
 use Rattle.sign_desk.specs.DeskState.{DeskState, Represents}
+use Rattle.desk_parts.specs.Memory.{ClonesAreFree}
+use Rattle.sign_desk.specs.Memory.{RunsOutAtHeads}
 use Rattle.sign_desk.specs.Steps.{IsStep}
-use Rattle.desk_parts.specs.LoadAnswer.{IsLoadPending, KeepsLoad}
-use Rattle.signer.specs.ObjectAnswer.{IsWorkPending, KeepsWork}
+use Rattle.desk_parts.specs.LoadAnswer.{IsLoadPending, LoadRunsOut}
+use Rattle.signer.specs.ObjectAnswer.{IsWorkPending, WorkRunsOut}
 use Rattle.desk_parts.specs.CallAt.{LeavesOthers}
 use Rattle.signer.specs.MadeBy.{IsStateMade}
 use Rattle.signer.specs.SignerObjects.{Meanings, Objects, CallMeaning, call_meaning}
@@ -43,24 +44,26 @@ use Rattle.signer.specs.declared.sign_poll.SignAnswer.TheVariants as answer
 use Rattle.signer.specs.declared.sign_poll.SignPoll.{SignPoll}
 
 -- how a poll ends
-pub data PollEnd : Type 0 where
-  -- the call waits for its turn, or for an object
-  Pends : PollEnd
+pub data PollEnd (K L W : Type 0) : Type 0 where
+  -- the call waits for its turn, or for an object, and is here
+  Pends : SignState K L W → PollEnd K L W
   -- the call is done, with this signed head
-  Finishes : Head → PollEnd
+  Finishes : Head → PollEnd K L W
   -- the call is refused
-  Refuses : Refusal → PollEnd
-  -- an allocation failed
-  RunsOut : PollEnd
+  Refuses : Refusal → PollEnd K L W
+  -- an allocation failed, and the call is here
+  RunsOut : SignState K L W → PollEnd K L W
 
 -- the events of a poll with their replies, and its end
-pub record PollRun (K : Type 0) : Type 0 where
+pub record PollRun (K L W : Type 0) : Type 0 where
   pub entries : List (Entry K)
-  pub end : PollEnd
+  pub end : PollEnd K L W
 
--- a call that is polled: what its objects mean, what it was begun with, and the moment of the poll
+-- a call that is polled: which credentials' clones take no memory, what its objects mean, what it was begun with, and the moment of
+-- the poll
 pub record PolledCall (K D L W : Type 0) : Type 1 where
   pub policy : Policy K D
+  pub clones_freely : K → Type 0
   pub meaning : CallMeaning K L W
   pub begun : BegunCall
   pub now : ℤ
@@ -86,65 +89,78 @@ IsVerdictGiven gives w (verdict.Failed n) = (e : ErrorParts) × FailsWith gives 
 IsVerdictGiven gives (work.Signed kept) (verdict.Accepted candidate) = candidate ≡ kept
 IsVerdictGiven gives w (verdict.Accepted candidate) = gives (record { answer = polled.Ready tt; candidate = candidate })
 
+-- the signed head that is kept, or that the service gives, is left where there was no memory to bring it to `http`
+abbrev pub CrossingRunsOut : {W : Type 0} → (SignOutcome → Type 0) → WorkState W → WorkState W → Type 0
+CrossingRunsOut gives w (work.Signed candidate) = IsVerdictGiven gives w (verdict.Accepted candidate)
+CrossingRunsOut gives w left = ⊥
+
 module _ {K L W : Type 0} where
+  -- the head on which the service works, or will
+  abbrev pub candidate_of : SignState K L W → Head
+  candidate_of (Waiting candidate) = candidate
+  candidate_of (Loading candidate provider l) = candidate
+  candidate_of (Signing credential (work.Unstarted candidate)) = candidate
+  candidate_of (Signing credential (work.Started w candidate)) = candidate
+  candidate_of (Signing credential (work.Signed candidate)) = candidate
+
   -- where a call is by a reply after which it goes on
-  abbrev pub state_after : Reply K → Option (SignState K L W)
-  state_after (reply.Ask provider) = Some (Loading provider load.Unstarted)
-  state_after (reply.Sign credential wake) = Some (Signing credential work.Unstarted)
-  state_after _ = None
-
-  -- where a call is behind these replies
-  abbrev pub state_behind : SignState K L W → List (Entry K) → SignState K L W
-  state_behind state [] = state
-  state_behind state (e ∷ rest) = state_behind (unwrap_or (state_after e.reply) state) rest
-
-  -- the call is where it was, and nothing of its load or work was dropped
-  abbrev pub KeepsState : SignState K L W → SignState K L W → Type 0
-  KeepsState Waiting Waiting = Unit {0}
-  KeepsState (Loading provider l) (Loading same kept) = (same ≡ provider) × KeepsLoad l kept
-  KeepsState (Signing credential w) (Signing same kept) = (same ≡ credential) × KeepsWork w kept
-  KeepsState state kept = ⊥
+  abbrev pub state_after : Head → Reply K → Option (SignState K L W)
+  state_after candidate (reply.Ask provider) = Some (Loading candidate provider load.Unstarted)
+  state_after candidate (reply.Sign credential wake) = Some (Signing credential (work.Unstarted candidate))
+  state_after candidate _ = None
 
   -- the refusal of a signer is that of its desk, with the error of the object
   abbrev pub IsRefusal : CallMeaning K L W → SignState K L W → Why → Refusal → Type 0
   IsRefusal m state why.Missing refusal.Missing = Unit {0}
   IsRefusal m state (why.Short deadline) (refusal.Short moment) = moment ≡ deadline
   IsRefusal m state why.Range refusal.Range = Unit {0}
-  IsRefusal m (Loading provider l) (why.Loader n) (refusal.Loader e) = m.load_gives provider (polled.Failed e)
+  IsRefusal m (Loading candidate provider l) (why.Loader n) (refusal.Loader e) = m.load_gives provider (polled.Failed e)
   IsRefusal m (Signing credential w) (why.Service n) (refusal.Service e) = FailsWith (m.work_gives credential) w e
   IsRefusal m state cause refused = ⊥
 
-  -- the poll ends by this reply
-  abbrev pub EndsBy : CallMeaning K L W → SignState K L W → Event K → Reply K → PollEnd → Type 0
-  EndsBy m Waiting event reply.Pending Pends = Unit {0}
+  -- the poll ends by this reply; where the desk had no memory, the call has the very answer that the desk was given
+  abbrev pub EndsBy : CallMeaning K L W → SignState K L W → Event K → Reply K → PollEnd K L W → Type 0
+  EndsBy m (Waiting candidate) event reply.Pending (Pends (Waiting same)) = Unit {0}
+  EndsBy m (Waiting candidate) event reply.OutOfMemory (RunsOut (Waiting same)) = Unit {0}
+  EndsBy m (Loading candidate provider l) (Provided call now (Found credential)) reply.OutOfMemory (RunsOut left) =
+      left ≡ Loading candidate provider (load.Found credential)
+  EndsBy m (Signing credential w) (Signed call (verdict.Accepted candidate)) reply.OutOfMemory (RunsOut left) =
+      left ≡ Signing credential (work.Signed candidate)
   EndsBy m state (Signed call (verdict.Accepted candidate)) (reply.Done head) (Finishes signed) = signed ≡ candidate
   EndsBy m state event (reply.Refused cause wake) (Refuses refused) = IsRefusal m state cause refused
   EndsBy m state event answered end = ⊥
 
-  -- the poll ends without an event: an allocation failed, or the object that is asked is not ready
-  abbrev pub StopsAt : CallMeaning K L W → SignState K L W → PollEnd → Type 0
-  StopsAt m state RunsOut = Unit {0}
-  StopsAt m (Loading provider l) Pends = IsLoadPending (m.load_started provider) (m.load_ready provider) l
-  StopsAt m (Signing credential w) Pends = IsWorkPending (m.work_started credential) m.work_ready w
+  -- the poll ends without an event: the object that is asked is not ready or has no memory, or the signed head does not get to `http`
+  abbrev pub StopsAt : CallMeaning K L W → SignState K L W → PollEnd K L W → Type 0
+  StopsAt m (Loading candidate provider l) (Pends (Loading copy same (load.Started left))) =
+      (same ≡ provider) × IsLoadPending (m.load_started provider) (m.load_ready provider) l
+  StopsAt m (Loading candidate provider l) (RunsOut (Loading copy same left)) = (same ≡ provider) × LoadRunsOut (m.load_gives provider) l left
+  StopsAt m (Signing credential w) (Pends (Signing same (work.Started left candidate))) =
+      (same ≡ credential) × IsWorkPending (m.work_started credential) m.work_ready w
+      × m.work_gives credential (record { answer = polled.Pending; candidate = candidate })
+  StopsAt m (Signing credential w) (RunsOut (Signing same left)) =
+      (same ≡ credential) × (WorkRunsOut (m.work_gives credential) w left ⊎ CrossingRunsOut (m.work_gives credential) w left)
   StopsAt m state end = ⊥
 
 module _ {K D L W : Type 0} (v : PolledCall K D L W) where
   -- the event is of the call, at the moment of the poll, and the object that is asked gives its answer
   abbrev pub IsGiven : SignState K L W → Event K → Type 0
-  IsGiven Waiting (Poll call now) = (call ≡ v.begun.id) × (now ≡ v.now)
-  IsGiven (Loading provider l) (Provided call now given) = (call ≡ v.begun.id) × (now ≡ v.now) × IsAnswerGiven (v.meaning.load_gives provider) l given
+  IsGiven (Waiting candidate) (Poll call now) = (call ≡ v.begun.id) × (now ≡ v.now)
+  IsGiven (Loading candidate provider l) (Provided call now given) =
+      (call ≡ v.begun.id) × (now ≡ v.now) × IsAnswerGiven (v.meaning.load_gives provider) l given
   IsGiven (Signing credential w) (Signed call given) = (call ≡ v.begun.id) × IsVerdictGiven (v.meaning.work_gives credential) w given
   IsGiven state event = ⊥
 
   -- from a call in this state and this desk, the poll has this run, and leaves this desk
-  pub data IsCourse : SignState K L W → DeskState K D → PollRun K → DeskState K D → Type 0 where
-    stops : (state : SignState K L W) (desk : DeskState K D) (end : PollEnd) → StopsAt v.meaning state end
+  pub data IsCourse : SignState K L W → DeskState K D → PollRun K L W → DeskState K D → Type 0 where
+    stops : (state : SignState K L W) (desk : DeskState K D) (end : PollEnd K L W) → StopsAt v.meaning state end
         → IsCourse state desk (record { entries = []; end = end }) desk
-    ends : (state : SignState K L W) (old new : DeskState K D) (event : Event K) (answered : Reply K) (end : PollEnd)
-        → IsGiven state event → IsStep v.policy event old answered new → EndsBy v.meaning state event answered end
+    ends : (state : SignState K L W) (old new : DeskState K D) (event : Event K) (answered : Reply K) (end : PollEnd K L W)
+        → IsGiven state event → IsStep v.policy event old answered new → (ClonesAreFree v.clones_freely → RunsOutAtHeads event answered)
+        → EndsBy v.meaning state event answered end
         → IsCourse state old (record { entries = record { event = event; reply = answered } ∷ []; end = end }) new
-    goes_on : (state next : SignState K L W) (old between new : DeskState K D) (event : Event K) (answered : Reply K) (run : PollRun K)
-        → IsGiven state event → IsStep v.policy event old answered between → state_after answered ≡ Some next → IsCourse next between run new
+    goes_on : (state next : SignState K L W) (old between new : DeskState K D) (event : Event K) (answered : Reply K) (run : PollRun K L W)
+        → IsGiven state event → IsStep v.policy event old answered between → state_after (candidate_of state) answered ≡ Some next → IsCourse next between run new
         → IsCourse state old (record { entries = record { event = event; reply = answered } ∷ run.entries; end = run.end }) new
 
 -- the call that a reply names
@@ -165,12 +181,12 @@ pub record PollOutcome (P S K C L W : Type 0) : Type 0 where
   pub before : Parts
   pub after : Parts
 
--- the answer is that of the end, and the request has the URI and the headers that were signed, or is as before
-abbrev pub IsEnd : {P S K C L W : Type 0} → SignAnswer P S K C L C W K → Parts → Parts → PollEnd → Type 0
-IsEnd (answer.Pending sign) before after Pends = after ≡ before
-IsEnd answer.Done before after (Finishes signed) = Commits signed before after
+-- the answer is that of the end, and the request has the URI and the headers that were signed and that `http` accepts, or is as before
+abbrev pub IsEnd : {P S K C L W : Type 0} → SignAnswer P S K C L C W K → Parts → Parts → PollEnd K L W → Type 0
+IsEnd (answer.Pending sign) before after (Pends left) = (sign.state ≡ left) × (after ≡ before)
+IsEnd answer.Done before after (Finishes signed) = Commits signed before after × ¬ (RefusesTarget signed)
 IsEnd (answer.Refused refused) before after (Refuses cause) = (refused ≡ cause) × (after ≡ before)
-IsEnd (answer.OutOfMemory sign) before after RunsOut = after ≡ before
+IsEnd (answer.OutOfMemory sign) before after (RunsOut left) = (sign.state ≡ left) × (after ≡ before)
 IsEnd given before after end = ⊥
 
 -- a state that is handed back is one that was made for the call
@@ -180,21 +196,13 @@ IsAnswerMade m begun desk (answer.OutOfMemory sign) = (sign.begun ≡ begun) × 
 IsAnswerMade m begun desk answer.Done = Unit {0}
 IsAnswerMade m begun desk (answer.Refused refused) = Unit {0}
 
--- a state that is handed back is where the call is, with all that was kept
-abbrev pub IsAnswerKept : {P S K C L W : Type 0} → SignState K L W → SignAnswer P S K C L C W K → Type 0
-IsAnswerKept state (answer.Pending sign) = KeepsState state sign.state
-IsAnswerKept state (answer.OutOfMemory sign) = KeepsState state sign.state
-IsAnswerKept state answer.Done = Unit {0}
-IsAnswerKept state (answer.Refused refused) = Unit {0}
-
 -- a call in this state is driven by these events of the desk, and ends by them
 pub record IsDriven {P S K C D L W : Type 0} (v : PolledCall K D L W) (state : SignState K L W) (old new : DeskState K D) (outcome : PollOutcome P S K C L W) : Type 0 where
-  pub run : PollRun K
+  pub run : PollRun K L W
   pub course : IsCourse v state old run new
   pub end : IsEnd outcome.poll.answer outcome.before outcome.after run.end
   pub wake : wakes_in run.entries ≡ option_to_list outcome.poll.wake
   pub made : IsAnswerMade v.meaning v.begun new outcome.poll.answer
-  pub kept : IsAnswerKept (state_behind state run.entries) outcome.poll.answer
   pub others : LeavesOthers v.begun.id old new
 
 -- the poll of a call in this state: whatever transcript the desk represents, it then represents that with the events of the poll
@@ -203,5 +211,6 @@ pub record IsPoll {P S K C D L W : Type 0} (v : PolledCall K D L W) (state : Sig
   pub represents : (entries : List (Entry K)) → Represents v.policy old entries → Represents v.policy new (entries ++ driven.run.entries)
 
 -- the call that is polled, with these objects
-abbrev pub polled_call : {P S K C L W : Type 0} → Policy K S → Meanings P S K C L W → Objects P S C → BegunCall → ℤ → PolledCall K S L W
-polled_call policy m objects begun now = record { policy = policy; meaning = call_meaning m begun objects; begun = begun; now = now }
+abbrev pub polled_call : {P S K C L W : Type 0} → Policy K S → (K → Type 0) → Meanings P S K C L W → Objects P S C → BegunCall → ℤ → PolledCall K S L W
+polled_call policy clones_freely m objects begun now =
+    record { policy = policy; clones_freely = clones_freely; meaning = call_meaning m begun objects; begun = begun; now = now }

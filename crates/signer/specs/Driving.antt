@@ -14,6 +14,7 @@ use Rattle.signer.specs.declared.went.StepTaken.{StepTaken}
 -- what a poll of a call works with, beside the service, which is a rule of the desk
 pub record Driving (P S K C L W : Type 0) : Type 1 where
   pub policy : Policy K S
+  pub clones_freely : K → Type 0
   pub meanings : Meanings P S K C L W
   pub objects : CallObjects P C
   pub begun : BegunCall
@@ -22,7 +23,7 @@ pub record Driving (P S K C L W : Type 0) : Type 1 where
 module _ {P S K C L W : Type 0} (d : Driving P S K C L W) where
   -- the call with this service
   abbrev pub call_with : S → PolledCall K S L W
-  call_with service = polled_call d.policy d.meanings (with_service d.objects service) d.begun d.now
+  call_with service = polled_call d.policy d.clones_freely d.meanings (with_service d.objects service) d.begun d.now
 
   -- this service is the call's
   abbrev pub IsService : DeskState K S → S → Type 0

@@ -1,5 +1,5 @@
 -- The states of calls that a signer made.
-use Rattle.std.specs.Prelude.{ℕ, IsSomeAnd}
+use Rattle.std.specs.Prelude.{◌≡◌, ℕ, IsSomeAnd}
 use Rattle.sign_desk.specs.DeskState.{DeskState}
 use Rattle.desk_parts.specs.CallAt.{IsWaiting, IsAsking, IsSigning}
 use Rattle.desk_parts.specs.LoadAnswer.{IsLoadKept}
@@ -23,10 +23,11 @@ module _ {K L W : Type 0} (m : CallMeaning K L W) where
   abbrev pub IsWorkMade : BegunCall → K → WorkState W → Type 0
   IsWorkMade begun credential w = IsWorkKept (m.work_started credential) (m.work_gives credential) begun.head w
 
-  -- the desk has the call's record with the same state, and load or work were made for the call
+  -- the desk has the call's record with the same state, load or work were made for the call, and the candidate is the begun head
+  -- until a service works on it
   abbrev pub IsStateMade : {D : Type 0} → BegunCall → DeskState K D → SignState K L W → Type 0
-  IsStateMade begun desk Waiting = IsWaiting begun desk
-  IsStateMade begun desk (Loading provider l) = IsAsking begun provider desk × IsLoadMade provider l
+  IsStateMade begun desk (Waiting candidate) = IsWaiting begun desk × (candidate ≡ begun.head)
+  IsStateMade begun desk (Loading candidate provider l) = IsAsking begun provider desk × IsLoadMade provider l × (candidate ≡ begun.head)
   IsStateMade begun desk (Signing credential w) = IsSigning begun desk × IsWorkMade begun credential w
 
 -- this signer made this state

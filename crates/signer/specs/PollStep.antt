@@ -4,12 +4,12 @@ use Rattle.http.specs.declared.request.Parts.{Parts}
 use Rattle.wake_lock.specs.declared.CallId.{CallId}
 use Rattle.sequential_signer.specs.declared.event.Event.{Event}
 use Rattle.sequential_signer.specs.declared.event.Reply.{Reply}
-use Rattle.sign_request.specs.PlainHead.{Commits}
+use Rattle.sign_request.specs.PlainHead.{Commits, RefusesTarget}
 use Rattle.sign_desk.specs.DeskState.{DeskState}
 use Rattle.sign_desk.specs.Steps.{IsStep}
 use Rattle.desk_parts.specs.CallAt.{LeavesOthers}
 use Rattle.signer.specs.MadeBy.{IsStateMade}
-use Rattle.signer.specs.Course.{PollEnd, Pends, Finishes, Refuses, RunsOut, PollRun, PolledCall, IsGiven, IsCourse, state_after, state_behind, KeepsState, wake_in, wakes_in}
+use Rattle.signer.specs.Course.{PollEnd, Pends, Finishes, Refuses, RunsOut, PollRun, PolledCall, IsGiven, IsCourse, candidate_of, state_after, wake_in, wakes_in}
 use Rattle.sign_desk.specs.Records.{BegunCall}
 use Rattle.signer.specs.declared.sign.SignState.{SignState}
 use Rattle.signer.specs.declared.sign.SignState.TheVariants.{Waiting, Loading, Signing}
@@ -31,10 +31,10 @@ pub record StepChange (K D : Type 0) : Type 0 where
 module _ {K L W : Type 0} where
   -- the state comes later in a poll than the other
   abbrev pub ComesLater : SignState K L W → SignState K L W → Type 0
-  ComesLater Waiting (Loading provider l) = Unit {0}
-  ComesLater Waiting (Signing credential w) = Unit {0}
-  ComesLater (Loading provider l) (Loading next m) = next ≡ provider + 1
-  ComesLater (Loading provider l) (Signing credential w) = Unit {0}
+  ComesLater (Waiting candidate) (Loading copy provider l) = Unit {0}
+  ComesLater (Waiting candidate) (Signing credential w) = Unit {0}
+  ComesLater (Loading candidate provider l) (Loading copy next m) = next ≡ provider + 1
+  ComesLater (Loading candidate provider l) (Signing credential w) = Unit {0}
   ComesLater state next = ⊥
 
   -- the answer of a poll that ends so
@@ -49,19 +49,12 @@ module _ {K L W : Type 0} where
   NamesNobody (Signing credential w) wake = wake ≡ None
   NamesNobody state wake = Unit {0}
 
-  -- a state that is handed back at the end is where the call is, with all that was kept
-  abbrev pub IsEndKept : SignState K L W → StepEnd K L W → Type 0
-  IsEndKept state (Pending kept) = KeepsState state kept
-  IsEndKept state (OutOfMemory kept) = KeepsState state kept
-  IsEndKept state Done = Unit {0}
-  IsEndKept state (Refused refused) = Unit {0}
-
-  -- the step ends the poll so, and the request has the URI and the headers that were signed, or is as before
-  abbrev pub IsStepEnd : StepEnd K L W → Parts → Parts → PollEnd → Type 0
-  IsStepEnd (Pending state) before after Pends = after ≡ before
-  IsStepEnd Done before after (Finishes signed) = Commits signed before after
+  -- the step ends the poll so, and the request has the URI and the headers that were signed and that `http` accepts, or is as before
+  abbrev pub IsStepEnd : StepEnd K L W → Parts → Parts → PollEnd K L W → Type 0
+  IsStepEnd (Pending state) before after (Pends left) = (state ≡ left) × (after ≡ before)
+  IsStepEnd Done before after (Finishes signed) = Commits signed before after × ¬ (RefusesTarget signed)
   IsStepEnd (Refused refused) before after (Refuses cause) = (refused ≡ cause) × (after ≡ before)
-  IsStepEnd (OutOfMemory state) before after RunsOut = after ≡ before
+  IsStepEnd (OutOfMemory state) before after (RunsOut left) = (state ≡ left) × (after ≡ before)
   IsStepEnd end before after other = ⊥
 
 module _ {K D L W : Type 0} (v : PolledCall K D L W) where
@@ -78,7 +71,7 @@ module _ {K D L W : Type 0} (v : PolledCall K D L W) where
     pub answered : Reply K
     pub given : IsGiven v state event
     pub step : IsStep v.policy event change.old answered change.new
-    pub after : state_after answered ≡ Some next
+    pub after : state_after (candidate_of state) answered ≡ Some next
     pub named : wake ≡ wake_in answered
     pub same : change.after ≡ change.before
     pub later : ComesLater state next
@@ -87,13 +80,12 @@ module _ {K D L W : Type 0} (v : PolledCall K D L W) where
 
   -- the step is the last of the poll
   pub record Ends (state : SignState K L W) (change : StepChange K D) (wake : Option CallId) (end : StepEnd K L W) : Type 0 where
-    pub run : PollRun K
+    pub run : PollRun K L W
     pub course : IsCourse v state change.old run change.new
     pub ended : IsStepEnd end change.before change.after run.end
     pub named : wakes_in run.entries ≡ option_to_list wake
     pub quiet : NamesNobody state wake
     pub made : IsEndMade change.new end
-    pub kept : IsEndKept (state_behind state run.entries) end
     pub others : LeavesOthers v.begun.id change.old change.new
 
   -- what the step came to

@@ -1,5 +1,6 @@
 -- How a poll goes on by a reply of its desk.
 use Rattle.std.specs.Prelude.{ℕ, None}
+use Rattle.sign_base.specs.declared.head.Head.{Head}
 use Rattle.sequential_signer.specs.declared.event.Reply.{Reply}
 use Rattle.sequential_signer.specs.declared.event.Reply.TheVariants as reply
 use Rattle.sequential_signer.specs.declared.event.Why.{Why}
@@ -19,24 +20,24 @@ plain_refusal (why.Short deadline) = refusal.Short deadline
 plain_refusal why.Range = refusal.Range
 plain_refusal _ = refusal.Missing
 
-module _ {K L W : Type 0} where
+module _ {K L W : Type 0} (candidate : Head) where
   -- a poll of a call that waits
   abbrev pub taken_after_poll : Reply K → StepTaken K L W
-  taken_after_poll reply.Pending = record { went = Over (end.Pending Waiting); wake = None }
-  taken_after_poll (reply.Ask provider) = record { went = On (Loading provider load.Unstarted); wake = None }
-  taken_after_poll (reply.Sign credential wake) = record { went = On (Signing credential work.Unstarted); wake = wake }
+  taken_after_poll reply.Pending = record { went = Over (end.Pending (Waiting candidate)); wake = None }
+  taken_after_poll (reply.Ask provider) = record { went = On (Loading candidate provider load.Unstarted); wake = None }
+  taken_after_poll (reply.Sign credential wake) = record { went = On (Signing credential (work.Unstarted candidate)); wake = wake }
   taken_after_poll (reply.Refused cause wake) = record { went = Over (end.Refused (plain_refusal cause)); wake = wake }
-  taken_after_poll _ = record { went = Over (end.OutOfMemory Waiting); wake = None }
+  taken_after_poll _ = record { went = Over (end.OutOfMemory (Waiting candidate)); wake = None }
 
   -- a credential that was found
   abbrev pub taken_after_found : ℕ → K → Reply K → StepTaken K L W
-  taken_after_found provider found (reply.Sign credential wake) = record { went = On (Signing credential work.Unstarted); wake = wake }
+  taken_after_found provider found (reply.Sign credential wake) = record { went = On (Signing credential (work.Unstarted candidate)); wake = wake }
   taken_after_found provider found (reply.Refused cause wake) = record { went = Over (end.Refused (plain_refusal cause)); wake = wake }
-  taken_after_found provider found _ = record { went = Over (end.OutOfMemory (Loading provider (load.Found found))); wake = None }
+  taken_after_found provider found _ = record { went = Over (end.OutOfMemory (Loading candidate provider (load.Found found))); wake = None }
 
   -- an answer that is no credential; this is the refusal of a single provider
   abbrev pub taken_after_none : Refusal → Reply K → StepTaken K L W
-  taken_after_none failure (reply.Ask provider) = record { went = On (Loading provider load.Unstarted); wake = None }
+  taken_after_none failure (reply.Ask provider) = record { went = On (Loading candidate provider load.Unstarted); wake = None }
   taken_after_none failure (reply.Refused why.Missing wake) = record { went = Over (end.Refused refusal.Missing); wake = wake }
   taken_after_none failure (reply.Refused cause wake) = record { went = Over (end.Refused failure); wake = wake }
   taken_after_none failure _ = record { went = Over (end.Refused failure); wake = None }

@@ -6,9 +6,11 @@ use Rattle.sign_base.specs.declared.head.Head.{Head}
 use Rattle.wake_lock.specs.declared.CallId.{CallId}
 use Rattle.sequential_signer.specs.Policy.{Policy}
 use Rattle.sequential_signer.specs.declared.event.Event.TheVariants.{Signed}
-use Rattle.sequential_signer.specs.declared.event.Reply.TheVariants.{Done}
+use Rattle.sequential_signer.specs.declared.event.Reply.TheVariants.{Done, OutOfMemory}
 use Rattle.sequential_signer.specs.declared.event.Verdict.TheVariants.{Accepted}
 use Rattle.sign_request.specs.PlainHead.{Commits, header_map}
+use Rattle.desk_parts.specs.CallAt.{IsSigning}
+use Rattle.sign_desk.specs.Records.{BegunCall}
 use Rattle.sign_desk.specs.Steps.{IsStep}
 use Rattle.signer.specs.PollStep.{StepChange}
 
@@ -23,8 +25,9 @@ pub record IsHandedIn {K D : Type 0} (policy : Policy K D) (call : CallId) (cand
   pub head : Head
   pub step : IsStep policy (Signed call (Accepted candidate)) change.old (Done head) change.new
 
--- nothing changed, and the head came back
-pub record IsKept {K D : Type 0} (candidate head : Head) (change : StepChange K D) : Type 0 where
+-- the desk had no memory for the head, which came back, and the request is as it was
+pub record IsKept {K D : Type 0} (policy : Policy K D) (begun : BegunCall) (candidate head : Head) (change : StepChange K D) : Type 0 where
   pub back : head ≡ candidate
-  pub desk : change.new ≡ change.old
+  pub step : IsStep policy (Signed begun.id (Accepted candidate)) change.old OutOfMemory change.new
+  pub signing : IsSigning begun change.new
   pub request : change.after ≡ change.before

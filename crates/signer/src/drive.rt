@@ -7,6 +7,8 @@ ghost use Rattle.sequential_signer.specs.declared.event.Reply.TheVariants.{Begun
 ghost use Rattle.sequential_signer.specs.declared.event.Verdict.TheVariants as verdict;
 ghost use Rattle.sequential_signer.specs.declared.event.Why.TheVariants as why;
 ghost use Rattle.sign_desk.specs.Steps.{IsStep};
+ghost use Rattle.desk_parts.specs.Memory.{ClonesAreFree};
+ghost use Rattle.sign_desk.specs.Memory.{RunsOutAtHeads};
 ghost use Rattle.desk_parts.specs.CallAt.{IsLive, IsWaiting, IsAsking, IsSigning, LeavesOthers};
 ghost use Rattle.signer.specs.CallStep.{IsBegun, AfterPoll, AfterFound, AfterNone, AfterAccepted, begun_in_event, found_in_event, accepted_in_event};
 ghost use Rattle.sequential_signer.specs.LiveCall.{is_above};
@@ -75,6 +77,7 @@ pub(crate) fn poll_call<K: SigningCredential, D: DeadlineRule<Credential = K>>(
     requires there { IsSome (slice_get desk.old.handles begun.now.id.handle) }
     requires waiting { IsWaiting begun.now desk.old }
     ensures step { IsStep (policy_of K.valid K.valid_at D.deadline) (Poll begun.now.id now) desk.old result desk.new }
+    ensures memory { ClonesAreFree K.clones_freely → RunsOutAtHeads (Poll begun.now.id now) result }
     ensures after { AfterPoll begun.now result desk.new }
     ensures others { LeavesOthers begun.now.id desk.old desk.new }
 {
@@ -97,6 +100,8 @@ pub(crate) fn give_found<K: SigningCredential, D: DeadlineRule<Credential = K>>(
     requires asking { IsAsking begun.now provider desk.old }
     ensures step { IsStep (policy_of K.valid K.valid_at D.deadline)
         (Provided begun.now.id now (answer.Found credential)) desk.old result.0 desk.new }
+    ensures memory { ClonesAreFree K.clones_freely
+        → RunsOutAtHeads (Provided begun.now.id now (answer.Found credential)) result.0 }
     ensures after { AfterFound begun.now provider result.0 desk.new }
     ensures others { LeavesOthers begun.now.id desk.old desk.new }
     ensures back { result.1 ≡ credential }

@@ -34,6 +34,7 @@ where
     requires loads { loader_of desk.old sign.begun.id.handle ≡ Some (loader_for objects.now.providers.now) }
     requires made { IsMadeFor (record {
       policy = policy_of P.Credential.valid P.Credential.valid_at S.deadline;
+      clones_freely = P.Credential.clones_freely;
       meanings = meanings_of P.ProvideCredential S.SignRequest.own;
       objects = objects.now;
       begun = sign.begun;
@@ -41,6 +42,7 @@ where
     }) desk.old sign.state }
     ensures { IsDrivenFrom (record {
       policy = policy_of P.Credential.valid P.Credential.valid_at S.deadline;
+      clones_freely = P.Credential.clones_freely;
       meanings = meanings_of P.ProvideCredential S.SignRequest.own;
       objects = objects.now;
       begun = sign.begun;

@@ -8,21 +8,22 @@ use std::fmt;
 /// The work of the service.
 #[derive(Drop)]
 pub(crate) enum WorkState<W> {
-    /// There was no memory yet to start it.
-    Unstarted,
-    /// The work, and the candidate: the copy of the head on which it works.
+    /// The copy of the head on which it is to work. There was no memory yet to start it.
+    Unstarted(Head),
+    /// The work, and the copy of the head on which it works.
     Started(W, Head),
     /// The signed candidate, for which there was no memory.
     Signed(Head),
 }
 
-/// How far a call is.
+/// How far a call is. From the begin on it has the copy of its head on which the service is to work: a poll
+/// copies no head.
 #[derive(Drop)]
 pub(crate) enum SignState<K, L, W> {
     /// It waits for its turn.
-    Waiting,
+    Waiting(Head),
     /// The provider with this number was asked.
-    Loading(u32, LoadState<K, L>),
+    Loading(Head, u32, LoadState<K, L>),
     /// The service signs with this credential.
     Signing(K, WorkState<W>),
 }

@@ -267,6 +267,7 @@ where
         if self.begun == u64::MAX {
             return Err(Error::request_invalid(self.alloc, USED_UP)?);
         }
+        let candidate = head.try_clone(self.alloc)?;
         let id = CallId {
             handle,
             number: self.begun,
@@ -280,7 +281,7 @@ where
         };
         Ok(Sign {
             begun,
-            state: SignState::Waiting,
+            state: SignState::Waiting(candidate),
         })
     }
 
@@ -290,7 +291,8 @@ where
     pub fn poll(&mut self, sign: Sign<P, S>, req: &mut Parts, now: Timestamp) -> SignPoll<P, S>
         requires { IsMadeBy (meanings_of P.ProvideCredential S.SignRequest.own) self.old sign }
         ensures poll { (o : Objects P S P.Ctx) → objects_of self.old sign.begun.id.handle ≡ Some o
-            → IsPoll (polled_call (policy_of P.Credential.valid P.Credential.valid_at S.deadline) (meanings_of P.ProvideCredential S.SignRequest.own) o sign.begun now) sign.state self.old.desk self.new.desk
+            → IsPoll (polled_call (policy_of P.Credential.valid P.Credential.valid_at S.deadline) P.Credential.clones_freely
+            (meanings_of P.ProvideCredential S.SignRequest.own) o sign.begun now) sign.state self.old.desk self.new.desk
             (record { poll = result; before = req.old; after = req.new }) }
         ensures made { IsAnswerMadeBy (meanings_of P.ProvideCredential S.SignRequest.own) self.new sign.begun.id result.answer }
         ensures same { self.new ≡ record self.old { desk = self.new.desk } }

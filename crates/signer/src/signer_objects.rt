@@ -1,5 +1,5 @@
 //! The polls of a service's work. What there was no memory for is kept.
-ghost use Rattle.std.specs.Prelude.{◌≡◌, IfOk};
+ghost use Rattle.std.specs.Prelude.{◌≡◌};
 ghost use Rattle.credentials.specs.Operation.{IsCandidate};
 ghost use Rattle.signer.specs.ObjectAnswer.{IsWorkKept, IsWorkAnswer};
 ghost use Rattle.signer.specs.ObjectPoll.{service_meaning};
@@ -9,10 +9,10 @@ use crate::object_answer::WorkAnswer;
 use crate::sign::WorkState;
 use credentials::{Polled, SignRequest};
 use desk_parts::BegunCall;
-use sign_base::{Head, NoMemory};
+use sign_base::Head;
 use std::alloc::Global;
 
-/// Polls a work. It is started first where it is not yet, on a copy of the begun head.
+/// Polls a work. It is started first where it is not yet.
 pub(crate) fn poll_service<S: SignRequest>(
     alloc: Global,
     service: &S,
@@ -30,29 +30,13 @@ pub(crate) fn poll_service<S: SignRequest>(
         WorkState::Started(work, candidate) => {
             poll_work(alloc, service, ctx, begun, credential, work, candidate)
         }
-        WorkState::Unstarted => match start_work(alloc, service, ctx, begun, credential) {
-            Ok((work, candidate)) => {
-                poll_work(alloc, service, ctx, begun, credential, work, candidate)
+        WorkState::Unstarted(candidate) => {
+            match service.sign_request(alloc, ctx, credential, begun.expires_in) {
+                Ok(work) => poll_work(alloc, service, ctx, begun, credential, work, candidate),
+                Err(_) => WorkAnswer::OutOfMemory(WorkState::Unstarted(candidate)),
             }
-            Err(_) => WorkAnswer::OutOfMemory(WorkState::Unstarted),
-        },
+        }
     }
-}
-
-fn start_work<S: SignRequest>(
-    alloc: Global,
-    service: &S,
-    ctx: &S::Ctx,
-    begun: &BegunCall<Head>,
-    credential: &S::Credential,
-) -> Result<(S::Work, Head), NoMemory<()>>
-    ensures work { IfOk result (λ r.
-        (service_meaning S.SignRequest.own service.now ctx.now begun.now credential.now).started r.0) }
-    ensures candidate { IfOk result (λ r. r.1 ≡ begun.now.head) }
-{
-    let candidate = begun.head.try_clone(alloc)?;
-    let work = service.sign_request(alloc, ctx, credential, begun.expires_in)?;
-    Ok((work, candidate))
 }
 
 // The call and its credential are seen by the contract alone.

@@ -46,6 +46,7 @@ where
     requires loads { loader_of desk.old begun.now.id.handle ≡ Some (loader_for objects.now.providers.now) }
     requires made { IsMadeFor (record {
       policy = policy_of P.Credential.valid P.Credential.valid_at S.deadline;
+      clones_freely = P.Credential.clones_freely;
       meanings = meanings_of P.ProvideCredential S.SignRequest.own;
       objects = objects.now;
       begun = begun.now;
@@ -53,6 +54,7 @@ where
     }) desk.old state }
     ensures { IsStepTaken (record {
       policy = policy_of P.Credential.valid P.Credential.valid_at S.deadline;
+      clones_freely = P.Credential.clones_freely;
       meanings = meanings_of P.ProvideCredential S.SignRequest.own;
       objects = objects.now;
       begun = begun.now;
@@ -61,9 +63,9 @@ where
         (record { old = desk.old; new = desk.new; before = req.old; after = req.new }) result }
 {
     match state {
-        SignState::Waiting => after_poll(poll_call(desk, begun, now)),
-        SignState::Loading(provider, load) => {
-            step_loading(desk, objects, begun, now, provider, load)
+        SignState::Waiting(candidate) => after_poll(candidate, poll_call(desk, begun, now)),
+        SignState::Loading(candidate, provider, load) => {
+            step_loading(desk, objects, begun, now, candidate, provider, load)
         }
         SignState::Signing(credential, work) => {
             step_signing(desk, objects, begun, now, credential, work, req)
@@ -77,6 +79,7 @@ fn step_loading<P, S>(
     objects: &CallObjects<'_, P, P::Ctx>,
     begun: &BegunCall<Head>,
     now: Timestamp,
+    candidate: Head,
     provider: u32,
     load: LoadState<P::Credential, P::Load>,
 ) -> StepTaken<P::Credential, P::Load, S::Work>
@@ -88,38 +91,43 @@ where
     requires loads { loader_of desk.old begun.now.id.handle ≡ Some (loader_for objects.now.providers.now) }
     requires made { IsMadeFor (record {
       policy = policy_of P.Credential.valid P.Credential.valid_at S.deadline;
+      clones_freely = P.Credential.clones_freely;
       meanings = meanings_of P.ProvideCredential S.SignRequest.own;
       objects = objects.now;
       begun = begun.now;
       now = now;
-    }) desk.old (Loading provider load) }
+    }) desk.old (Loading candidate provider load) }
     ensures { (request : Parts) → IsStepTaken (record {
       policy = policy_of P.Credential.valid P.Credential.valid_at S.deadline;
+      clones_freely = P.Credential.clones_freely;
       meanings = meanings_of P.ProvideCredential S.SignRequest.own;
       objects = objects.now;
       begun = begun.now;
       now = now;
-    }) (Loading provider load)
+    }) (Loading candidate provider load)
         (record { old = desk.old; new = desk.new; before = request; after = request }) result }
 {
     let asked = provider_at(objects.providers, provider).unwrap();
     match poll_provider(objects.alloc, asked, objects.ctx, load) {
         LoadAnswer::Pending(load) => {
-            let state = SignState::Loading(provider, LoadState::Started(load));
+            let state = SignState::Loading(candidate, provider, LoadState::Started(load));
             StepTaken::over(StepEnd::Pending(state))
         }
         LoadAnswer::OutOfMemory(load) => {
-            StepTaken::over(StepEnd::OutOfMemory(SignState::Loading(provider, load)))
+            let state = SignState::Loading(candidate, provider, load);
+            StepTaken::over(StepEnd::OutOfMemory(state))
         }
         LoadAnswer::Found(credential) => {
             let (reply, found) = give_found(desk, begun, provider, now, credential);
-            after_found(provider, found, reply)
+            after_found(candidate, provider, found, reply)
         }
         LoadAnswer::Missing => {
-            after_none(Refusal::Missing, give_missing(desk, begun, provider, now))
+            let reply = give_missing(desk, begun, provider, now);
+            after_none(candidate, Refusal::Missing, reply)
         }
         LoadAnswer::Failed(e) => {
-            after_none(Refusal::Loader(e), give_failed(desk, begun, provider, now))
+            let reply = give_failed(desk, begun, provider, now);
+            after_none(candidate, Refusal::Loader(e), reply)
         }
     }
 }
@@ -141,6 +149,7 @@ where
     requires there { IsSome (service_of desk.old begun.now.id.handle) }
     requires made { IsMadeFor (record {
       policy = policy_of P.Credential.valid P.Credential.valid_at S.deadline;
+      clones_freely = P.Credential.clones_freely;
       meanings = meanings_of P.ProvideCredential S.SignRequest.own;
       objects = objects.now;
       begun = begun.now;
@@ -148,6 +157,7 @@ where
     }) desk.old (Signing credential work) }
     ensures { IsStepTaken (record {
       policy = policy_of P.Credential.valid P.Credential.valid_at S.deadline;
+      clones_freely = P.Credential.clones_freely;
       meanings = meanings_of P.ProvideCredential S.SignRequest.own;
       objects = objects.now;
       begun = begun.now;
@@ -198,6 +208,7 @@ where
     requires there { IsSome (service_of desk.old begun.now.id.handle) }
     requires made { IsMadeFor (record {
       policy = policy_of P.Credential.valid P.Credential.valid_at S.deadline;
+      clones_freely = P.Credential.clones_freely;
       meanings = meanings_of P.ProvideCredential S.SignRequest.own;
       objects = objects.now;
       begun = begun.now;
@@ -205,6 +216,7 @@ where
     }) desk.old (Signing credential (work_state.Signed candidate)) }
     ensures { (work : WorkState S.Work) → KeepsWork work (work_state.Signed candidate) → IsStepTaken (record {
       policy = policy_of P.Credential.valid P.Credential.valid_at S.deadline;
+      clones_freely = P.Credential.clones_freely;
       meanings = meanings_of P.ProvideCredential S.SignRequest.own;
       objects = objects.now;
       begun = begun.now;

@@ -1,5 +1,5 @@
 //! The URI and the headers of a head that a service signed, and how they get into the request.
-ghost use Rattle.std.specs.Prelude.{◌≡◌, ◌⊎◌, None, Some, IfOk, IfErr, IfSome, IsSome, slice_get};
+ghost use Rattle.std.specs.Prelude.{◌≡◌, ◌⊎◌, None, Some, OnOk, IfOk, IfErr, IfSome, IsSome, slice_get};
 ghost use Rattle.sequential_signer.specs.Policy.{policy_of};
 ghost use Rattle.sign_request.specs.PlainHead.{RefusesTarget};
 ghost use Rattle.sign_request.specs.Refusal.{IsOutOfMemory, RefusedAs};
@@ -21,6 +21,7 @@ use std::alloc::Global;
 /// `RequestInvalid` where `http` does not accept them.
 pub(crate) fn target_of(alloc: Global, candidate: &Head, keys: HeaderKeys) -> Result<Parts, Error>
     ensures ok { IfOk result (IsTargetOf candidate.now) }
+    ensures accepted { OnOk result (¬ (RefusesTarget candidate.now)) }
     ensures err { IfErr result (λ e. IsOutOfMemory e ⊎ RefusedAs (RefusesTarget candidate.now) e) }
 {
     let mut target = Parts::new(alloc);
@@ -42,15 +43,17 @@ pub(crate) fn hand_in<K: SigningCredential, D: DeadlineRule<Credential = K>>(
     requires target { IsTargetOf candidate target }
     ensures done { result ≡ None → IsHandedIn (policy_of K.valid K.valid_at D.deadline) begun.now.id candidate
         (record { old = desk.old; new = desk.new; before = req.old; after = req.new }) }
-    ensures kept { IfSome result (λ head. IsKept candidate head (record { old = desk.old; new = desk.new; before = req.old; after = req.new })) }
+    ensures kept { IfSome result (λ head. IsKept (policy_of K.valid K.valid_at D.deadline) begun.now candidate head
+        (record { old = desk.old; new = desk.new; before = req.old; after = req.new })) }
     ensures others { LeavesOthers begun.now.id desk.old desk.new }
 {
-    match give_accepted(desk, begun, candidate) {
-        (Reply::Done { .. }, _) => {
+    let (reply, back) = give_accepted(desk, begun, candidate);
+    match reply {
+        Reply::Done { .. } => {
             req.uri = target.uri;
             req.headers = target.headers;
             None
         }
-        (_, candidate) => Some(candidate),
+        _ => Some(back),
     }
 }

@@ -9,7 +9,7 @@ use Rattle.granter.proofs.drive_call.drive.Given as goal
 -- the poll is under way, with the objects and of the call that it began with
 abbrev pub invariant-loop-next : goal.invariant-loop-next
 invariant-loop-next g l =
-    let d : Driving g.row.P.Denot g.row.G.Denot g.row.P-Credential.Denot g.row.P-Ctx.Denot g.row.P-Load.Denot g.row.G-Work.Denot = record { policy = policy_of g.P.Credential.SigningCredential.valid g.P.Credential.SigningCredential.valid_at g.G.DeadlineRule.deadline; meanings = meanings_of g.P.ProvideCredential g.G.GrantCredential; objects = l.fn.objects; begun = l.fn.grant.begun; now = l.fn.now } in
+    let d : Driving g.row.P.Denot g.row.G.Denot g.row.P-Credential.Denot g.row.P-Ctx.Denot g.row.P-Load.Denot g.row.G-Work.Denot = record { policy = policy_of g.P.Credential.SigningCredential.valid g.P.Credential.SigningCredential.valid_at g.G.DeadlineRule.deadline; clones_freely = g.P.Credential.SigningCredential.clones_freely; meanings = meanings_of g.P.ProvideCredential g.G.GrantCredential; objects = l.fn.objects; begun = l.fn.grant.begun; now = l.fn.now } in
     Underway d (record { state = l.fn.grant.state; desk = l.fn.desk }) (record { state = l.state; desk = l.desk })
 
 -- the most steps that it can still make

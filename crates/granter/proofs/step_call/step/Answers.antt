@@ -19,15 +19,15 @@ poll_call-requires-clause-there g c = handle-there _ (slice_get c.args.desk.now.
 
 pub poll_call-requires-clause-unpolled : goal.poll_call-requires-clause-unpolled
 poll_call-requires-clause-unpolled g c =
-    let d : Driving g.row.P.Denot g.row.G.Denot g.row.P-Credential.Denot g.row.P-Ctx.Denot g.row.P-Load.Denot g.row.G-Work.Denot = record { policy = policy_of g.P.Credential.SigningCredential.valid g.P.Credential.SigningCredential.valid_at g.G.DeadlineRule.deadline; meanings = meanings_of g.P.ProvideCredential g.G.GrantCredential; objects = c.args.objects.now; begun = c.args.begun.now; now = c.args.now } in
+    let d : Driving g.row.P.Denot g.row.G.Denot g.row.P-Credential.Denot g.row.P-Ctx.Denot g.row.P-Load.Denot g.row.G-Work.Denot = record { policy = policy_of g.P.Credential.SigningCredential.valid g.P.Credential.SigningCredential.valid_at g.G.DeadlineRule.deadline; clones_freely = g.P.Credential.SigningCredential.clones_freely; meanings = meanings_of g.P.ProvideCredential g.G.GrantCredential; objects = c.args.objects.now; begun = c.args.begun.now; now = c.args.now } in
     for-service (service_of c.args.desk.now c.args.begun.now.id.handle) (IsUnpolled c.args.begun.now c.args.desk.now) c.requires.there
     (λ service is. subst (IsMadeFor d c.args.desk.now) c.in-Waiting.is c.requires.made service is)
 
 pub returns-in-Waiting : goal.returns-in-Waiting
 returns-in-Waiting g c = λ service is.
-    let d : Driving g.row.P.Denot g.row.G.Denot g.row.P-Credential.Denot g.row.P-Ctx.Denot g.row.P-Load.Denot g.row.G-Work.Denot = record { policy = policy_of g.P.Credential.SigningCredential.valid g.P.Credential.SigningCredential.valid_at g.G.DeadlineRule.deadline; meanings = meanings_of g.P.ProvideCredential g.G.GrantCredential; objects = c.args.objects.now; begun = c.args.begun.now; now = c.args.now } in
+    let d : Driving g.row.P.Denot g.row.G.Denot g.row.P-Credential.Denot g.row.P-Ctx.Denot g.row.P-Load.Denot g.row.G-Work.Denot = record { policy = policy_of g.P.Credential.SigningCredential.valid g.P.Credential.SigningCredential.valid_at g.G.DeadlineRule.deadline; clones_freely = g.P.Credential.SigningCredential.clones_freely; meanings = meanings_of g.P.ProvideCredential g.G.GrantCredential; objects = c.args.objects.now; begun = c.args.begun.now; now = c.args.now } in
     let change : StepChange g.row.P-Credential.Denot g.row.G.Denot = record { old = c.args.desk.now; new = c.poll_call.new.desk } in
     let v = call_with d service in
     subst (λ s. IsTaken v s change c.after_poll.result) (sym c.in-Waiting.is)
     (subst (IsTaken v Waiting change) (sym c.after_poll.ensures)
-    (poll-taken v change c.poll_call.result (subst (IsMadeFor d c.args.desk.now) c.in-Waiting.is c.requires.made service is) c.poll_call.ensures.step c.poll_call.ensures.after c.poll_call.ensures.others))
+    (poll-taken v change c.poll_call.result (subst (IsMadeFor d c.args.desk.now) c.in-Waiting.is c.requires.made service is) c.poll_call.ensures.step c.poll_call.ensures.memory c.poll_call.ensures.after c.poll_call.ensures.others))

@@ -1,29 +1,24 @@
-use Rattle.std.proofs.Common.{◌≡◌, ◌⊎◌, inl, inr, refl, sym, subst, ap, ◌∙◌, IfSome}
+use Rattle.std.proofs.Common.{◌≡◌, ◌⊎◌, inl, inr, refl, sym, subst, ap, ◌∙◌, IfSome, None}
 use Rattle.sequential_signer.specs.Policy.{policy_of}
 use Rattle.sign_base.specs.Error.{ErrorParts}
-use Rattle.sign_base.specs.declared.error_kind.ErrorKind.TheVariants.{OutOfMemory}
+use Rattle.sign_base.specs.declared.error_kind.ErrorKind.TheVariants as kind
 use Rattle.sign_base.specs.declared.head.Head.{Head}
 use Rattle.sign_request.specs.Refusal.{IsOutOfMemory}
-use Rattle.credentials.specs.declared.polled.Polled.TheVariants as polled
 use Rattle.desk_parts.specs.CallAt.{IsSigning}
 use Rattle.signer.specs.Driving.{Driving, call_with}
-use Rattle.signer.specs.ObjectAnswer.{KeepsWork}
 use Rattle.signer.specs.PollStep.{StepChange, IsTaken}
 use Rattle.signer.specs.SignerObjects.{meanings_of, service_of}
 use Rattle.signer.specs.Target.{IsKept}
 use Rattle.signer.specs.declared.sign.SignState.TheVariants.{Signing}
-use Rattle.signer.specs.declared.sign.WorkState.{WorkState}
 use Rattle.signer.specs.declared.sign.WorkState.TheVariants as work
+use Rattle.signer.specs.declared.went.StepEnd.TheVariants.{OutOfMemory}
+use Rattle.signer.specs.declared.went.Went.TheVariants.{Over}
 use Rattle.signer.proofs.ObjectMeanings.{for-service}
-use Rattle.signer.proofs.StepsTaken.{work-without-memory, rejected-taken, done-taken, fails-by-target}
+use Rattle.signer.proofs.StepsTaken.{crossing-without-memory, accepted-without-memory, rejected-taken, done-taken, fails-by-target}
 use Rattle.signer.proofs.step_call.accept.Goals as goal
 
--- the head that came back is kept as the one that was handed in
-keeps-same : {W : Type 0} (w : WorkState W) (candidate head : Head) → head ≡ candidate → KeepsWork w (work.Signed candidate) → KeepsWork w (work.Signed head)
-keeps-same w candidate head back keeps = subst (λ h. KeepsWork w (work.Signed h)) (sym back) keeps
-
 -- an error of another kind is a refusal
-refused-as : {R : Type 0} (e : ErrorParts) → (e.kind ≡ OutOfMemory → ⊥) → IsOutOfMemory e ⊎ R → R
+refused-as : {R : Type 0} (e : ErrorParts) → (e.kind ≡ kind.OutOfMemory → ⊥) → IsOutOfMemory e ⊎ R → R
 refused-as e apart (inl o) = absurd (apart (ap (λ (x : ErrorParts). x.kind) o))
 refused-as e apart (inr r) = r
 
@@ -35,34 +30,34 @@ give_rejected-requires-clause-signing g c = for-service (service_of c.args.desk.
 
 pub returns-in-None : goal.returns-in-None
 returns-in-None g c = λ w keeps service is.
-    let d : Driving g.row.P.Denot g.row.S.Denot g.row.P-Credential.Denot g.row.P-Ctx.Denot g.row.P-Load.Denot g.row.S-Work.Denot = record { policy = policy_of g.P.Credential.SigningCredential.valid g.P.Credential.SigningCredential.valid_at g.S.DeadlineRule.deadline; meanings = meanings_of g.P.ProvideCredential g.S.SignRequest; objects = c.args.objects.now; begun = c.args.begun.now; now = c.args._now } in
+    let d : Driving g.row.P.Denot g.row.S.Denot g.row.P-Credential.Denot g.row.P-Ctx.Denot g.row.P-Load.Denot g.row.S-Work.Denot = record { policy = policy_of g.P.Credential.SigningCredential.valid g.P.Credential.SigningCredential.valid_at g.S.DeadlineRule.deadline; clones_freely = g.P.Credential.SigningCredential.clones_freely; meanings = meanings_of g.P.ProvideCredential g.S.SignRequest; objects = c.args.objects.now; begun = c.args.begun.now; now = c.args._now } in
     let change : StepChange g.row.P-Credential.Denot g.row.S.Denot = record { old = c.args.desk.now; new = c.hand_in.new.desk; before = c.args.req.now; after = c.hand_in.new.req } in
     let v = call_with d service in
     let handed = c.hand_in.ensures.done c.in-None.is in
     subst (IsTaken v (Signing c.args.credential w) change) (sym c.over.ensures)
-    (done-taken v change c.args.credential w c.args.candidate handed.head handed.commits (c.requires.made service is).1 keeps handed.step c.hand_in.ensures.others)
+    (done-taken v change c.args.credential w c.args.candidate (c.requires.made service is).1 keeps handed.head handed.commits c.in-Ok.ensures.accepted handed.step c.hand_in.ensures.others)
 
 pub returns-in-Some : goal.returns-in-Some
 returns-in-Some g c = λ w keeps service is.
-    let d : Driving g.row.P.Denot g.row.S.Denot g.row.P-Credential.Denot g.row.P-Ctx.Denot g.row.P-Load.Denot g.row.S-Work.Denot = record { policy = policy_of g.P.Credential.SigningCredential.valid g.P.Credential.SigningCredential.valid_at g.S.DeadlineRule.deadline; meanings = meanings_of g.P.ProvideCredential g.S.SignRequest; objects = c.args.objects.now; begun = c.args.begun.now; now = c.args._now } in
+    let d : Driving g.row.P.Denot g.row.S.Denot g.row.P-Credential.Denot g.row.P-Ctx.Denot g.row.P-Load.Denot g.row.S-Work.Denot = record { policy = policy_of g.P.Credential.SigningCredential.valid g.P.Credential.SigningCredential.valid_at g.S.DeadlineRule.deadline; clones_freely = g.P.Credential.SigningCredential.clones_freely; meanings = meanings_of g.P.ProvideCredential g.S.SignRequest; objects = c.args.objects.now; begun = c.args.begun.now; now = c.args._now } in
     let change : StepChange g.row.P-Credential.Denot g.row.S.Denot = record { old = c.args.desk.now; new = c.hand_in.new.desk; before = c.args.req.now; after = c.hand_in.new.req } in
     let v = call_with d service in
-    let kept : IsKept c.args.candidate c.in-Some.candidate change = subst (λ o. IfSome o (λ (head : Head). IsKept c.args.candidate head change)) c.in-Some.is c.hand_in.ensures.kept in
-    let gives = subst (λ (head : Head). v.meaning.work_gives c.args.credential (record { answer = polled.Ready tt; candidate = head })) (sym kept.back) (c.requires.made service is).1 in
+    let kept : IsKept d.policy c.args.begun.now c.args.candidate c.in-Some.candidate change = subst (λ o. IfSome o (λ (head : Head). IsKept d.policy c.args.begun.now c.args.candidate head change)) c.in-Some.is c.hand_in.ensures.kept in
     subst (IsTaken v (Signing c.args.credential w) change) (sym c.keep.ensures)
-    (work-without-memory v change c.args.credential w (work.Signed c.in-Some.candidate) kept.request kept.desk (c.requires.made service is).0 gives (keeps-same w c.args.candidate c.in-Some.candidate kept.back keeps))
+    (subst (λ (head : Head). IsTaken v (Signing c.args.credential w) change (record { went = Over (OutOfMemory (Signing c.args.credential (work.Signed head))); wake = None })) (sym kept.back)
+    (accepted-without-memory v change c.args.credential w c.args.candidate (c.requires.made service is).1 keeps kept.request kept.signing kept.step c.hand_in.ensures.others))
 
 pub returns-in-OutOfMemory : goal.returns-in-OutOfMemory
 returns-in-OutOfMemory g c = λ w keeps service is.
-    let d : Driving g.row.P.Denot g.row.S.Denot g.row.P-Credential.Denot g.row.P-Ctx.Denot g.row.P-Load.Denot g.row.S-Work.Denot = record { policy = policy_of g.P.Credential.SigningCredential.valid g.P.Credential.SigningCredential.valid_at g.S.DeadlineRule.deadline; meanings = meanings_of g.P.ProvideCredential g.S.SignRequest; objects = c.args.objects.now; begun = c.args.begun.now; now = c.args._now } in
+    let d : Driving g.row.P.Denot g.row.S.Denot g.row.P-Credential.Denot g.row.P-Ctx.Denot g.row.P-Load.Denot g.row.S-Work.Denot = record { policy = policy_of g.P.Credential.SigningCredential.valid g.P.Credential.SigningCredential.valid_at g.S.DeadlineRule.deadline; clones_freely = g.P.Credential.SigningCredential.clones_freely; meanings = meanings_of g.P.ProvideCredential g.S.SignRequest; objects = c.args.objects.now; begun = c.args.begun.now; now = c.args._now } in
     let change : StepChange g.row.P-Credential.Denot g.row.S.Denot = record { old = c.args.desk.now; new = c.args.desk.now; before = c.args.req.now; after = c.args.req.now } in
     let v = call_with d service in
     subst (IsTaken v (Signing c.args.credential w) change) (sym c.keep-in-OutOfMemory.ensures)
-    (work-without-memory v change c.args.credential w (work.Signed c.args.candidate) refl refl (c.requires.made service is).0 (c.requires.made service is).1 keeps)
+    (crossing-without-memory v change c.args.credential w c.args.candidate (c.requires.made service is).1 keeps refl refl (c.requires.made service is).0)
 
 pub returns-in_default : goal.returns-in_default
 returns-in_default g c = λ w keeps service is.
-    let d : Driving g.row.P.Denot g.row.S.Denot g.row.P-Credential.Denot g.row.P-Ctx.Denot g.row.P-Load.Denot g.row.S-Work.Denot = record { policy = policy_of g.P.Credential.SigningCredential.valid g.P.Credential.SigningCredential.valid_at g.S.DeadlineRule.deadline; meanings = meanings_of g.P.ProvideCredential g.S.SignRequest; objects = c.args.objects.now; begun = c.args.begun.now; now = c.args._now } in
+    let d : Driving g.row.P.Denot g.row.S.Denot g.row.P-Credential.Denot g.row.P-Ctx.Denot g.row.P-Load.Denot g.row.S-Work.Denot = record { policy = policy_of g.P.Credential.SigningCredential.valid g.P.Credential.SigningCredential.valid_at g.S.DeadlineRule.deadline; clones_freely = g.P.Credential.SigningCredential.clones_freely; meanings = meanings_of g.P.ProvideCredential g.S.SignRequest; objects = c.args.objects.now; begun = c.args.begun.now; now = c.args._now } in
     let change : StepChange g.row.P-Credential.Denot g.row.S.Denot = record { old = c.args.desk.now; new = c.give_rejected.new.desk; before = c.args.req.now; after = c.args.req.now } in
     let v = call_with d service in
     subst (IsTaken v (Signing c.args.credential w) change) (sym c.refused.ensures)

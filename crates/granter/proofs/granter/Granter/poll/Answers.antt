@@ -74,14 +74,14 @@ returns-clause-poll g c = λ o is.
     let providers : c.index.result.now ≡ o.providers = index-is c.self.inside.providers.items c.index-provider_place.result.now h.provider_place o.providers c.index.result.now c.index.result.now h.providers_is from c.index.ensures in
     let place : c.index-place.result.now ≡ h.place = index-is c.self.inside.context_places.items handle handle h.place c.index-place.result.now c.index-place.result.now h.place_is refl c.index-place.ensures in
     let ctx : c.index-2.result.now ≡ o.ctx = index-is c.self.inside.contexts.items c.index-place.result.now h.place o.ctx c.index-2.result.now c.index-2.result.now h.ctx_is place c.index-2.ensures in
-    let by_ctx = subst (λ x. IsDriven (polled_call policy m (let q : Objects g.row.P.Denot g.row.G.Denot g.row.P-Ctx.Denot = record { providers = c.index.result.now; ctx = x; service = o.service } in q) c.args.grant.begun c.args.now) c.args.grant.state s.desk c.drive.new.desk c.drive.result) ctx
+    let by_ctx = subst (λ x. IsDriven (polled_call policy g.P.Credential.SigningCredential.clones_freely m (let q : Objects g.row.P.Denot g.row.G.Denot g.row.P-Ctx.Denot = record { providers = c.index.result.now; ctx = x; service = o.service } in q) c.args.grant.begun c.args.now) c.args.grant.state s.desk c.drive.new.desk c.drive.result) ctx
     (c.drive.ensures o.service (serves-by s handle o h)) in
-    let by_all = subst (λ p. IsDriven (polled_call policy m (let q : Objects g.row.P.Denot g.row.G.Denot g.row.P-Ctx.Denot = record { providers = p; ctx = o.ctx; service = o.service } in q) c.args.grant.begun c.args.now) c.args.grant.state s.desk c.drive.new.desk c.drive.result) providers by_ctx in
-    let poll : IsGrantPoll (polled_call policy m o c.args.grant.begun c.args.now) c.args.grant.state s.desk c.drive.new.desk c.drive.result = record {
+    let by_all = subst (λ p. IsDriven (polled_call policy g.P.Credential.SigningCredential.clones_freely m (let q : Objects g.row.P.Denot g.row.G.Denot g.row.P-Ctx.Denot = record { providers = p; ctx = o.ctx; service = o.service } in q) c.args.grant.begun c.args.now) c.args.grant.state s.desk c.drive.new.desk c.drive.result) providers by_ctx in
+    let poll : IsGrantPoll (polled_call policy g.P.Credential.SigningCredential.clones_freely m o c.args.grant.begun c.args.now) c.args.grant.state s.desk c.drive.new.desk c.drive.result = record {
       driven = by_all;
-      represents = λ entries stood. course-represents (polled_call policy m o c.args.grant.begun c.args.now) c.args.grant.state s.desk c.drive.new.desk by_all.run by_all.course entries stood;
+      represents = λ entries stood. course-represents (polled_call policy g.P.Credential.SigningCredential.clones_freely m o c.args.grant.begun c.args.now) c.args.grant.state s.desk c.drive.new.desk by_all.run by_all.course entries stood;
     } in
-    subst (λ (x : GranterState g.row.P.Denot g.row.G.Denot g.row.P-Credential.Denot g.row.P-Ctx.Denot). IsGrantPoll (polled_call policy m o c.args.grant.begun c.args.now) c.args.grant.state x.desk c.drive.new.desk c.drive.result) c.self.view_is poll
+    subst (λ (x : GranterState g.row.P.Denot g.row.G.Denot g.row.P-Credential.Denot g.row.P-Ctx.Denot). IsGrantPoll (polled_call policy g.P.Credential.SigningCredential.clones_freely m o c.args.grant.begun c.args.now) c.args.grant.state x.desk c.drive.new.desk c.drive.result) c.self.view_is poll
 
 pub returns-clause-made : goal.returns-clause-made
 returns-clause-made g c =
@@ -99,9 +99,9 @@ returns-clause-made g c =
     let providers : c.index.result.now ≡ o.providers = index-is c.self.inside.providers.items c.index-provider_place.result.now h.provider_place o.providers c.index.result.now c.index.result.now h.providers_is from c.index.ensures in
     let place : c.index-place.result.now ≡ h.place = index-is c.self.inside.context_places.items handle handle h.place c.index-place.result.now c.index-place.result.now h.place_is refl c.index-place.ensures in
     let ctx : c.index-2.result.now ≡ o.ctx = index-is c.self.inside.contexts.items c.index-place.result.now h.place o.ctx c.index-2.result.now c.index-2.result.now h.ctx_is place c.index-2.ensures in
-    let by_ctx = subst (λ x. IsDriven (polled_call policy m (let q : Objects g.row.P.Denot g.row.G.Denot g.row.P-Ctx.Denot = record { providers = c.index.result.now; ctx = x; service = o.service } in q) c.args.grant.begun c.args.now) c.args.grant.state s.desk c.drive.new.desk c.drive.result) ctx
+    let by_ctx = subst (λ x. IsDriven (polled_call policy g.P.Credential.SigningCredential.clones_freely m (let q : Objects g.row.P.Denot g.row.G.Denot g.row.P-Ctx.Denot = record { providers = c.index.result.now; ctx = x; service = o.service } in q) c.args.grant.begun c.args.now) c.args.grant.state s.desk c.drive.new.desk c.drive.result) ctx
     (c.drive.ensures o.service (serves-by s handle o h)) in
-    let by_all = subst (λ p. IsDriven (polled_call policy m (let q : Objects g.row.P.Denot g.row.G.Denot g.row.P-Ctx.Denot = record { providers = p; ctx = o.ctx; service = o.service } in q) c.args.grant.begun c.args.now) c.args.grant.state s.desk c.drive.new.desk c.drive.result) providers by_ctx in
+    let by_all = subst (λ p. IsDriven (polled_call policy g.P.Credential.SigningCredential.clones_freely m (let q : Objects g.row.P.Denot g.row.G.Denot g.row.P-Ctx.Denot = record { providers = p; ctx = o.ctx; service = o.service } in q) c.args.grant.begun c.args.now) c.args.grant.state s.desk c.drive.new.desk c.drive.result) providers by_ctx in
     answer-made m s c.drive.new.desk c.args.grant.begun o by_all.others is c.drive.result by_all.made)
 
 pub returns-clause-others : goal.returns-clause-others

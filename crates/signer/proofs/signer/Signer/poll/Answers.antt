@@ -72,14 +72,14 @@ returns-clause-poll g c = λ o is.
     let place : c.index-place.result.now ≡ h.place = index-is c.self.inside.context_places.items handle handle h.place c.index-place.result.now c.index-place.result.now h.place_is refl c.index-place.ensures in
     let ctx : c.index-2.result.now ≡ o.ctx = index-is c.self.inside.contexts.items c.index-place.result.now h.place o.ctx c.index-2.result.now c.index-2.result.now h.ctx_is place c.index-2.ensures in
     let outcome : PollOutcome g.row.P.Denot g.row.S.Denot g.row.P-Credential.Denot g.row.P-Ctx.Denot g.row.P-Load.Denot g.row.S-Work.Denot = record { poll = c.drive.result; before = c.args.req.now; after = c.drive.new.req } in
-    let by_ctx = subst (λ x. IsDriven (polled_call policy m (let q : Objects g.row.P.Denot g.row.S.Denot g.row.P-Ctx.Denot = record { providers = c.index.result.now; ctx = x; service = o.service } in q) c.args.sign.begun c.args.now) c.args.sign.state s.desk c.drive.new.desk outcome) ctx
+    let by_ctx = subst (λ x. IsDriven (polled_call policy g.P.Credential.SigningCredential.clones_freely m (let q : Objects g.row.P.Denot g.row.S.Denot g.row.P-Ctx.Denot = record { providers = c.index.result.now; ctx = x; service = o.service } in q) c.args.sign.begun c.args.now) c.args.sign.state s.desk c.drive.new.desk outcome) ctx
     (c.drive.ensures o.service (serves-by s handle o h)) in
-    let by_all = subst (λ p. IsDriven (polled_call policy m (let q : Objects g.row.P.Denot g.row.S.Denot g.row.P-Ctx.Denot = record { providers = p; ctx = o.ctx; service = o.service } in q) c.args.sign.begun c.args.now) c.args.sign.state s.desk c.drive.new.desk outcome) providers by_ctx in
-    let poll : IsPoll (polled_call policy m o c.args.sign.begun c.args.now) c.args.sign.state s.desk c.drive.new.desk outcome = record {
+    let by_all = subst (λ p. IsDriven (polled_call policy g.P.Credential.SigningCredential.clones_freely m (let q : Objects g.row.P.Denot g.row.S.Denot g.row.P-Ctx.Denot = record { providers = p; ctx = o.ctx; service = o.service } in q) c.args.sign.begun c.args.now) c.args.sign.state s.desk c.drive.new.desk outcome) providers by_ctx in
+    let poll : IsPoll (polled_call policy g.P.Credential.SigningCredential.clones_freely m o c.args.sign.begun c.args.now) c.args.sign.state s.desk c.drive.new.desk outcome = record {
       driven = by_all;
-      represents = λ entries stood. course-represents (polled_call policy m o c.args.sign.begun c.args.now) c.args.sign.state s.desk c.drive.new.desk by_all.run by_all.course entries stood;
+      represents = λ entries stood. course-represents (polled_call policy g.P.Credential.SigningCredential.clones_freely m o c.args.sign.begun c.args.now) c.args.sign.state s.desk c.drive.new.desk by_all.run by_all.course entries stood;
     } in
-    subst (λ (x : SignerState g.row.P.Denot g.row.S.Denot g.row.P-Credential.Denot g.row.P-Ctx.Denot). IsPoll (polled_call policy m o c.args.sign.begun c.args.now) c.args.sign.state x.desk c.drive.new.desk outcome) c.self.view_is poll
+    subst (λ (x : SignerState g.row.P.Denot g.row.S.Denot g.row.P-Credential.Denot g.row.P-Ctx.Denot). IsPoll (polled_call policy g.P.Credential.SigningCredential.clones_freely m o c.args.sign.begun c.args.now) c.args.sign.state x.desk c.drive.new.desk outcome) c.self.view_is poll
 
 pub returns-clause-made : goal.returns-clause-made
 returns-clause-made g c =
@@ -97,9 +97,9 @@ returns-clause-made g c =
     let place : c.index-place.result.now ≡ h.place = index-is c.self.inside.context_places.items handle handle h.place c.index-place.result.now c.index-place.result.now h.place_is refl c.index-place.ensures in
     let ctx : c.index-2.result.now ≡ o.ctx = index-is c.self.inside.contexts.items c.index-place.result.now h.place o.ctx c.index-2.result.now c.index-2.result.now h.ctx_is place c.index-2.ensures in
     let outcome : PollOutcome g.row.P.Denot g.row.S.Denot g.row.P-Credential.Denot g.row.P-Ctx.Denot g.row.P-Load.Denot g.row.S-Work.Denot = record { poll = c.drive.result; before = c.args.req.now; after = c.drive.new.req } in
-    let by_ctx = subst (λ x. IsDriven (polled_call policy m (let q : Objects g.row.P.Denot g.row.S.Denot g.row.P-Ctx.Denot = record { providers = c.index.result.now; ctx = x; service = o.service } in q) c.args.sign.begun c.args.now) c.args.sign.state s.desk c.drive.new.desk outcome) ctx
+    let by_ctx = subst (λ x. IsDriven (polled_call policy g.P.Credential.SigningCredential.clones_freely m (let q : Objects g.row.P.Denot g.row.S.Denot g.row.P-Ctx.Denot = record { providers = c.index.result.now; ctx = x; service = o.service } in q) c.args.sign.begun c.args.now) c.args.sign.state s.desk c.drive.new.desk outcome) ctx
     (c.drive.ensures o.service (serves-by s handle o h)) in
-    let by_all = subst (λ p. IsDriven (polled_call policy m (let q : Objects g.row.P.Denot g.row.S.Denot g.row.P-Ctx.Denot = record { providers = p; ctx = o.ctx; service = o.service } in q) c.args.sign.begun c.args.now) c.args.sign.state s.desk c.drive.new.desk outcome) providers by_ctx in
+    let by_all = subst (λ p. IsDriven (polled_call policy g.P.Credential.SigningCredential.clones_freely m (let q : Objects g.row.P.Denot g.row.S.Denot g.row.P-Ctx.Denot = record { providers = p; ctx = o.ctx; service = o.service } in q) c.args.sign.begun c.args.now) c.args.sign.state s.desk c.drive.new.desk outcome) providers by_ctx in
     answer-made m s c.drive.new.desk c.args.sign.begun o by_all.others is c.drive.result.answer by_all.made)
 
 pub returns-clause-others : goal.returns-clause-others

@@ -1,4 +1,4 @@
-use Rattle.std.proofs.Common.{◌<◌, ◌+◌, length, refl, sym, subst}
+use Rattle.std.proofs.Common.{◌<◌, ◌+◌, ◌∙◌, length, refl, sym, subst}
 use Rattle.sign_base.specs.declared.head.Head.{Head}
 use Rattle.sign_request.specs.PlainHead.{IsHeadOf}
 use Rattle.sequential_signer.specs.Policy.{policy_of}
@@ -38,6 +38,6 @@ returns-clause-ok g c =
     let step : IsStep policy (Begin begun.id begun.head begun.expires_in) s.desk Begun desk = subst (λ (h : Head). IsStep policy (Begin begun.id h begun.expires_in) s.desk Begun desk) (sym c.in_ok-head-2.ensures.back) c.in_ok-head-2.ensures.step in (
       refl,
       refl,
-      subst (λ (x : SignerState g.row.P.Denot g.row.S.Denot g.row.P-Credential.Denot g.row.P-Ctx.Denot). Begins m policy (record { old = x; new = record s { desk = desk; begun = s.begun + 1 } }) c.args.req.now (record { begun = begun; state = Waiting })) c.self.view_is
-          (begins m s c.self.invariant begun desk is policy there refl c.args.req.now head step),
+      subst (λ (x : SignerState g.row.P.Denot g.row.S.Denot g.row.P-Credential.Denot g.row.P-Ctx.Denot). Begins m policy (record { old = x; new = record s { desk = desk; begun = s.begun + 1 } }) c.args.req.now (record { begun = begun; state = Waiting c.in_ok-candidate.candidate })) c.self.view_is
+          (begins m s c.self.invariant begun desk is policy c.in_ok-candidate.candidate (c.in_ok-candidate.ensures ∙ sym c.in_ok-head-2.ensures.back) there refl c.args.req.now head step),
     )
