@@ -4,5 +4,3 @@
 pub mod hash;
 mod hmac;
 pub mod laws;
-#[cfg(test)]
-mod tests;

@@ -1,5 +1,5 @@
-//! What no clause of `sign_base`, `credentials` and `sign_request` says, as tests. They stand in a crate of
-//! their own, since a crate with tests is proved twice. Nothing stands on this crate.
+//! What no clause of the libraries below the desks says, as tests. They stand in a crate of their own,
+//! since a crate with tests is proved twice. Nothing stands on this crate.
 #![tactic(auto)]
 
 #[cfg(test)]
@@ -7,4 +7,14 @@ mod base_tests;
 #[cfg(test)]
 mod credentials_tests;
 #[cfg(test)]
+mod digests;
+#[cfg(test)]
+mod entries;
+#[cfg(test)]
+mod heads;
+#[cfg(test)]
+mod locks;
+#[cfg(test)]
 mod request_tests;
+#[cfg(test)]
+mod told;

@@ -9,6 +9,3 @@ pub mod grant_laws;
 
 pub use event::{Answer, Entry, Event, Loader, Reply, Verdict, Why};
 pub use grant_event::{GrantEntry, GrantEvent, GrantReply, GrantWhy, Made};
-
-#[cfg(test)]
-mod tests;

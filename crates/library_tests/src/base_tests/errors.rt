@@ -1,74 +1,213 @@
-//! Errors: their parts, their texts, and the kinds that they are made with.
-use super::{is_made, is_shown, is_text};
-use sign_base::{Error, ErrorKind};
+//! Errors: their parts, their texts, the kinds that they are made with, and what is kept of the errors of
+//! libraries and of the system.
+use crate::told::{Told, is_told, shown};
+use http_header::{HeaderNameError, HeaderValue, HeaderValueError};
+use http_uri::{Parts, Uri};
+use sign_base::{Error, ErrorKind, NoMemory};
 use std::alloc::Global;
-use std::process::Abort;
+use std::io;
+
+/// What an error is made of.
+#[derive(Clone, Copy)]
+enum Of {
+    CredentialInvalid,
+    RequestInvalid,
+    RateLimited,
+    Unexpected,
+    ConfigInvalid,
+    OutOfMemory,
+    Method,
+    HeaderValue,
+    HeaderName,
+    HeaderText,
+    Printing,
+    Text,
+    Uri,
+    UriParts,
+    System(io::ErrorKind),
+}
+
+/// Kind, whether it can be retried, and text of each error.
+static MADE: [(Of, &str); 20] = [
+    (Of::CredentialInvalid, "CredentialInvalid false x"),
+    (Of::RequestInvalid, "RequestInvalid false x"),
+    (Of::RateLimited, "RateLimited true x"),
+    (Of::Unexpected, "Unexpected false x"),
+    (Of::ConfigInvalid, "ConfigInvalid false x"),
+    (Of::OutOfMemory, "OutOfMemory false "),
+    (Of::Method, "RequestInvalid false invalid HTTP method"),
+    (
+        Of::HeaderValue,
+        "RequestInvalid false failed to parse header value",
+    ),
+    (
+        Of::HeaderName,
+        "RequestInvalid false invalid HTTP header name",
+    ),
+    (
+        Of::HeaderText,
+        "RequestInvalid false failed to convert header to a str",
+    ),
+    (
+        Of::Printing,
+        "Unexpected false an error occurred when formatting an argument",
+    ),
+    (
+        Of::Text,
+        "Unexpected false invalid utf-8 sequence of 1 bytes from index 0",
+    ),
+    (Of::Uri, "RequestInvalid false invalid uri character"),
+    (Of::UriParts, "RequestInvalid false scheme missing"),
+    (
+        Of::System(io::ErrorKind::NotFound),
+        "ConfigInvalid false the cause",
+    ),
+    (
+        Of::System(io::ErrorKind::PermissionDenied),
+        "PermissionDenied false the cause",
+    ),
+    (
+        Of::System(io::ErrorKind::TimedOut),
+        "Unexpected true the cause",
+    ),
+    (
+        Of::System(io::ErrorKind::Interrupted),
+        "Unexpected true the cause",
+    ),
+    (
+        Of::System(io::ErrorKind::ConnectionRefused),
+        "Unexpected true the cause",
+    ),
+    (
+        Of::System(io::ErrorKind::InvalidData),
+        "Unexpected false the cause",
+    ),
+];
+
+type Made = Result<Error, NoMemory<()>>;
+
+fn made(alloc: Global, of: Of) -> Made {
+    match of {
+        Of::CredentialInvalid => Error::credential_invalid(alloc, "x"),
+        Of::RequestInvalid => Error::request_invalid(alloc, "x"),
+        Of::RateLimited => Error::rate_limited(alloc, "x"),
+        Of::Unexpected => Error::unexpected(alloc, "x"),
+        Of::ConfigInvalid => Error::new(alloc, ErrorKind::ConfigInvalid, "x"),
+        Of::OutOfMemory => Ok(Error::out_of_memory()),
+        Of::Method => Error::from_http(alloc, &http::Error::Method),
+        Of::HeaderValue => Error::from_header_value(alloc, &HeaderValueError::Invalid),
+        Of::HeaderName => Error::from_header_name(alloc, &HeaderNameError::Invalid),
+        Of::HeaderText => of_header_text(alloc),
+        Of::Printing => Error::from_fmt(alloc, &std::fmt::Error),
+        Of::Text => of_text(alloc),
+        Of::Uri => of_uri(alloc, ": "),
+        Of::UriParts => of_uri_parts(alloc),
+        Of::System(cause) => Error::from_io(alloc, &io::Error::new(cause, "the cause")),
+    }
+}
+
+fn of_header_text(alloc: Global) -> Made {
+    let Ok(value) = HeaderValue::from_bytes(alloc, b"\xff") else {
+        return Ok(Error::out_of_memory());
+    };
+    match value.to_str() {
+        Ok(_) => Ok(Error::out_of_memory()),
+        Err(error) => Error::from_to_str(alloc, &error),
+    }
+}
+
+fn of_text(alloc: Global) -> Made {
+    match String::from_utf8(Vec::from_slice(alloc, b"\xff")?) {
+        Ok(_) => Ok(Error::out_of_memory()),
+        Err(error) => Error::from_utf8(alloc, &error),
+    }
+}
+
+fn of_uri(alloc: Global, text: &str) -> Made {
+    match Uri::from_str(alloc, text) {
+        Ok(_) => Ok(Error::out_of_memory()),
+        Err(error) => Error::from_uri(alloc, &error),
+    }
+}
+
+/// The error of a URI that is put together without its scheme.
+fn of_uri_parts(alloc: Global) -> Made {
+    let Ok(uri) = Uri::from_str(alloc, "https://e.x/a") else {
+        return Ok(Error::out_of_memory());
+    };
+    match Uri::from_parts(Parts {
+        scheme: None,
+        ..uri.into_parts()
+    }) {
+        Ok(_) => Ok(Error::out_of_memory()),
+        Err(error) => Error::from_uri_parts(alloc, &error),
+    }
+}
+
+fn told(alloc: Global, of: Of) -> Told {
+    let error = made(alloc, of)?;
+    let kind = error.kind();
+    let retryable = error.is_retryable();
+    Ok(format!(in alloc; "{kind:?} {retryable} {error}")?)
+}
+
+#[test]
+fn errors_keep_their_kind_and_their_text(rt: HostRuntime) {
+    for (of, wanted) in &MADE {
+        is_told(&rt, told(rt.alloc(), *of), *wanted);
+    }
+}
 
 /// The error with one text of context more.
-fn with_context(rt: &impl Abort, alloc: Global, error: Error, text: &str) -> Error {
-    error.with_context(alloc, text).expect(rt, "memory")
+fn with(alloc: Global, error: Error, text: &str) -> Made {
+    match error.with_context(alloc, text) {
+        Ok(error) => Ok(error),
+        Err(_) => Err(NoMemory { back: () }),
+    }
 }
 
-#[test]
-fn errors_carry_their_parts(rt: HostRuntime) {
-    let alloc = rt.alloc();
-    let denied = Error::permission_denied(alloc, "access denied").expect(&rt, "memory");
-    let denied = with_context(&rt, alloc, denied, "role: reader");
-    let denied = with_context(&rt, alloc, denied, "region: eu");
-    assert_eq!(rt; denied.kind(), ErrorKind::PermissionDenied);
-    let [first, second] = denied.context() else {
-        panic!(rt; "two texts");
+/// An error with two texts of context, and its parts.
+fn told_with_context(alloc: Global) -> Told {
+    let denied = Error::permission_denied(alloc, "access denied")?;
+    let denied = with(alloc, denied, "role: reader")?;
+    let denied = with(alloc, denied, "region: eu")?;
+    let kind = denied.kind();
+    let context = denied.context();
+    Ok(format!(in alloc; "{kind:?} {context:?}")?)
+}
+
+/// Whether an error that can be retried is one, and is not where that is set so.
+fn told_retryable(alloc: Global) -> Told {
+    let quota = Error::rate_limited(alloc, "quota exceeded")?;
+    let before = quota.is_retryable();
+    let after = quota.set_retryable(false).is_retryable();
+    Ok(format!(in alloc; "{before} {after}")?)
+}
+
+fn shown_config(alloc: Global) -> Told {
+    let config = Error::config_invalid(alloc, "missing region")?;
+    shown(alloc, &with(alloc, config, "file: ~/.aws/config")?)
+}
+
+const CONFIG: &str =
+    "Error { kind: ConfigInvalid, message: \"missing region\", context: [\"file: ~/.aws/config\"], retryable: false }";
+
+fn shown_with_source(alloc: Global) -> Told {
+    let Ok(caused) = Error::from_anyhow(alloc, anyhow::Error::msg("m")) else {
+        return Err(NoMemory { back: () });
     };
-    assert_eq!(rt;
-        (first.as_str(), second.as_str()),
-        ("role: reader", "region: eu")
-    );
+    let kind = caused.kind();
+    Ok(format!(in alloc; "{caused:?} {kind}: {caused}")?)
 }
 
-#[test]
-fn errors_may_be_retried_or_not(rt: HostRuntime) {
-    let quota = Error::rate_limited(rt.alloc(), "quota exceeded").expect(&rt, "memory");
-    assert!(rt; quota.is_retryable());
-    assert!(rt; !quota.set_retryable(false).is_retryable());
-}
+const WITH_SOURCE: &str =
+    "Error { kind: Unexpected, message: \"m\", source: m, retryable: false } unexpected error: m";
 
 #[test]
-fn errors_print(rt: HostRuntime) {
-    let config = Error::config_invalid(rt.alloc(), "missing region").expect(&rt, "memory");
-    let config = with_context(&rt, rt.alloc(), config, "file: ~/.aws/config");
-    let text =
-        "Error { kind: ConfigInvalid, message: \"missing region\", context: [\"file: ~/.aws/config\"], retryable: false }";
-    is_shown(&rt, rt.alloc(), &config, text);
-}
-
-#[test]
-fn errors_with_a_source_print(rt: HostRuntime) {
-    let alloc = rt.alloc();
-    let caused = Error::from_anyhow(alloc, anyhow::Error::msg("m")).expect(&rt, "memory");
-    let text = "Error { kind: Unexpected, message: \"m\", source: m, retryable: false }";
-    is_shown(&rt, alloc, &caused, text);
-    let shown = format!(in alloc; "{}: {caused}", caused.kind()).expect(&rt, "memory");
-    is_text(&rt, shown.as_str(), "unexpected error: m");
-}
-
-#[test]
-fn errors_are_made_with_their_kind(rt: HostRuntime) {
-    let alloc = rt.alloc();
-    let answer = Error::credential_invalid(alloc, "x");
-    is_made(
-        &rt,
-        alloc,
-        answer,
-        (ErrorKind::CredentialInvalid, false, "x"),
-    );
-    let answer = Error::request_invalid(alloc, "x");
-    is_made(&rt, alloc, answer, (ErrorKind::RequestInvalid, false, "x"));
-    let answer = Error::rate_limited(alloc, "x");
-    is_made(&rt, alloc, answer, (ErrorKind::RateLimited, true, "x"));
-    let answer = Error::unexpected(alloc, "x");
-    is_made(&rt, alloc, answer, (ErrorKind::Unexpected, false, "x"));
-    let answer = Error::new(alloc, ErrorKind::ConfigInvalid, "x");
-    is_made(&rt, alloc, answer, (ErrorKind::ConfigInvalid, false, "x"));
-    let answer = Ok(Error::out_of_memory());
-    is_made(&rt, alloc, answer, (ErrorKind::OutOfMemory, false, ""));
+fn errors_carry_their_parts_and_print(rt: HostRuntime) {
+    let parts = r#"PermissionDenied ["role: reader", "region: eu"]"#;
+    is_told(&rt, told_with_context(rt.alloc()), parts);
+    is_told(&rt, told_retryable(rt.alloc()), "true false");
+    is_told(&rt, shown_config(rt.alloc()), CONFIG);
+    is_told(&rt, shown_with_source(rt.alloc()), WITH_SOURCE);
 }

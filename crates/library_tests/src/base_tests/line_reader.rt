@@ -2,9 +2,9 @@
 //! read after a fault.
 ghost use Rattle.std.specs.Prelude.{◌<◌};
 
-use sign_base::{Failed, FaultySource, LineReader, MemorySource, Next, NoMemory, Source};
+use crate::told::{Told, is_told};
+use sign_base::{Failed, FaultySource, LineReader, MemorySource, Next, Source};
 use std::alloc::{AllocError, Global};
-use std::process::Abort;
 use std::str;
 
 /// Adds an answer to a text: a short line itself, a longer one as its number of bytes, each with a
@@ -13,7 +13,7 @@ fn push_answer(text: &mut String, answer: Next<'_>) -> Result<(), AllocError> {
     match answer {
         Next::Line(line) if line.len() < 9 => write!(text, "{}|", as_text(line)),
         Next::Line(line) => write!(text, "{}|", line.len()),
-        other => text.push_str(why(&other)),
+        other => write!(text, "{other:?}|"),
     }
 }
 
@@ -21,39 +21,22 @@ fn as_text(line: &[u8]) -> &str {
     str::from_utf8(line).unwrap_or("no text")
 }
 
-fn why(answer: &Next<'_>) -> &'static str {
-    match answer {
-        Next::Line(_) => "line",
-        Next::TooLong => "too long",
-        Next::TooMuch => "too much",
-        Next::End => "end",
-        Next::Fault => "fault",
-    }
-}
-
-/// The answers to a source, up to the first that is no line, which comes again; and how many bytes
-/// were taken.
-fn answers(alloc: Global, source: &mut FaultySource) -> Result<(String, u64), NoMemory<()>> {
-    let mut reader = LineReader::new(alloc)?;
+/// So many answers to a source.
+fn answers<S: Source>(alloc: Global, reader: &mut LineReader, source: &mut S, count: u32) -> Told {
     let mut text = String::new(alloc);
-    for _ in 0..2_000 {
+    for _ in 0..count {
         push_answer(&mut text, reader.next(source))?;
-        if !text.as_str().ends_with('|') {
-            text.push('|')?;
-            push_answer(&mut text, reader.next(source))?;
-            break;
-        }
     }
-    Ok((text, reader.taken()))
+    Ok(text)
 }
 
-/// Whether these are the answers to an input in pieces of this size.
-fn reads_as(rt: &impl Abort, alloc: Global, input: Vec<u8>, piece: usize, text: &str)
+/// The answers to an input in pieces of this size.
+fn answers_in_pieces(alloc: Global, input: Vec<u8>, piece: usize, count: u32) -> Told
     requires { 0 < piece }
 {
+    let mut reader = LineReader::new(alloc)?;
     let mut source = FaultySource::new(input, piece, Vec::new(alloc));
-    let (answers, _) = answers(alloc, &mut source).expect(rt, "memory");
-    assert_eq!(rt; answers.as_str(), text, "in pieces of {piece}");
+    answers(alloc, &mut reader, &mut source, count)
 }
 
 /// So many equal bytes, and then these.
@@ -63,41 +46,30 @@ fn repeated(alloc: Global, byte: u8, count: usize, end: &[u8]) -> Result<Vec<u8>
     Ok(bytes)
 }
 
-static SHORT_INPUTS: [(&[u8], &str); 7] = [
-    (b"", "end|end"),
-    (b"\n", "|end|end"),
-    (b"a", "a|end|end"),
-    (b"a\n", "a|end|end"),
-    (b"a\n\n", "a||end|end"),
-    (b"\nab\nc", "|ab|c|end|end"),
-    (b"ab\r\n0123456789\n", "ab\r|10|end|end"),
+/// So many letters `x`, the bytes behind them, and the first five answers.
+static INPUTS: [(usize, &[u8], &str); 13] = [
+    (0, b"", "End|End|End|End|End|"),
+    (0, b"\n", "|End|End|End|End|"),
+    (0, b"a", "a|End|End|End|End|"),
+    (0, b"a\n", "a|End|End|End|End|"),
+    (0, b"a\n\n", "a||End|End|End|"),
+    (0, b"\nab\nc", "|ab|c|End|End|"),
+    (0, b"ab\r\n0123456789\n", "ab\r|10|End|End|End|"),
+    (65_536, b"\n", "65536|End|End|End|End|"),
+    (65_536, b"", "65536|End|End|End|End|"),
+    (65_536, b"\nab\n", "65536|ab|End|End|End|"),
+    (65_537, b"\n", "TooLong|TooLong|TooLong|TooLong|TooLong|"),
+    (65_537, b"", "TooLong|TooLong|TooLong|TooLong|TooLong|"),
+    (200_000, b"\n", "TooLong|TooLong|TooLong|TooLong|TooLong|"),
 ];
 
+/// Lines end at newlines and at the end, and have at most 65,536 bytes.
 #[test]
-fn lines_end_at_newlines_and_at_the_end(rt: HostRuntime) {
-    for (input, text) in &SHORT_INPUTS {
-        for piece in [1, 2, 3, 4_096] {
-            let input = Vec::from_slice(rt.alloc(), *input).expect(&rt, "memory");
-            reads_as(&rt, rt.alloc(), input, piece, *text);
-        }
-    }
-}
-
-static LONG_LINES: [(usize, &[u8], &str); 6] = [
-    (65_536, b"\n", "65536|end|end"),
-    (65_536, b"", "65536|end|end"),
-    (65_536, b"\nab\n", "65536|ab|end|end"),
-    (65_537, b"\n", "too long|too long"),
-    (65_537, b"", "too long|too long"),
-    (200_000, b"\n", "too long|too long"),
-];
-
-#[test]
-fn lines_have_at_most_65_536_bytes(rt: HostRuntime) {
-    for (count, end, text) in &LONG_LINES {
-        for piece in [1, 4_096, 1_000_000] {
+fn inputs_are_read_in_lines(rt: HostRuntime) {
+    for (count, end, wanted) in &INPUTS {
+        for piece in [1, 2, 3, 4_096, 1_000_000] {
             let input = repeated(rt.alloc(), b'x', *count, *end).expect(&rt, "memory");
-            reads_as(&rt, rt.alloc(), input, piece, *text);
+            is_told(&rt, answers_in_pieces(rt.alloc(), input, piece, 5), *wanted);
         }
     }
 }
@@ -108,8 +80,7 @@ fn equal_bytes(answer: Next<'_>) -> Option<(usize, u8)> {
         return None;
     };
     let first = *line.first()?;
-    let is_equal = line.iter().all(|byte| *byte == first);
-    if is_equal {
+    if line.iter().all(|byte| *byte == first) {
         Some((line.len(), first))
     } else {
         None
@@ -132,41 +103,49 @@ fn lines_keep_their_bytes_as_the_buffer_moves(rt: HostRuntime) {
     let mut reader = LineReader::new(rt.alloc()).expect(&rt, "memory");
     for letter in b'a'..=b'z' {
         let answer = equal_bytes(reader.next(&mut source));
-        assert_eq!(rt; answer, Some((30_000, letter)));
+        assert!(rt; answer == Some((30_000, letter)));
     }
-    assert_eq!(rt; reader.taken(), 26 * 30_001);
+    assert!(rt; reader.taken() == 26 * 30_001);
 }
 
 /// Two short lines, a byte at a time, whose fifth read fails, and then the seventh.
-fn with_two_faults(alloc: Global) -> Option<FaultySource> {
-    let input = Vec::from_slice(alloc, b"ab\ncdef\n").ok()?;
-    let fails = Vec::from_array(alloc, [4, 6]).ok()?;
-    Some(FaultySource::new(input, 1, fails))
+fn with_two_faults(alloc: Global) -> Result<FaultySource, AllocError> {
+    let input = Vec::from_slice(alloc, b"ab\ncdef\n")?;
+    Ok(FaultySource::new(input, 1, Vec::from_array(alloc, [4, 6])?))
 }
 
-/// The fifth read fails inside the second line. Were there one more, the seventh would be next.
+/// The fifth read fails inside the second line. Were there one more, the seventh would be next: the
+/// source gives one byte more, and then fails.
 #[test]
 fn nothing_is_read_after_a_fault(rt: HostRuntime) {
     let mut source = with_two_faults(rt.alloc()).expect(&rt, "memory");
-    let (text, taken) = answers(rt.alloc(), &mut source).expect(&rt, "memory");
-    assert_eq!(rt; (text.as_str(), taken), ("ab|fault|fault", 4));
+    let mut reader = LineReader::new(rt.alloc()).expect(&rt, "memory");
+    is_told(
+        &rt,
+        answers(rt.alloc(), &mut reader, &mut source, 3),
+        "ab|Fault|Fault|",
+    );
     let mut buf = [0];
-    assert_eq!(rt; (source.read(&mut buf), buf[0]), (Ok(1), b'd'));
-    assert_eq!(rt; source.read(&mut buf), Err(Failed));
+    let first = source.read(&mut buf);
+    assert!(rt; reader.taken() == 4 && first == Ok(1) && buf[0] == b'd');
+    assert!(rt; source.read(&mut buf) == Err(Failed));
 }
 
+/// Whether a read is needed, and how many bytes were taken after the next answer.
 #[test]
 fn a_read_is_needed_only_for_what_is_not_whole(rt: HostRuntime) {
     let input = Vec::from_slice(rt.alloc(), b"a\nb\nc").expect(&rt, "memory");
     let mut source = MemorySource::new(input);
     let mut reader = LineReader::new(rt.alloc()).expect(&rt, "memory");
-    let mut text = String::new(rt.alloc());
-    for (needed, taken) in [(true, 5), (false, 5), (true, 5), (false, 5)] {
-        assert_eq!(rt; reader.needs_read(), needed);
-        push_answer(&mut text, reader.next(&mut source)).expect(&rt, "memory");
-        assert_eq!(rt; reader.taken(), taken);
+    for (needed, answer) in [(true, "a|"), (false, "b|"), (true, "c|"), (false, "End|")] {
+        assert!(rt; reader.needs_read() == needed);
+        is_told(
+            &rt,
+            answers(rt.alloc(), &mut reader, &mut source, 1),
+            answer,
+        );
+        assert!(rt; reader.taken() == 5);
     }
-    assert_eq!(rt; text.as_str(), "a|b|c|end");
 }
 
 /// Lines of 65,535 bytes, each with its newline, of 67,108,864 bytes in all, and then these.
@@ -179,18 +158,17 @@ fn longest_input(alloc: Global, end: &[u8]) -> Result<Vec<u8>, AllocError> {
 }
 
 static ENDS: [(&[u8], &str); 3] = [
-    (b"", "end|end"),
-    (b"\n", "too much|too much"),
-    (b"x", "too much|too much"),
+    (b"", "End|End|"),
+    (b"\n", "TooMuch|TooMuch|"),
+    (b"x", "TooMuch|TooMuch|"),
 ];
 
 #[test]
 fn an_input_has_at_most_67_108_864_bytes(rt: HostRuntime) {
-    for (more, text) in &ENDS {
+    for (more, wanted) in &ENDS {
         let input = longest_input(rt.alloc(), *more).expect(&rt, "memory");
-        let mut source = FaultySource::new(input, 131_072, Vec::new(rt.alloc()));
-        let (answers, _) = answers(rt.alloc(), &mut source).expect(&rt, "memory");
-        assert_eq!(rt; answers.as_str().matches("65535|").count(), 1_024);
-        assert!(rt; answers.as_str().ends_with(*text));
+        let answers = answers_in_pieces(rt.alloc(), input, 131_072, 1_026).expect(&rt, "memory");
+        assert!(rt; answers.as_str().matches("65535|").count() == 1_024);
+        assert!(rt; answers.as_str().ends_with(*wanted));
     }
 }

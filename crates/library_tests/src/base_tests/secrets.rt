@@ -1,31 +1,31 @@
 //! Secrets, and what is shown of them.
-use super::is_shown;
+use crate::told::{Told, is_told, shown};
 use sign_base::Redact;
+use std::alloc::Global;
 
-/// Secrets, and what is shown of them.
+/// Secrets, and what is shown of each: of a text, and of a text that may be absent.
 static SECRETS: [(&str, &str); 7] = [
-    ("Short", "***"),
-    ("HelloWorld", "***"),
-    ("Hello World", "***"),
-    ("Hello World!", "Hel***ld!"),
-    ("This is a longer string", "Thi***ing"),
-    ("", "EMPTY"),
-    ("ab€defghijkl", "***"),
+    ("Short", "*** ***"),
+    ("HelloWorld", "*** ***"),
+    ("Hello World", "*** ***"),
+    ("Hello World!", "Hel***ld! Hel***ld!"),
+    ("This is a longer string", "Thi***ing Thi***ing"),
+    ("", "EMPTY EMPTY"),
+    ("ab€defghijkl", "*** ***"),
 ];
 
-#[test]
-fn secrets_show_their_ends_alone(rt: HostRuntime) {
-    for (secret, shown) in &SECRETS {
-        is_shown(&rt, rt.alloc(), &Redact::from(*secret), *shown);
-    }
+fn shown_twice(alloc: Global, secret: &str) -> Told {
+    let owned = Some(String::from_str(alloc, secret)?);
+    let text = Redact::from(secret);
+    let present = Redact::from(&owned);
+    Ok(format!(in alloc; "{text:?} {present:?}")?)
 }
 
 #[test]
-fn secrets_that_may_be_absent_show_their_ends_alone(rt: HostRuntime) {
-    for (secret, shown) in &SECRETS {
-        let owned = String::from_str(rt.alloc(), *secret).expect(&rt, "memory");
-        is_shown(&rt, rt.alloc(), &Redact::from(&Some(owned)), *shown);
+fn secrets_show_their_ends_alone(rt: HostRuntime) {
+    for (secret, wanted) in &SECRETS {
+        is_told(&rt, shown_twice(rt.alloc(), *secret), *wanted);
     }
     let none: Option<String> = None;
-    is_shown(&rt, rt.alloc(), &Redact::from(&none), "EMPTY");
+    is_told(&rt, shown(rt.alloc(), &Redact::from(&none)), "EMPTY");
 }

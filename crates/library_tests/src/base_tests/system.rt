@@ -35,7 +35,7 @@ fn a_clock_that_cannot_be_read_stands(rt: HostRuntime) {
         seconds: [None, Some(7), None, Some(u64::MAX), Some(5)],
     });
     for second in [0, 7, 7, 7, 5, 5] {
-        assert_eq!(rt; clock.now().as_second(), second);
+        assert!(rt; clock.now().as_second() == second);
     }
 }
 
@@ -79,7 +79,7 @@ fn an_interrupted_call_is_not_tried_again(rt: HostRuntime) {
     let mut sink = StdSink::new(InterruptedOnce { interrupted: false });
     let mut buf = [0; 4];
     for answer in [Err(Failed), Ok(1)] {
-        assert_eq!(rt; source.read(&mut buf), answer);
-        assert_eq!(rt; sink.write(b"abcd"), answer);
+        assert!(rt; source.read(&mut buf) == answer);
+        assert!(rt; sink.write(b"abcd") == answer);
     }
 }

@@ -11,35 +11,36 @@ fn moment(rt: &impl Abort, alloc: Global, second: i64) -> Timestamp {
     Timestamp::from_second(alloc, second).expect(rt, "a moment")
 }
 
-/// A lease until this second, or none.
-fn lease(rt: &impl Abort, alloc: Global, until: Option<i64>) -> Option<Lease> {
-    match until {
-        Some(second) => Some(Lease {
-            until: moment(rt, alloc, second),
-        }),
-        None => None,
+/// Whether a credential that may be absent is valid, at a moment of this second, and its copy too.
+fn is_valid(alloc: Global, lease: Option<Lease>, now: Timestamp) -> Option<bool> {
+    let copy = lease.try_clone(alloc).ok()?;
+    let answers = [
+        lease.is_valid(now),
+        lease.is_valid_at(now, now),
+        copy.is_valid(now),
+    ];
+    if copy == lease && answers[0] == answers[1] && answers[0] == answers[2] {
+        Some(answers[0])
+    } else {
+        None
     }
 }
 
-/// A credential that may be absent is valid as it says itself.
+/// A credential that may be absent is valid as it says itself, and so at the present moment is one that knows
+/// only whether it is valid now.
 #[test]
-fn an_absent_credential_is_not_valid(rt: HostRuntime) {
-    let alloc = rt.alloc();
-    for (until, second, valid) in [(Some(5), 4, true), (Some(5), 5, false), (None, 4, false)] {
-        let lease = lease(&rt, alloc, until);
-        let now = moment(&rt, alloc, second);
-        assert_eq!(rt; lease.is_valid(now), valid);
-        assert_eq!(rt; lease.is_valid_at(now, now), valid);
-        assert!(rt; lease.try_clone(alloc).expect(&rt, "memory") == lease);
+fn credentials_are_valid_as_they_say(rt: HostRuntime) {
+    let until = moment(&rt, rt.alloc(), 5);
+    let before = moment(&rt, rt.alloc(), 4);
+    for (lease, now, valid) in [
+        (Some(Lease { until }), before, true),
+        (Some(Lease { until }), until, false),
+        (None, before, false),
+    ] {
+        assert!(rt; is_valid(rt.alloc(), lease, now) == Some(valid));
     }
-    assert_eq!(rt; <Option<Lease> as SigningCredential>::NAME, "Lease");
-}
-
-/// A credential that knows only whether it is valid now is so at the present moment.
-#[test]
-fn a_token_is_valid_now(rt: HostRuntime) {
-    let now = moment(&rt, rt.alloc(), 4);
-    assert!(rt; Token { valid: true }.is_valid_at(now, now));
+    assert!(rt; <Option<Lease> as SigningCredential>::NAME == "Lease");
+    assert!(rt; Token { valid: true }.is_valid_at(before, before));
 }
 
 /// The end of an operation, up to the last moment.
@@ -47,16 +48,13 @@ fn a_token_is_valid_now(rt: HostRuntime) {
 fn an_operation_ends_within_the_range(rt: HostRuntime) {
     let now = moment(&rt, rt.alloc(), 253402207199);
     let next = moment(&rt, rt.alloc(), 253402207200);
-    let lease = Lease { until: next };
-    assert_eq!(rt;
-        UntilTheEnd.required_valid_until(&lease, None, now),
-        Some(now)
-    );
     for (duration, end) in [
         (None, Some(now)),
         (Some(Duration::from_secs(1)), Some(next)),
         (Some(Duration::from_secs(2)), None),
     ] {
-        assert_eq!(rt; operation_end(duration, now), end);
+        assert!(rt; operation_end(duration, now) == end);
     }
+    let lease = Lease { until: next };
+    assert!(rt; UntilTheEnd.required_valid_until(&lease, None, now) == Some(now));
 }

@@ -1,46 +1,38 @@
 //! What an environment answers, and paths in its home folder.
+use crate::told::is_text;
 use credentials::{Context, Env, OsEnv, StaticEnv};
-use sign_base::NoMemory;
 use std::alloc::{AllocError, Global};
 use std::collections::HashMap;
-use std::process::Abort;
-
-/// Whether a call answered this text, or None.
-fn is_answer(rt: &impl Abort, answer: Result<Option<String>, NoMemory<()>>, text: Option<&str>) {
-    let answer = answer.expect(rt, "memory");
-    assert_eq!(rt; answer.as_deref(), text);
-}
-
-/// A text, or None.
-fn owned(rt: &impl Abort, alloc: Global, text: Option<&str>) -> Option<String> {
-    match text {
-        Some(text) => Some(String::from_str(alloc, text).expect(rt, "memory")),
-        None => None,
-    }
-}
 
 /// The home folder, a path, and the path in that folder.
-const PATHS: [(Option<&str>, &str, Option<&str>); 7] = [
-    (Some("/h"), "~/a~b", Some("/h/a/hb")),
-    (Some("/h"), "~\\a", Some("/h\\a")),
-    (Some("/h"), "a~", Some("a~")),
-    (Some("/h"), "~", Some("~")),
-    (Some("/h"), "~/", Some("/h/")),
-    (None, "~/a", None),
-    (None, "/a", Some("/a")),
+const PATHS: [(&str, &str, &str); 5] = [
+    ("/h", "~/a~b", "Some(\"/h/a/hb\")"),
+    ("/h", "~\\a", "Some(\"/h\\\\a\")"),
+    ("/h", "a~", "Some(\"a~\")"),
+    ("/h", "~", "Some(\"~\")"),
+    ("/h", "~/", "Some(\"/h/\")"),
 ];
+
+/// The same with no home folder.
+const HOMELESS: [(&str, &str); 2] = [("~/a", "None"), ("/a", "Some(\"/a\")")];
+
+/// A path at home, as a debug text.
+fn expanded(alloc: Global, home_dir: Option<String>, path: &str) -> Option<String> {
+    let envs = HashMap::new(alloc);
+    let ctx = Context::new().with_env(StaticEnv { home_dir, envs });
+    let path = ctx.expand_home_dir(alloc, path).ok()?;
+    format!(in alloc; "{path:?}").ok()
+}
 
 /// Paths at home have the home folder in place of every `~`.
 #[test]
 fn paths_at_home_are_expanded(rt: HostRuntime) {
-    let alloc = rt.alloc();
-    for (home, path, expanded) in &PATHS {
-        let env = StaticEnv {
-            home_dir: owned(&rt, alloc, *home),
-            envs: HashMap::new(alloc),
-        };
-        let ctx = Context::new().with_env(env);
-        is_answer(&rt, ctx.expand_home_dir(alloc, *path), *expanded);
+    for (home, path, wanted) in &PATHS {
+        let home = String::from_str(rt.alloc(), *home).expect(&rt, "memory");
+        is_text(&rt, expanded(rt.alloc(), Some(home), *path), *wanted);
+    }
+    for (path, wanted) in &HOMELESS {
+        is_text(&rt, expanded(rt.alloc(), None, *path), *wanted);
     }
 }
 
@@ -54,40 +46,37 @@ fn set_twice(alloc: Global) -> Result<Vec<(String, String)>, AllocError> {
     Ok(variables)
 }
 
-/// Whether the variable `k` alone is there, with its last value.
-fn has_last_value(rt: &impl Abort, variables: &HashMap<String, String>) {
-    assert_eq!(rt; variables.len(), 1);
-    assert_eq!(rt; variables.get("k").expect(rt, "a value").as_str(), "2");
+fn listed(alloc: Global) -> Option<OsEnv> {
+    let home = String::from_str(alloc, "/h").ok()?;
+    OsEnv::from_list(Some(home), set_twice(alloc).ok()?).ok()
 }
 
-/// Of a list of variables the last of a name counts.
+/// The home folder, a variable that is there, one that is not, and all.
+fn told<E: Env>(alloc: Global, env: &E) -> Option<String> {
+    let home = env.home_dir(alloc).ok()?;
+    let there = env.var(alloc, "k").ok()?;
+    let absent = env.var(alloc, "q").ok()?;
+    let all = env.vars(alloc).ok()?;
+    format!(in alloc; "{home:?} {there:?} {absent:?} {all:?}").ok()
+}
+
+/// Of a list of variables the last of a name counts, and so it does in a map of them.
 #[test]
 fn the_last_variable_of_a_name_counts(rt: HostRuntime) {
-    let alloc = rt.alloc();
-    let home = owned(&rt, alloc, Some("/h"));
-    let variables = set_twice(alloc).expect(&rt, "memory");
-    let env = OsEnv::from_list(home, variables)
-        .ok()
-        .expect(&rt, "an environment");
-    let ctx = Context::new().with_env(env);
-    is_answer(&rt, ctx.home_dir(alloc), Some("/h"));
-    is_answer(&rt, ctx.env_var(alloc, "k"), Some("2"));
-    is_answer(&rt, ctx.env_var(alloc, "q"), None);
-    has_last_value(&rt, &ctx.env_vars(alloc).expect(&rt, "memory"));
-}
-
-/// The same of variables in a map.
-#[test]
-fn variables_of_a_map_are_answered(rt: HostRuntime) {
-    let alloc = rt.alloc();
-    let variables = set_twice(alloc).expect(&rt, "memory");
-    let env = OsEnv::from_list(None, variables)
-        .ok()
-        .expect(&rt, "an environment");
+    let env = listed(rt.alloc()).expect(&rt, "memory");
+    is_text(
+        &rt,
+        told(rt.alloc(), &env),
+        r#"Some("/h") Some("2") None {"k": "2"}"#,
+    );
+    let envs = env.vars(rt.alloc()).expect(&rt, "memory");
     let env = StaticEnv {
         home_dir: None,
-        envs: env.vars(alloc).expect(&rt, "memory"),
+        envs,
     };
-    is_answer(&rt, env.var(alloc, "k"), Some("2"));
-    has_last_value(&rt, &env.vars(alloc).expect(&rt, "memory"));
+    is_text(
+        &rt,
+        told(rt.alloc(), &env),
+        r#"None Some("2") None {"k": "2"}"#,
+    );
 }

@@ -7,7 +7,7 @@ use http::{Request, Response};
 use sign_base::NoMemory;
 use std::alloc::Global;
 
-#[derive(Clone, Copy, Debug)]
+#[derive(Clone, Copy)]
 pub(crate) struct AlwaysA;
 
 /// A context of these objects.

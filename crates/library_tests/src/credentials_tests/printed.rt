@@ -1,23 +1,19 @@
 //! No debug form shows what a provider or an object of a context holds.
 use super::providers::{Says, chain_of};
+use crate::told::{hides, is_told, shown};
 use credentials::{Context, OsEnv};
 use std::alloc::{AllocError, Global};
-use std::fmt;
-use std::process::Abort;
-
-/// Whether this is the debug form of a value, and has not the secret.
-fn is_shown<T: fmt::Debug>(rt: &impl Abort, alloc: Global, value: &T, text: &str) {
-    let shown = format!(in alloc; "{value:?}").expect(rt, "memory");
-    assert!(rt; !shown.as_str().contains("5551234"));
-    assert_eq!(rt; shown.as_str(), text);
-}
 
 #[test]
 fn a_chain_shows_its_number_of_providers(rt: HostRuntime) {
     let says = [Says::Found(5551234), Says::Missing];
     let chain = chain_of(rt.alloc(), &says).expect(&rt, "memory");
-    let text = "ProvideCredentialChain { providers_count: 2 }";
-    is_shown(&rt, rt.alloc(), &chain, text);
+    hides(&rt, rt.alloc(), &chain);
+    is_told(
+        &rt,
+        shown(rt.alloc(), &chain),
+        "ProvideCredentialChain { providers_count: 2 }",
+    );
 }
 
 /// One variable, whose value is the secret.
@@ -29,11 +25,14 @@ fn secret_variable(alloc: Global) -> Result<Vec<(String, String)>, AllocError> {
     Ok(variables)
 }
 
+fn secret_environment(alloc: Global) -> Option<OsEnv> {
+    OsEnv::from_list(None, secret_variable(alloc).ok()?).ok()
+}
+
 #[test]
 fn a_context_shows_no_variable(rt: HostRuntime) {
-    let variables = secret_variable(rt.alloc()).expect(&rt, "memory");
-    let env = OsEnv::from_list(None, variables)
-        .ok()
-        .expect(&rt, "an environment");
-    is_shown(&rt, rt.alloc(), &Context::new().with_env(env), "Context");
+    let env = secret_environment(rt.alloc()).expect(&rt, "memory");
+    let ctx = Context::new().with_env(env);
+    hides(&rt, rt.alloc(), &ctx);
+    is_told(&rt, shown(rt.alloc(), &ctx), "Context");
 }

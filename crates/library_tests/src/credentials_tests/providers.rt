@@ -11,7 +11,7 @@ use std::cell::Cell;
 use std::time::Duration;
 
 /// A lease that is valid before a moment.
-#[derive(Clone, Copy, Debug, PartialEq, Eq)]
+#[derive(Clone, Copy, PartialEq, Eq)]
 pub(crate) struct Lease {
     pub(crate) until: Timestamp,
 }
@@ -37,7 +37,7 @@ impl SigningCredential for Lease {
 }
 
 /// A token knows only whether it is valid now.
-#[derive(Clone, Copy, Debug, PartialEq, Eq)]
+#[derive(Clone, Copy)]
 pub(crate) struct Token {
     pub(crate) valid: bool,
 }
@@ -65,7 +65,7 @@ impl SigningCredential for Token {
 }
 
 /// A lease has to last to the end of the operation.
-#[derive(Clone, Copy, Debug)]
+#[derive(Clone, Copy)]
 pub(crate) struct UntilTheEnd;
 
 impl DeadlineRule for UntilTheEnd {
@@ -100,7 +100,7 @@ impl Asked {
 }
 
 /// A provider that says what it answers. `Later` is pending once.
-#[derive(Clone, Copy, Debug)]
+#[derive(Clone, Copy)]
 pub(crate) enum Says {
     Found(u64),
     Missing,

@@ -1,9 +1,10 @@
 //! Heads of `http` and plain ones, in both directions.
-use super::{is_text, parts, plain_head, told};
+use super::{parts, told};
+use crate::heads::plain_head;
+use crate::told::is_text;
 use sign_base::{Head, Version};
-use sign_request::{commit, head_of, parts_of};
+use sign_request::{HeadView, commit, head_of, parts_of};
 use std::alloc::Global;
-use std::process::Abort;
 
 /// Whether two heads have the same method, URI and version, and as many headers.
 fn is_same_head(plain: &Head, head: &Head) -> bool {
@@ -13,45 +14,53 @@ fn is_same_head(plain: &Head, head: &Head) -> bool {
         && plain.headers.as_slice().len() == head.headers.as_slice().len()
 }
 
-/// The plain head of a head, and the head of that.
-fn crossed(rt: &impl Abort, alloc: Global, version: Version) -> String {
-    let mut head = plain_head(rt, alloc, "PUT", "https://e.x/a", &[("x", b"v")]);
+/// The head of a plain head, and whether the plain head of that is the same.
+fn crossed(alloc: Global, version: Version) -> Option<String> {
+    let mut head = plain_head(alloc, "PUT", "https://e.x/a", &[("x", b"v")]).ok()?;
     head.version = version;
-    let parts = parts_of(alloc, &head).expect(rt, "a head");
-    let same = is_same_head(&head_of(alloc, &parts).expect(rt, "memory"), &head);
-    format!(in alloc; "{parts:?} {same}").expect(rt, "memory")
+    let parts = parts_of(alloc, &head).ok()?;
+    let back = head_of(alloc, &parts).ok()?;
+    let same = is_same_head(&back, &head);
+    format!(in alloc; "{parts:?} {same}").ok()
 }
 
-/// The text of a head that crossed the bridge.
-fn crossed_text(rt: &impl Abort, alloc: Global, version: &str) -> String {
-    let text = format!(in alloc;
-        r#"Parts {{ method: PUT, uri: https://e.x/a, version: {version}, headers: {{"x": "v"}} }} true"#
-    );
-    text.expect(rt, "memory")
-}
+const CROSSED: [(Version, &str); 5] = [
+    (
+        Version::V09,
+        r#"Parts { method: PUT, uri: https://e.x/a, version: HTTP/0.9, headers: {"x": "v"} } true"#,
+    ),
+    (
+        Version::V10,
+        r#"Parts { method: PUT, uri: https://e.x/a, version: HTTP/1.0, headers: {"x": "v"} } true"#,
+    ),
+    (
+        Version::V11,
+        r#"Parts { method: PUT, uri: https://e.x/a, version: HTTP/1.1, headers: {"x": "v"} } true"#,
+    ),
+    (
+        Version::V2,
+        r#"Parts { method: PUT, uri: https://e.x/a, version: HTTP/2.0, headers: {"x": "v"} } true"#,
+    ),
+    (
+        Version::V3,
+        r#"Parts { method: PUT, uri: https://e.x/a, version: HTTP/3.0, headers: {"x": "v"} } true"#,
+    ),
+];
 
 #[test]
 fn heads_cross_the_bridge(rt: HostRuntime) {
-    for (version, name) in [
-        (Version::V09, "HTTP/0.9"),
-        (Version::V10, "HTTP/1.0"),
-        (Version::V11, "HTTP/1.1"),
-        (Version::V2, "HTTP/2.0"),
-        (Version::V3, "HTTP/3.0"),
-    ] {
-        let text = crossed_text(&rt, rt.alloc(), name);
-        is_text(&rt, crossed(&rt, rt.alloc(), version), text.as_str());
+    for (version, wanted) in CROSSED {
+        is_text(&rt, crossed(rt.alloc(), version), wanted);
     }
 }
 
 /// What `commit` answers to a plain head, and the head after it.
-fn committed(rt: &impl Abort, alloc: Global, plain: &Head) -> String {
-    let mut head = parts(rt, alloc, "https://e.x/a", &[("x", b"v")]);
-    let answer = told(rt, alloc, commit(alloc, &mut head, plain));
-    let method = &head.method;
-    let uri = &head.uri;
-    let headers = &head.headers;
-    format!(in alloc; "{answer}, {method} {uri} {headers:?}").expect(rt, "memory")
+fn committed(alloc: Global, method: &str, uri: &str, name: &str) -> Option<String> {
+    let plain = plain_head(alloc, method, uri, &[("y", b"w"), (name, b"z")]).ok()?;
+    let mut head = parts(alloc, "https://e.x/a", &[("x", b"v")])?;
+    let answer = told(alloc, commit(alloc, &mut head, &plain))?;
+    let (method, uri, headers) = (&head.method, &head.uri, &head.headers);
+    format!(in alloc; "{answer}, {method} {uri} {headers:?}").ok()
 }
 
 const DONE: &str = r#"done, GET https://e.x/b?c {"y": "w", "y": "z"}"#;
@@ -63,7 +72,7 @@ const BAD_CHARACTER: &str =
 
 const EMPTY_URI: &str = r#"invalid request: empty string, GET https://e.x/a {"x": "v"}"#;
 
-/// The method, the URI and the name of a header, and what `commit` answers.
+/// The method, the URI and the name of a header, and what `commit` answers: all or nothing.
 const COMMITTED: [(&str, &str, &str, &str); 6] = [
     ("PUT", "https://e.x/b?c", "Y", DONE),
     ("no token", "https://e.x/b?c", "Y", DONE),
@@ -75,9 +84,30 @@ const COMMITTED: [(&str, &str, &str, &str); 6] = [
 
 #[test]
 fn a_commit_is_whole_or_nothing(rt: HostRuntime) {
-    let alloc = rt.alloc();
-    for (method, uri, name, answer) in COMMITTED {
-        let plain = plain_head(&rt, alloc, method, uri, &[("y", b"w"), (name, b"z")]);
-        is_text(&rt, committed(&rt, alloc, &plain), answer);
+    for (method, uri, name, wanted) in COMMITTED {
+        is_text(&rt, committed(rt.alloc(), method, uri, name), wanted);
+    }
+}
+
+/// Why a plain head has no view.
+fn unviewed(alloc: Global, uri: &str, name: &str) -> Option<String> {
+    let head = plain_head(alloc, "GET", uri, &[(name, b"v")]).ok()?;
+    let why = HeadView::build(alloc, &head).err()?;
+    format!(in alloc; "{why:?}").ok()
+}
+
+/// Heads that no line of `signctl view` spells. The last is refused before its target, which has no
+/// authority.
+const UNVIEWED: [(&str, &str, &str); 4] = [
+    ("", "x", "Head"),
+    ("e.x", "x a", "Head"),
+    ("e.x", "", "Head"),
+    ("/", "x a", "Head"),
+];
+
+#[test]
+fn other_heads_have_no_view(rt: HostRuntime) {
+    for (uri, name, wanted) in UNVIEWED {
+        is_text(&rt, unviewed(rt.alloc(), uri, name), wanted);
     }
 }

@@ -1,12 +1,12 @@
 //! Names of headers that were picked to collide, in a map with keys.
 //!
 //! What a flood of them may cost is measured against as many ordinary names of the same length.
+use crate::heads::{plain_head, push_header};
 use http::header::HeaderMap;
-use sign_base::{Field, Fields, Head, Octets, Version};
+use sign_base::{Head, NoMemory};
 use sign_request::{HeaderKeys, commit_keyed, parts_of_keyed};
 use std::alloc::Global;
 use std::hash::{DefaultHasher, Hasher, RandomState};
-use std::test::Fail;
 use std::time::{Duration, Instant};
 
 // So many names collide under the quick hash, which makes a map change to the other one.
@@ -52,8 +52,8 @@ fn collides(name: &[u8], count: u32) -> bool {
     }
 }
 
-fn colliding_fields(alloc: Global) -> Result<Fields, Fail> {
-    let mut fields = Fields::new(alloc);
+fn colliding_head(alloc: Global) -> Result<Head, NoMemory<()>> {
+    let mut head = plain_head(alloc, "GET", "/", &[])?;
     let mut count = 0u32;
     for number in 0..u32::MAX {
         let name = name_of(number);
@@ -61,43 +61,22 @@ fn colliding_fields(alloc: Global) -> Result<Fields, Fail> {
             break;
         }
         if collides(&name, count) {
-            let name = Octets::from_slice(alloc, &name)?;
-            let value = Octets::from_slice(alloc, b"")?;
-            fields.push(Field { name, value })?;
+            push_header(alloc, &mut head, &name, b"")?;
             count += 1;
         }
     }
-    Ok(fields)
+    Ok(head)
 }
 
 // As many names, at random.
-fn ordinary_fields(alloc: Global) -> Result<Fields, Fail> {
-    let mut fields = Fields::new(alloc);
+fn ordinary_head(alloc: Global) -> Result<Head, NoMemory<()>> {
+    let mut head = plain_head(alloc, "GET", "/", &[])?;
     let mut number = 1u32;
     for _ in 0..NAMES {
         number = number.wrapping_mul(1_664_525).wrapping_add(1_013_904_223);
-        let name = Octets::from_slice(alloc, &name_of(number))?;
-        let value = Octets::from_slice(alloc, b"")?;
-        fields.push(Field { name, value })?;
+        push_header(alloc, &mut head, &name_of(number), b"")?;
     }
-    Ok(fields)
-}
-
-fn head_with(alloc: Global, headers: Fields) -> Result<Head, Fail> {
-    Ok(Head {
-        method: Octets::from_slice(alloc, b"GET")?,
-        uri: Octets::from_slice(alloc, b"/")?,
-        version: Version::V11,
-        headers,
-    })
-}
-
-fn colliding_head(alloc: Global) -> Result<Head, Fail> {
-    head_with(alloc, colliding_fields(alloc)?)
-}
-
-fn ordinary_head(alloc: Global) -> Result<Head, Fail> {
-    head_with(alloc, ordinary_fields(alloc)?)
+    Ok(head)
 }
 
 // Whether each name is found.
@@ -109,17 +88,23 @@ fn are_found(headers: &HeaderMap) -> bool {
     all
 }
 
+/// The number of names of the head that crosses and is then committed. None where one is not found.
+fn found_names(alloc: Global, keys: HeaderKeys) -> Option<usize> {
+    let head = colliding_head(alloc).ok()?;
+    let mut parts = parts_of_keyed(alloc, &head, keys).ok()?;
+    let before = are_found(&parts.headers);
+    commit_keyed(alloc, &mut parts, &head, keys).ok()?;
+    if before && are_found(&parts.headers) {
+        Some(parts.headers.keys_len())
+    } else {
+        None
+    }
+}
+
 #[test]
-fn names_that_collide_are_found(rt: HostRuntime) -> Result<(), Fail> {
-    let alloc = rt.alloc();
+fn names_that_collide_are_found(rt: HostRuntime) {
     let keys = HeaderKeys::new(RandomState::new(&rt).expect(&rt, "keys"));
-    let head = colliding_head(alloc)?;
-    let mut parts = parts_of_keyed(alloc, &head, keys).expect(&rt, "a head");
-    assert!(rt; are_found(&parts.headers));
-    commit_keyed(alloc, &mut parts, &head, keys).expect(&rt, "a head");
-    assert!(rt; are_found(&parts.headers));
-    assert_eq!(rt; parts.headers.keys_len(), 24_000);
-    Ok(())
+    assert!(rt; found_names(rt.alloc(), keys) == Some(24_000));
 }
 
 // The head crosses four times, and is committed once.
@@ -132,28 +117,26 @@ fn cross(alloc: Global, head: &Head, keys: HeaderKeys) -> Option<()> {
 }
 
 // The least time of five that crossing takes.
-fn least_time(rt: &HostRuntime, head: &Head, keys: HeaderKeys) -> Result<Duration, Fail> {
+fn least_time(rt: &HostRuntime, head: &Head, keys: HeaderKeys) -> Option<Duration> {
     let mut least = Duration::MAX;
     for _ in 0..5 {
-        let start = Instant::now(rt)?;
-        cross(rt.alloc(), head, keys).ok_or("a head that crosses")?;
-        least = least.min(start.elapsed(rt)?);
+        let start = Instant::now(rt).ok()?;
+        cross(rt.alloc(), head, keys)?;
+        least = least.min(start.elapsed(rt).ok()?);
     }
-    Ok(least)
+    Some(least)
 }
 
 // They take half as long again; in a map without keys it is some hundred times as long.
 #[test]
-fn names_that_collide_take_at_most_three_times_as_long(rt: HostRuntime) -> Result<(), Fail> {
-    let alloc = rt.alloc();
+fn names_that_collide_take_at_most_three_times_as_long(rt: HostRuntime) {
     let keys = HeaderKeys::new(RandomState::new(&rt).expect(&rt, "keys"));
-    let colliding = colliding_head(alloc)?;
-    let ordinary = ordinary_head(alloc)?;
-    let flood = least_time(&rt, &colliding, keys)?;
-    let usual = least_time(&rt, &ordinary, keys)?;
+    let colliding = colliding_head(rt.alloc()).expect(&rt, "memory");
+    let ordinary = ordinary_head(rt.alloc()).expect(&rt, "memory");
+    let flood = least_time(&rt, &colliding, keys).expect(&rt, "a head that crosses");
+    let usual = least_time(&rt, &ordinary, keys).expect(&rt, "a head that crosses");
     assert!(rt;
         flood / 3 <= usual,
         "{flood:?} where names collide, {usual:?} where not"
     );
-    Ok(())
 }

@@ -1,18 +1,10 @@
 //! What a view answers of its headers.
-use super::{Headers, is_text, told, view};
+use super::view;
+use crate::heads::Headers;
+use crate::told::{is_text, refusal};
 use http::header::{HeaderName, HeaderValue};
 use sign_request::SigningRequest;
 use std::alloc::Global;
-use std::process::Abort;
-
-#[test]
-fn spaces_are_trimmed(rt: HostRuntime) {
-    for (before, after) in [("  a b ", "a b"), ("   ", "   "), ("\ta", "\ta"), ("", "")] {
-        let mut value = HeaderValue::from_str(rt.alloc(), before).expect(&rt, "a value");
-        SigningRequest::header_value_normalize(&mut value).expect(&rt, "memory");
-        assert_eq!(rt; value.as_bytes(), after.as_bytes());
-    }
-}
 
 const NAMES: Headers<'static> = &[("x-a", b"1"), ("Host", b"h"), ("X-B", b"2")];
 
@@ -20,12 +12,12 @@ const ODD: Headers<'static> = &[("x-a", b"1"), ("x-b", b"\xff")];
 
 const INVALID: &str = "invalid request: invalid header value";
 
-fn value_of(rt: &impl Abort, alloc: Global, headers: Headers<'_>, name: &'static [u8]) -> String {
-    let view = view(rt, alloc, "https://e.x/", headers);
-    let key = HeaderName::from_bytes(alloc, name).expect(rt, "a name");
+fn value_of(alloc: Global, headers: Headers<'_>, name: &'static [u8]) -> Option<String> {
+    let view = view(alloc, "https://e.x/", headers)?;
+    let key = HeaderName::from_bytes(alloc, name).ok()?;
     match view.header_get_or_default(&key) {
-        Ok(text) => String::from_str(alloc, text).expect(rt, "memory"),
-        Err(error) => told(rt, alloc, Err::<(), _>(error)),
+        Ok(text) => String::from_str(alloc, text).ok(),
+        Err(error) => refusal(alloc, &error),
     }
 }
 
@@ -39,27 +31,15 @@ const VALUES: [(Headers<'static>, &[u8], &str); 3] = [
 #[test]
 fn headers_are_read_by_name(rt: HostRuntime) {
     for (headers, name, value) in VALUES {
-        is_text(&rt, value_of(&rt, rt.alloc(), headers, name), value);
+        is_text(&rt, value_of(rt.alloc(), headers, name), value);
     }
 }
 
-fn sorted_names(rt: &impl Abort, alloc: Global, headers: Headers<'_>) -> String {
-    let view = view(rt, alloc, "https://e.x/", headers);
-    let names = view.header_name_to_vec_sorted().expect(rt, "memory");
-    format!(in alloc; "{names:?}").expect(rt, "memory")
-}
-
-#[test]
-fn names_are_sorted(rt: HostRuntime) {
-    let names = sorted_names(&rt, rt.alloc(), NAMES);
-    is_text(&rt, names, r#"["host", "x-a", "x-b"]"#);
-}
-
-fn with_prefix(rt: &impl Abort, alloc: Global, headers: Headers<'_>, prefix: &str) -> String {
-    let view = view(rt, alloc, "https://e.x/", headers);
+fn with_prefix(alloc: Global, headers: Headers<'_>, prefix: &str) -> Option<String> {
+    let view = view(alloc, "https://e.x/", headers)?;
     match view.header_to_vec_with_prefix(prefix) {
-        Ok(found) => format!(in alloc; "{found:?}").expect(rt, "memory"),
-        Err(error) => told(rt, alloc, Err::<(), _>(error)),
+        Ok(found) => format!(in alloc; "{found:?}").ok(),
+        Err(error) => refusal(alloc, &error),
     }
 }
 
@@ -74,6 +54,26 @@ const WITH_PREFIX: [(Headers<'static>, &str, &str); 4] = [
 #[test]
 fn headers_are_listed(rt: HostRuntime) {
     for (headers, prefix, listed) in WITH_PREFIX {
-        is_text(&rt, with_prefix(&rt, rt.alloc(), headers, prefix), listed);
+        is_text(&rt, with_prefix(rt.alloc(), headers, prefix), listed);
+    }
+}
+
+fn sorted_names(alloc: Global) -> Option<String> {
+    let view = view(alloc, "https://e.x/", NAMES)?;
+    let names = view.header_name_to_vec_sorted().ok()?;
+    format!(in alloc; "{names:?}").ok()
+}
+
+fn trimmed(alloc: Global, value: &str) -> Option<String> {
+    let mut value = HeaderValue::from_str(alloc, value).ok()?;
+    SigningRequest::header_value_normalize(&mut value).ok()?;
+    String::from_str(alloc, value.to_str().ok()?).ok()
+}
+
+#[test]
+fn names_are_sorted_and_spaces_trimmed(rt: HostRuntime) {
+    is_text(&rt, sorted_names(rt.alloc()), r#"["host", "x-a", "x-b"]"#);
+    for (before, after) in [("  a b ", "a b"), ("   ", "   "), ("\ta", "\ta"), ("", "")] {
+        is_text(&rt, trimmed(rt.alloc(), before), after);
     }
 }

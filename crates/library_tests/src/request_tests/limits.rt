@@ -1,21 +1,20 @@
 //! Heads that are refused, and heads of exactly the limit.
-use super::{is_text, plain_head, push_field, told};
-use sign_base::Head;
+use super::told;
+use crate::heads::{plain_head, push_header};
+use crate::told::{is_text, refusal};
+use sign_base::{Head, NoMemory};
 use sign_request::parts_of;
 use std::alloc::Global;
-use std::process::Abort;
 
 /// What `parts_of` answers to a head with one header.
-fn parts_answer(rt: &impl Abort, alloc: Global, method: &str, uri: &str, value: &[u8]) -> String {
-    let head = plain_head(rt, alloc, method, uri, &[("x", value)]);
-    told(rt, alloc, parts_of(alloc, &head))
+fn answer(alloc: Global, method: &str, uri: &str, value: &[u8]) -> Option<String> {
+    let head = plain_head(alloc, method, uri, &[("x", value)]).ok()?;
+    told(alloc, parts_of(alloc, &head))
 }
 
 const REFUSED_METHOD: &str = "invalid request: invalid HTTP method";
 
 const REFUSED_VALUE: &str = "invalid request: failed to parse header value";
-
-const REFUSED_URI: &str = "invalid request: uri too long";
 
 /// The method, the URI and the value of a header, and what `parts_of` answers.
 const ANSWERS: [(&str, &str, &[u8], &str); 5] = [
@@ -28,12 +27,8 @@ const ANSWERS: [(&str, &str, &[u8], &str); 5] = [
 
 #[test]
 fn a_refusal_has_its_message(rt: HostRuntime) {
-    for (method, uri, value, answer) in ANSWERS {
-        is_text(
-            &rt,
-            parts_answer(&rt, rt.alloc(), method, uri, value),
-            answer,
-        );
+    for (method, uri, value, wanted) in ANSWERS {
+        is_text(&rt, answer(rt.alloc(), method, uri, value), wanted);
     }
 }
 
@@ -42,54 +37,50 @@ fn a_refusal_has_its_message(rt: HostRuntime) {
 fn values_are_taken_by_their_bytes(rt: HostRuntime) {
     for byte in 0..=0xFFu8 {
         let is_taken = byte == b'\t' || (byte >= b' ' && byte != 0x7F);
-        let answer = if is_taken { "done" } else { REFUSED_VALUE };
-        is_text(
-            &rt,
-            parts_answer(&rt, rt.alloc(), "GET", "/", &[byte]),
-            answer,
-        );
+        let wanted = if is_taken { "done" } else { REFUSED_VALUE };
+        is_text(&rt, answer(rt.alloc(), "GET", "/", &[byte]), wanted);
     }
 }
 
-/// A path of this many bytes.
-fn long_path(rt: &impl Abort, alloc: Global, length: usize) -> String {
-    let mut path = String::new(alloc);
-    for _ in 0..length {
-        path.push_str("/").expect(rt, "memory");
-    }
-    path
+/// A path of so many slashes.
+fn answer_to_path(alloc: Global, length: usize) -> Option<String> {
+    let path = vec![in alloc; b'/'; length].ok()?;
+    let path = String::from_utf8(path).ok()?;
+    answer(alloc, "GET", path.as_str(), b"")
 }
 
 #[test]
 fn a_uri_has_at_most_65_534_bytes(rt: HostRuntime) {
-    for (length, answer) in [(65534, "done"), (65535, REFUSED_URI)] {
-        let path = long_path(&rt, rt.alloc(), length);
-        is_text(
-            &rt,
-            parts_answer(&rt, rt.alloc(), "GET", path.as_str(), b""),
-            answer,
-        );
+    for (length, wanted) in [(65534, "done"), (65535, "invalid request: uri too long")] {
+        is_text(&rt, answer_to_path(rt.alloc(), length), wanted);
     }
 }
 
-/// A head with this many headers, each under a name of its own.
-fn crowded(rt: &impl Abort, alloc: Global, count: u32) -> Head {
-    let mut head = plain_head(rt, alloc, "GET", "/", &[]);
+/// Puts so many headers on a head, each under a name of its own.
+fn crowd(alloc: Global, head: &mut Head, count: u32) -> Result<(), NoMemory<()>> {
     for number in 0..count {
-        let name = format!(in alloc; "x-{number}").expect(rt, "memory");
-        push_field(rt, alloc, &mut head.headers, name.as_str(), b"");
+        let name = format!(in alloc; "x-{number}")?;
+        push_header(alloc, head, name.as_bytes(), b"")?;
     }
-    head
+    Ok(())
+}
+
+/// The number of headers of a head with so many, or its refusal.
+fn answer_to_crowd(alloc: Global, count: u32) -> Option<String> {
+    let mut head = plain_head(alloc, "GET", "/", &[]).ok()?;
+    crowd(alloc, &mut head, count).ok()?;
+    match parts_of(alloc, &head) {
+        Ok(parts) => format!(in alloc; "{}", parts.headers.len()).ok(),
+        Err(error) => refusal(alloc, &error),
+    }
 }
 
 #[test]
 fn a_head_has_at_most_24_576_names(rt: HostRuntime) {
-    let parts = parts_of(rt.alloc(), &crowded(&rt, rt.alloc(), 24576)).expect(&rt, "a head");
-    assert_eq!(rt; parts.headers.len(), 24576);
-    let answer = parts_of(rt.alloc(), &crowded(&rt, rt.alloc(), 24577));
-    is_text(
-        &rt,
-        told(&rt, rt.alloc(), answer),
-        "invalid request: max size reached",
-    );
+    for (count, wanted) in [
+        (24576, "24576"),
+        (24577, "invalid request: max size reached"),
+    ] {
+        is_text(&rt, answer_to_crowd(rt.alloc(), count), wanted);
+    }
 }

@@ -1,40 +1,50 @@
 //! Pairs, sorted and joined.
-use super::is_text;
+use crate::told::is_text;
 use sign_request::SigningRequest;
-use std::alloc::Global;
-use std::process::Abort;
+use std::alloc::{AllocError, Global};
 
-fn pairs(rt: &impl Abort, alloc: Global, texts: &[(&str, &str)]) -> Vec<(String, String)> {
+#[derive(Clone, Copy)]
+enum Joined {
+    Query,
+    Headers,
+    DecodedQuery,
+}
+
+type Pairs<'a> = &'a [(&'a str, &'a str)];
+
+fn owned(alloc: Global, texts: Pairs<'_>) -> Result<Vec<(String, String)>, AllocError> {
     let mut pairs = Vec::new(alloc);
     for (key, value) in texts {
-        let key = String::from_str(alloc, *key).expect(rt, "memory");
-        let value = String::from_str(alloc, *value).expect(rt, "memory");
-        pairs.push((key, value)).expect(rt, "memory");
+        let key = String::from_str(alloc, *key)?;
+        pairs.push((key, String::from_str(alloc, *value)?))?;
     }
-    pairs
+    Ok(pairs)
 }
 
-const PLAIN: [(&str, &str); 3] = [("c", "d"), ("e", ""), ("a", "b")];
-
-const ESCAPED: [(&str, &str); 2] = [("b%2F", "%2F"), ("a", "x")];
-
-#[test]
-fn a_query_is_sorted_and_joined(rt: HostRuntime) {
-    let plain = pairs(&rt, rt.alloc(), &PLAIN);
-    let query = SigningRequest::query_to_string(rt.alloc(), plain, "=", "&");
-    is_text(&rt, query.expect(&rt, "memory"), "a=b&c=d&e");
+fn sorted(alloc: Global, texts: Pairs<'_>, how: Joined) -> Option<String> {
+    let pairs = owned(alloc, texts).ok()?;
+    match how {
+        Joined::Query => SigningRequest::query_to_string(alloc, pairs, "=", "&").ok(),
+        Joined::Headers => SigningRequest::header_to_string(alloc, pairs, ":", "\n").ok(),
+        Joined::DecodedQuery => {
+            SigningRequest::query_to_percent_decoded_string(alloc, pairs, "=", "&").ok()
+        }
+    }
 }
 
-#[test]
-fn headers_are_sorted_and_joined(rt: HostRuntime) {
-    let plain = pairs(&rt, rt.alloc(), &PLAIN);
-    let headers = SigningRequest::header_to_string(rt.alloc(), plain, ":", "\n");
-    is_text(&rt, headers.expect(&rt, "memory"), "a:b\nc:d\ne:");
-}
+const PLAIN: Pairs<'static> = &[("c", "d"), ("e", ""), ("a", "b")];
+
+const ESCAPED: Pairs<'static> = &[("b%2F", "%2F"), ("a", "x")];
+
+const JOINED: [(Pairs<'static>, Joined, &str); 3] = [
+    (PLAIN, Joined::Query, "a=b&c=d&e"),
+    (PLAIN, Joined::Headers, "a:b\nc:d\ne:"),
+    (ESCAPED, Joined::DecodedQuery, "a=x&b%2F=/"),
+];
 
 #[test]
-fn an_escaped_query_is_decoded(rt: HostRuntime) {
-    let escaped = pairs(&rt, rt.alloc(), &ESCAPED);
-    let query = SigningRequest::query_to_percent_decoded_string(rt.alloc(), escaped, "=", "&");
-    is_text(&rt, query.expect(&rt, "memory"), "a=x&b%2F=/");
+fn pairs_are_sorted_and_joined(rt: HostRuntime) {
+    for (texts, how, wanted) in JOINED {
+        is_text(&rt, sorted(rt.alloc(), texts, how), wanted);
+    }
 }

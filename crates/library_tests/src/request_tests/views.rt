@@ -1,35 +1,36 @@
 //! The view of a head: its parts, its query and its path.
-use super::{Headers, QUERY, TARGET, is_text, view};
+use super::view;
+use crate::told::{is_text, is_told, shown};
 use sign_request::{SigningMethod, SigningRequest};
 use std::alloc::Global;
 use std::cell::Cell;
-use std::process::Abort;
 use std::time::Duration;
+
+/// A target whose query has escapes, equal names, and pairs with no name and with no value.
+const TARGET: &str =
+    "https://example.com/object%2Fname?slash=%2F&hash=%23&amp=%26&equals=%3D&space=%20&encoded-plus=%2B&literal-plus=+&double=%252F&dup=first&dup=second&=empty-key&empty=&flag&flag=&";
 
 const VIEW: &str =
     r##"SigningRequest { method: GET, scheme: "https", authority: example.com, path: "/object%2Fname", query: [("slash", "/"), ("hash", "#"), ("amp", "&"), ("equals", "="), ("space", " "), ("encoded-plus", "+"), ("literal-plus", "+"), ("double", "%2F"), ("dup", "first"), ("dup", "second"), ("", "empty-key"), ("empty", ""), ("flag", ""), ("flag", "")], headers: {"x-original": " value "} }"##;
 
-fn printed_view(rt: &impl Abort, alloc: Global, uri: &str, headers: Headers<'_>) -> String {
-    let view = view(rt, alloc, uri, headers);
-    format!(in alloc; "{view:?}").expect(rt, "memory")
-}
-
-fn query_text(rt: &impl Abort, alloc: Global, uri: &str) -> String {
-    let view = view(rt, alloc, uri, &[]);
-    SigningRequest::query_to_string(alloc, view.query, "=", "&").expect(rt, "memory")
-}
-
 #[test]
 fn a_view_shows_its_head(rt: HostRuntime) {
-    let alloc = rt.alloc();
-    let printed = printed_view(&rt, alloc, TARGET, &[("x-original", b" value ")]);
-    is_text(&rt, printed, VIEW);
-    is_text(&rt, query_text(&rt, alloc, TARGET), QUERY);
-    assert_eq!(rt; view(&rt, alloc, TARGET, &[]).query_size(), Some(102));
+    let view = view(rt.alloc(), TARGET, &[("x-original", b" value ")]).expect(&rt, "memory");
+    is_told(&rt, shown(rt.alloc(), &view), VIEW);
+    assert!(rt; view.query_size() == Some(102));
+}
+
+fn query_text(alloc: Global, uri: &str) -> Option<String> {
+    let view = view(alloc, uri, &[])?;
+    SigningRequest::query_to_string(alloc, view.query, "=", "&").ok()
 }
 
 /// Queries, and the text that each is read as.
-const QUERIES: [(&str, &str); 7] = [
+const QUERIES: [(&str, &str); 8] = [
+    (
+        TARGET,
+        "=empty-key&amp=&&double=%2F&dup=first&dup=second&empty&encoded-plus=+&equals==&flag&flag&hash=#&literal-plus=+&slash=/&space= ",
+    ),
     ("https://e.x/?%zz=%&%4", "%4&%zz=%"),
     ("https://e.x/?%80=a%E2%82", "\u{FFFD}=a\u{FFFD}"),
     ("https://e.x/?=", ""),
@@ -41,33 +42,31 @@ const QUERIES: [(&str, &str); 7] = [
 
 #[test]
 fn queries_read_as_they_are_written(rt: HostRuntime) {
-    for (uri, text) in QUERIES {
-        is_text(&rt, query_text(&rt, rt.alloc(), uri), text);
+    for (uri, wanted) in QUERIES {
+        is_text(&rt, query_text(rt.alloc(), uri), wanted);
     }
 }
 
 /// What passes a filter of the query, and the digits that the filter was asked for as keys, in one
 /// number.
-fn filtered(rt: &impl Abort, alloc: Global, view: &SigningRequest) -> String {
+fn filtered(alloc: Global, view: &SigningRequest) -> Option<String> {
     let asked = Cell::new(0u32);
     let kept = view.query_to_vec_with_filter(|key| {
         let digit = key.as_bytes().first().copied().unwrap_or(b'0') & 15;
         asked.set(asked.get().wrapping_mul(10).wrapping_add(u32::from(digit)));
         digit == 2
     });
-    let kept = kept.expect(rt, "memory");
-    let asked = asked.get();
-    format!(in alloc; "{kept:?} {asked}").expect(rt, "memory")
+    let (kept, asked) = (kept.ok()?, asked.get());
+    format!(in alloc; "{kept:?} {asked}").ok()
 }
 
 /// A query with one text appended, its size, and what `filtered` shows of it.
-fn appended(rt: &impl Abort, alloc: Global, uri: &str, text: &str) -> String {
-    let mut view = view(rt, alloc, uri, &[]);
-    view.query_append(text).expect(rt, "memory");
-    let filtered = filtered(rt, alloc, &view);
-    let size = view.query_size();
-    let query = &view.query;
-    format!(in alloc; "{query:?} {size:?} {filtered}").expect(rt, "memory")
+fn appended(alloc: Global, uri: &str, text: &str) -> Option<String> {
+    let mut view = view(alloc, uri, &[])?;
+    view.query_append(text).ok()?;
+    let filtered = filtered(alloc, &view)?;
+    let (query, size) = (&view.query, view.query_size());
+    format!(in alloc; "{query:?} {size:?} {filtered}").ok()
 }
 
 /// A query, what is appended to it, and what is shown. The filter is asked once for each key, in order.
@@ -83,15 +82,15 @@ const APPENDED: [(&str, &str, &str); 3] = [
 
 #[test]
 fn a_query_is_appended_to_and_filtered(rt: HostRuntime) {
-    for (uri, text, shown) in APPENDED {
-        is_text(&rt, appended(&rt, rt.alloc(), uri, text), shown);
+    for (uri, text, wanted) in APPENDED {
+        is_text(&rt, appended(rt.alloc(), uri, text), wanted);
     }
 }
 
-fn decoded_path(rt: &impl Abort, alloc: Global, uri: &str) -> String {
-    let view = view(rt, alloc, uri, &[]);
-    let path = view.path_percent_decoded().expect(rt, "a path");
-    path.into_owned(alloc).expect(rt, "memory")
+fn decoded_path(alloc: Global, uri: &str) -> Option<String> {
+    let view = view(alloc, uri, &[])?;
+    let path = view.path_percent_decoded().ok()?;
+    path.into_owned(alloc).ok()
 }
 
 #[test]
@@ -101,7 +100,7 @@ fn paths_are_decoded_once(rt: HostRuntime) {
         ("https://e.x/a%2Fb", "/a/b"),
         ("https://e.x/a%252Fb", "/a%2Fb"),
     ] {
-        is_text(&rt, decoded_path(&rt, rt.alloc(), uri), path);
+        is_text(&rt, decoded_path(rt.alloc(), uri), path);
     }
 }
 
@@ -109,14 +108,12 @@ fn paths_are_decoded_once(rt: HostRuntime) {
 fn places_are_compared_and_copied(rt: HostRuntime) {
     let place = SigningMethod::Query(Duration::from_secs(60));
     let copy = place;
-    let cases = [
+    for (other, is_header, is_place) in [
         (SigningMethod::Header, true, false),
         (SigningMethod::Query(Duration::from_secs(60)), false, true),
         (SigningMethod::Query(Duration::from_secs(61)), false, false),
-    ];
-    for (other, is_header, is_place) in cases {
-        assert_eq!(rt; other == SigningMethod::Header, is_header);
-        assert_eq!(rt; other == place, is_place);
-        assert_eq!(rt; copy == other, is_place);
+    ] {
+        assert!(rt; (other == SigningMethod::Header) == is_header);
+        assert!(rt; (other == place) == is_place && (copy == other) == is_place);
     }
 }

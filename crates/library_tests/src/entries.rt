@@ -1,10 +1,12 @@
 //! Debug texts of entries show no secret of a head, and of a credential what its type shows.
-use crate::{Answer, Entry, Event, GrantEntry, GrantEvent, GrantReply, Made, Reply, Verdict};
-use sign_base::{Field, Fields, Head, NoMemory, Octets, Timestamp, Version};
+use crate::heads::{Headers, plain_head};
+use crate::told::hides_with_stars;
+use sequential_signer::{
+    Answer, Entry, Event, GrantEntry, GrantEvent, GrantReply, Made, Reply, Verdict,
+};
+use sign_base::{Head, NoMemory, Timestamp};
 use std::alloc::Global;
 use std::fmt;
-use std::process::Abort;
-use std::test::Fail;
 use wake_lock::CallId;
 
 /// A credential whose author hides it.
@@ -24,18 +26,10 @@ const CALL: CallId = CallId {
     number: 1,
 };
 
+const HEADERS: Headers<'static> = &[("authorization", b"open sesame to the cave")];
+
 fn signed(alloc: Global) -> Result<Head, NoMemory<()>> {
-    let mut headers = Fields::new(alloc);
-    let _pushed = headers.push(Field {
-        name: Octets::from_slice(alloc, b"authorization")?,
-        value: Octets::from_slice(alloc, b"open sesame to the cave")?,
-    });
-    Ok(Head {
-        method: Octets::from_slice(alloc, b"GET")?,
-        uri: Octets::from_slice(alloc, b"https://e.x/a?sig=sesame")?,
-        version: Version::V11,
-        headers,
-    })
+    plain_head(alloc, "GET", "https://e.x/a?sig=sesame", HEADERS)
 }
 
 fn begun(alloc: Global) -> Result<Entry<Key>, NoMemory<()>> {
@@ -101,34 +95,12 @@ fn granted(now: Timestamp) -> GrantEntry<Key> {
     }
 }
 
-/// The secret's word, as text and as numbers, and the number of a key.
-const FORMS: [&str; 3] = ["sesame", "115,101,115,97,109,101", "736573"];
-
-/// Whether the debug texts, in one line and in several, have stars and no form of a secret.
-fn hides<T: fmt::Debug>(rt: &impl Abort, alloc: Global, value: &T) -> Result<(), Fail> {
-    let shown = format!(in alloc; "{value:?} {value:#?}")?;
-    let mut text = String::new(alloc);
-    for word in shown.as_str().split_whitespace() {
-        text.push_str(word)?;
-    }
-    assert!(rt; text.as_str().contains("***"), "{text}");
-    for form in &FORMS {
-        assert!(rt; !text.as_str().contains(*form), "{text}");
-    }
-    Ok(())
-}
-
 #[test]
-fn entries_show_no_secret(rt: HostRuntime) -> Result<(), Fail> {
-    let alloc = rt.alloc();
-    hides(&rt, alloc, &begun(alloc))?;
-    hides(&rt, alloc, &accepted(alloc))?;
-    hides(&rt, alloc, &Timestamp::from_nanos(7).map(provided))
-}
-
-#[test]
-fn entries_of_a_granter_show_no_secret(rt: HostRuntime) -> Result<(), Fail> {
-    let alloc = rt.alloc();
-    hides(&rt, alloc, &Timestamp::from_nanos(7).map(found))?;
-    hides(&rt, alloc, &Timestamp::from_nanos(7).map(granted))
+fn entries_show_no_secret(rt: HostRuntime) {
+    let now = Timestamp::from_nanos(7).expect(&rt, "a moment");
+    hides_with_stars(&rt, rt.alloc(), &begun(rt.alloc()));
+    hides_with_stars(&rt, rt.alloc(), &accepted(rt.alloc()));
+    hides_with_stars(&rt, rt.alloc(), &provided(now));
+    hides_with_stars(&rt, rt.alloc(), &found(now));
+    hides_with_stars(&rt, rt.alloc(), &granted(now));
 }

@@ -1,14 +1,9 @@
-//! That each call succeeds with ample memory, that a slot is used again, and many waiters who leave in
-//! several orders, beside a plain list.
+//! That each call of a lock succeeds with ample memory, and many waiters who leave in several orders, beside
+//! a plain list.
 ghost use Rattle.std.specs.Prelude.{◌≡◌, ◌<◌};
 
-use super::*;
-use crate::steps::Steps;
-use crate::wait_list::WaitList;
 use std::alloc::Global;
-use std::marker::Brand;
-use std::process::Abort;
-use std::sync::ledger::{Blank, Ledger};
+use wake_lock::{CallId, Entered, Left, WaitLock};
 
 const WAITERS: u64 = 10_000;
 
@@ -16,7 +11,7 @@ const WAITERS: u64 = 10_000;
 const LEAVERS: u64 = 9_000;
 
 /// The order in which waiters leave.
-#[derive(Clone, Copy, Debug)]
+#[derive(Clone, Copy)]
 enum Order {
     FromTheFront,
     FromTheBack,
@@ -70,8 +65,8 @@ fn room_can_be_taken(rt: HostRuntime) {
         (1_000, true),
     ] {
         let mut lock = WaitLock::new(rt.alloc());
-        assert_eq!(rt; lock.reserve(n).is_ok(), taken, "for {n}");
-        assert_eq!(rt; come(&mut lock, call(1)), Some(Entered::Granted), "for {n}");
+        assert!(rt; lock.reserve(n).is_ok() == taken);
+        assert!(rt; come(&mut lock, call(1)) == Some(Entered::Granted));
     }
 }
 
@@ -137,27 +132,8 @@ fn waiters_leave_in_any_order(rt: HostRuntime) {
         let mut lock = WaitLock::new(rt.alloc());
         let mut list = listed(rt.alloc()).expect(&rt, "memory");
         assert!(rt; lock.reserve(WAITERS as usize + 1).is_ok());
-        assert!(rt; all_come(&mut lock), "{order:?}");
-        assert!(rt; leavers_leave(&mut lock, &mut list, order), "{order:?}");
-        assert!(rt; others_are_served(&mut lock, &list), "{order:?}");
+        assert!(rt; all_come(&mut lock));
+        assert!(rt; leavers_leave(&mut lock, &mut list, order));
+        assert!(rt; others_are_served(&mut lock, &list));
     }
-}
-
-/// The places at which a call waits, leaves, and waits again where one slot was made.
-fn places<L: Ledger>(alloc: Global, blank: Blank) -> Option<(u32, u32)>
-    requires name { blank.name ≡ L.name }
-    requires parts { blank.parts ≡ L.parts }
-    requires share { 0 < blank.parts }
-{
-    let mut steps = Steps::<L>::new(blank);
-    let mut waiters = WaitList::new(alloc);
-    waiters.reserve(1).ok()?;
-    let first = waiters.push(call(1), &mut steps);
-    let _left = waiters.take(first, &mut steps);
-    Some((first, waiters.push(call(2), &mut steps)))
-}
-
-#[test]
-fn a_slot_is_used_again(rt: HostRuntime) {
-    assert_eq!(rt; places::<Brand>(rt.alloc(), Blank::new(1)), Some((0, 0)));
 }
