@@ -140,7 +140,7 @@ const UNDERSTOOD: [&str; 4] = [
 const BAD: [&str; 28] = [
     "sign",
     "sign ",
-    "sign A S r s 0 UNSIGNED-PAYLOAD GET / 1.1",
+    " sign A S r s 0 UNSIGNED-PAYLOAD GET / 1.1",
     "sign A S r s 0 UNSIGNED-PAYLOAD GET / 1.1 ",
     "SIGN A S r s 0 UNSIGNED-PAYLOAD GET / 1.1",
     "presign A S r s 0 UNSIGNED-PAYLOAD GET / 1.1",
@@ -185,7 +185,8 @@ fn driven(alloc: Global, input: &str, piece: usize) -> Result<(FaultySink, Statu
 
 /// Whether a text has this part.
 fn has(text: &[u8], part: &str) -> bool {
-    text.windows(part.len().max(1)).any(|window| window == part.as_bytes())
+    text.windows(part.len().max(1))
+        .any(|window| window == part.as_bytes())
 }
 
 #[test]
@@ -221,7 +222,11 @@ fn others_are_bad(rt: HostRuntime) -> Result<(), Fail> {
     for line in &BAD {
         let input = format!(in alloc; "#\n{line}\nsign\n")?;
         let (sink, status) = driven(alloc, input.as_str(), 4_096)?;
-        assert_eq!(rt; sink.written(), b"line 2: not understood\n".as_slice(), "{line}");
+        assert_eq!(rt;
+            sink.written(),
+            b"line 2: not understood\n".as_slice(),
+            "{line}"
+        );
         assert_eq!(rt; status, Status::Refused, "{line}");
     }
     Ok(())
