@@ -140,7 +140,7 @@ const UNDERSTOOD: [&str; 4] = [
 const BAD: [&str; 28] = [
     "sign",
     "sign ",
-    "sign A S r s 0 UNSIGNED-PAYLOAD GET / 1.1",
+    " sign A S r s 0 UNSIGNED-PAYLOAD GET / 1.1",
     "sign A S r s 0 UNSIGNED-PAYLOAD GET / 1.1 ",
     "SIGN A S r s 0 UNSIGNED-PAYLOAD GET / 1.1",
     "presign A S r s 0 UNSIGNED-PAYLOAD GET / 1.1",
