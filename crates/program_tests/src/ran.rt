@@ -81,7 +81,13 @@ pub(crate) fn run_command(
     let words = words(alloc, line).ok()?;
     let mut source = source(alloc, input, piece, fault)?;
     let mut sink = sink(alloc, piece, fault)?;
-    let status = run(alloc, words.as_slice(), &mut source, &mut sink, HeaderKeys::default());
+    let status = run(
+        alloc,
+        words.as_slice(),
+        &mut source,
+        &mut sink,
+        HeaderKeys::default(),
+    );
     Some(Ran { sink, status })
 }
 
