@@ -17,7 +17,11 @@ pub record ServiceView : Type 0 where
 abbrev pub left_by : Polled (Unit {0}) → Head → SignOutcome
 left_by answer candidate = record { answer = answer; candidate = candidate }
 
--- the signed head, or the cause and the head as it was; or an allocation failed, and the head is as it was
+-- the signed head; or the cause, and the head as it was
+abbrev pub AnswersSigning : Result Head SigError → Head → SignOutcome → Type 0
+AnswersSigning (Ok signed) head outcome = outcome ≡ left_by (Ready tt) signed
+AnswersSigning (Err why) head outcome = outcome ≡ left_by (Failed (error_of why)) head
+
+-- the answer to a head; or an allocation failed, and the head is as it was
 abbrev pub GivesSigned : Result Head SigError → Head → SignOutcome → Type 0
-GivesSigned (Ok signed) head outcome = (outcome ≡ left_by (Ready tt) signed) ⊎ (outcome ≡ left_by OutOfMemory head)
-GivesSigned (Err why) head outcome = (outcome ≡ left_by (Failed (error_of why)) head) ⊎ (outcome ≡ left_by OutOfMemory head)
+GivesSigned signing head outcome = AnswersSigning signing head outcome ⊎ (outcome ≡ left_by OutOfMemory head)
