@@ -217,38 +217,47 @@ fn the_last_of_two_open_loads_stays(rt: HostRuntime) {
     assert!(rt; broker.desk.cached(0).map(|key| key.number) == Some(2));
 }
 
-/// What adding answers: a handle with no cache and with no rule, and with both; and the rule.
-fn answers(desk: &mut GrantDesk<Key, UntilNow>) -> ([Result<u32, AddError>; 4], Option<u32>) {
-    let without_cache = desk.add_handle(0, 0);
-    let cache = desk.add_cache(Loader::Chain(0));
-    let without_rule = desk.add_handle(0, 0);
-    let rule = desk.add_rule(UntilNow).ok();
-    (
-        [without_cache, cache, without_rule, desk.add_handle(0, 0)],
-        rule,
-    )
+/// What adding a cache answers. None where there are as many as a desk can number.
+fn with_cache(
+    desk: &mut GrantDesk<Key, UntilNow>,
+    loader: Loader,
+) -> Option<Result<u32, AddError>> {
+    if desk.caches() == u32::MAX {
+        return None;
+    }
+    Some(desk.add_cache(loader))
+}
+
+/// What adding a handle on the first cache and the first rule answers.
+fn with_handle(desk: &mut GrantDesk<Key, UntilNow>) -> Option<Result<u32, AddError>> {
+    if desk.handles() == u32::MAX {
+        return None;
+    }
+    Some(desk.add_handle(0, 0))
+}
+
+/// The place of a rule that is added.
+fn with_rule(desk: &mut GrantDesk<Key, UntilNow>) -> Option<u32> {
+    if desk.rules() == u32::MAX {
+        return None;
+    }
+    desk.add_rule(UntilNow).ok()
 }
 
 #[test]
 fn adding_calls_refuse_in_order(rt: HostRuntime) {
     let mut desk = GrantDesk::new(rt.alloc());
-    let (answers, rule) = answers(&mut desk);
-    assert!(rt; rule == Some(0));
-    assert!(rt;
-        answers
-            == [
-                Err(AddError::NoCache(0)),
-                Ok(0),
-                Err(AddError::NoRule(0)),
-                Ok(0)
-            ]
-    );
+    assert!(rt; with_handle(&mut desk) == Some(Err(AddError::NoCache(0))));
+    assert!(rt; with_cache(&mut desk, Loader::Chain(0)) == Some(Ok(0)));
+    assert!(rt; with_handle(&mut desk) == Some(Err(AddError::NoRule(0))));
+    assert!(rt; with_rule(&mut desk) == Some(0));
+    assert!(rt; with_handle(&mut desk) == Some(Ok(0)));
     let begun = desk.step(&GrantEvent::Begin {
         call: call(1),
         expires_in: None,
     });
     assert!(rt; told(&begun) == ("begun", 0));
-    assert!(rt; desk.add_cache(Loader::Single) == Err(AddError::Late));
+    assert!(rt; with_cache(&mut desk, Loader::Single) == Some(Err(AddError::Late)));
     let now = at(&rt, rt.alloc(), 5);
     let missing = desk.step(&GrantEvent::Poll { call: call(1), now });
     assert!(rt; told(&missing) == ("missing", 0));
