@@ -4,7 +4,8 @@ use credentials::SigningCredential;
 use sign_base::{Head, Timestamp};
 use sign_request::HeaderKeys;
 use sigv4_core::{
-    SigningKey, is_before_year_0, sign_head_keyed, sign_head_with, signature, target_to_sign,
+    SigCredential, SigScope, SigningKey, is_before_year_0, sign_head_keyed, sign_head_with,
+    signature, target_to_sign,
 };
 use std::alloc::Global;
 use std::hash::RandomState;
@@ -19,22 +20,41 @@ fn plain_head(rt: &impl Abort, alloc: Global) -> Head {
     head(rt, alloc, "GET", "https://example.amazonaws.com/", &[])
 }
 
+/// A copy of the suite's credential.
+fn copied_credential(rt: &impl Abort, alloc: Global) -> SigCredential {
+    let credential = credential(rt, alloc, &SUITE);
+    credential.try_clone(alloc).expect(rt, "memory")
+}
+
+/// A copy of the suite's scope.
+fn copied_scope(rt: &impl Abort, alloc: Global) -> SigScope {
+    let scope = scope(rt, alloc, &SUITE);
+    scope.try_clone(alloc).expect(rt, "memory")
+}
+
+/// The request of the suite, signed by copies over maps with these keys.
+fn signed_over(rt: &impl Abort, alloc: Global, keys: HeaderKeys) -> Head {
+    let (credential, scope) = (copied_credential(rt, alloc), copied_scope(rt, alloc));
+    let head = plain_head(rt, alloc);
+    let payload = payload(rt, alloc, EMPTY);
+    let now = moment(rt, alloc, SUITE.second);
+    let signed = sign_head_keyed(alloc, &head, &credential, &scope, &payload, now, keys);
+    signed.expect(rt, "a signature")
+}
+
 #[test]
 fn keys_of_maps_change_no_signature(rt: HostRuntime) {
-    let alloc = rt.alloc();
-    let credential = credential(&rt, alloc, &SUITE);
-    let copy = credential.try_clone(alloc).expect(&rt, "memory");
-    let scope = scope(&rt, alloc, &SUITE)
-        .try_clone(alloc)
-        .expect(&rt, "memory");
-    let now = moment(&rt, alloc, SUITE.second);
-    let head = plain_head(&rt, alloc);
-    let payload = payload(&rt, alloc, EMPTY);
     let keys = HeaderKeys::new(RandomState::new(&rt).expect(&rt, "keys"));
-    let signed = sign_head_keyed(alloc, &head, &copy, &scope, &payload, now, keys);
-    let signed = signed.expect(&rt, "a signature");
-    has_signature(&rt, alloc, &signed, NAMES, SIGNATURE);
-    assert!(rt; target_to_sign(alloc, &head, &scope, keys).is_ok());
+    let signed = signed_over(&rt, rt.alloc(), keys);
+    has_signature(&rt, rt.alloc(), &signed, NAMES, SIGNATURE);
+}
+
+#[test]
+fn a_head_with_a_host_has_a_target(rt: HostRuntime) {
+    let head = plain_head(&rt, rt.alloc());
+    let scope = scope(&rt, rt.alloc(), &SUITE);
+    let target = target_to_sign(rt.alloc(), &head, &scope, HeaderKeys::default());
+    assert!(rt; target.is_ok());
 }
 
 #[test]
