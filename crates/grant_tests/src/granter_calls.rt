@@ -63,9 +63,9 @@ fn outcome_of(alloc: Global, source: Source, issuer: Issuer, second: i64) -> Opt
 }
 
 /// The number of the key that is given, and by which poll.
-fn given(outcome: Outcome) -> Option<(u64, u32)> {
+fn given(outcome: &Outcome) -> Option<(u64, u32)> {
     match outcome {
-        Outcome::Given(key, by) => Some((key.number, by)),
+        Outcome::Given(key, by) => Some((key.number, *by)),
         _ => None,
     }
 }
@@ -79,7 +79,7 @@ fn what_is_made_is_given(rt: HostRuntime) {
         (Source::FindsWithoutMemory, Issuer::MakesWithoutMemory, 3),
     ] {
         let outcome = outcome_of(rt.alloc(), source, issuer, 5).expect(&rt, "memory");
-        assert!(rt; given(outcome) == Some((101, polls)));
+        assert!(rt; given(&outcome) == Some((101, polls)));
     }
 }
 
@@ -144,7 +144,7 @@ fn outcome_of_three(alloc: Global) -> Option<Outcome> {
 #[test]
 fn a_chain_passes_over_failures(rt: HostRuntime) {
     let outcome = outcome_of_three(rt.alloc()).expect(&rt, "memory");
-    assert!(rt; given(outcome) == Some((103, 2)));
+    assert!(rt; given(&outcome) == Some((103, 2)));
 }
 
 /// Handles are added until the first call is begun.
