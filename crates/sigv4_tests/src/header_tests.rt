@@ -5,7 +5,6 @@
 //! with every header signed and, for an object store, the path as it stands.
 mod calls;
 mod canonical_texts;
-mod environment;
 mod heads;
 mod inputs;
 mod moments;
