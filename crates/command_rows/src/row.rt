@@ -9,7 +9,7 @@ pub struct Row {
     alloc: Global,
     /// What the row shows.
     shows: String,
-    /// The words behind the program's name, parted by `|`.
+    /// The words after the program's name, parted by `|`.
     words: String,
     input: Vec<u8>,
     /// What is written to standard output, and then the other marked lines as they stand.

@@ -1,4 +1,4 @@
--- What a chain gives, by its first provider and those behind it.
+-- What a chain gives, by its first provider and those after it.
 use Rattle.std.proofs.Common.{◌≡◌, ◌++◌, ◌∷◌, [], inl, inr, List, All, Option, Some, None, refl, ap, subst}
 use Rattle.std.proofs.lemmas.List.Elements.{All-cons, All-head, All-tail, All-nil}
 use Rattle.credentials.specs.declared.polled.Polled.{Polled}

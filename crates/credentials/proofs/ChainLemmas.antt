@@ -11,7 +11,7 @@ use Rattle.credentials.specs.declared.polled.Polled.TheVariants.{Pending, Ready,
 use Rattle.credentials.specs.Chain.{ChainProgress, ChainStarted, ChainReady, FirstGives, ChainGives, is_passed_over, AllPassedOver, MayBePassedOver, AllStartReady}
 
 module _ {P : Type 0} where
-  -- behind a place stand the item there and what stands behind the next
+  -- after a place stand the item there and what stands after the next
   pub drop-at : (xs : List P) (k : ℕ) (p : P) → slice_get xs k ≡ Some p → drop k xs ≡ p ∷ drop (k + 1) xs
   drop-at xs k p e =
       let here : get_or xs k p ≡ p = get_or_from_slice_get xs k p p e in
@@ -23,7 +23,7 @@ module _ {P : Type 0} where
       let here : get_or xs k p ≡ p = get_or_from_slice_get xs k p p e in
       rw add-one (take-suc xs k p (slice_get_within xs k p e) ∙ ap (λ q. take k xs ++ q ∷ []) here)
 
-  -- so a list is what stands before a place, the item there, and what stands behind it
+  -- so a list is what stands before a place, the item there, and what stands after it
   pub cut-at : (xs : List P) (k : ℕ) (p : P) → slice_get xs k ≡ Some p → xs ≡ take k xs ++ p ∷ drop (k + 1) xs
   cut-at xs k p e = sym (take-append-drop k xs) ∙ ap (λ ys. take k xs ++ ys) (drop-at xs k p e)
 
@@ -79,12 +79,12 @@ module _ {P L : Type 0} (started ready : P → L → Type 0) where
       All-head (λ q. (l : L) → started q l → ready q l) p (drop (k + 1) xs) (rw (drop-at xs k p e) at all)
   ready-at xs k p (Some l) e h = rw e at h.0
 
-  -- and what is still to be started behind it is ready too
-  pub ready-behind : (xs : List P) (k : ℕ) (p : P) (o : Option L) → slice_get xs k ≡ Some p → ChainReady started ready xs (record { place = k; open_load = o })
+  -- and what is still to be started after it is ready too
+  pub ready-after : (xs : List P) (k : ℕ) (p : P) (o : Option L) → slice_get xs k ≡ Some p → ChainReady started ready xs (record { place = k; open_load = o })
       → AllStartReady started ready (drop (k + 1) xs)
-  ready-behind xs k p None e all =
+  ready-after xs k p None e all =
       All-tail (λ q. (l : L) → started q l → ready q l) p (drop (k + 1) xs) (rw (drop-at xs k p e) at all)
-  ready-behind xs k p (Some l) e h = h.1
+  ready-after xs k p (Some l) e h = h.1
 
 module _ {P L : Type 0} where
   -- the provider at the place of a load
@@ -127,4 +127,4 @@ module _ {P K L : Type 0} (gives : P → Polled (Option K) → Type 0) (started 
 
   pub past-ready : (xs : List P) (load : ChainProgress L) (k : ℕ) (o : Option L) (p : P) → record { place = k; open_load = o } ≡ load
       → slice_get xs k ≡ Some p → ChainReady started ready xs load → ChainReady started ready xs (record { place = k + 1; open_load = None })
-  past-ready xs load k o p at e h = ready-behind started ready xs k p o e (subst (λ (l : ChainProgress L). ChainReady started ready xs l) (sym at) h)
+  past-ready xs load k o p at e h = ready-after started ready xs k p o e (subst (λ (l : ChainProgress L). ChainReady started ready xs l) (sym at) h)

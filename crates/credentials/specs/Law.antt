@@ -23,6 +23,6 @@ abbrev pub Finds : {K : Type 0} → (Polled (Option K) → Type 0) → Option K 
 Finds gives (Some c) = gives (Ready (Some c))
 Finds gives None = ⊥
 
--- the first provider finds what the answer says, or may be passed over, and those behind it answer so
+-- the first provider finds what the answer says, or may be passed over, and those after it answer so
 abbrev pub FirstOrRest : {P K : Type 0} → (P → Polled (Option K) → Type 0) → P → List P → Option K → Type 0
 FirstOrRest gives p later answer = Finds (gives p) answer ⊎ (MayBePassedOver (gives p) × ChainGives gives later (Ready answer))

@@ -7,7 +7,7 @@ ghost use Rattle.credentials.specs.declared.polled.Polled.TheVariants.{Ready};
 
 use crate::{ProvideCredential, SigningCredential};
 
-/// A chain answers its first found credential, whatever its providers find behind it, and that there
+/// A chain answers its first found credential, whatever its providers find after it, and that there
 /// is none where none is found.
 pub fn a_chain_answers_its_first_found<P: ProvideCredential>()
     ensures { (ctx : P.Ctx) (found : P → Option P.Credential) (providers : List P) (answer : Option P.Credential)

@@ -3,7 +3,7 @@ use Rattle.std.proofs.Common.{ℕ, zero, suc, ◌<◌, ◌^◌, List, [], ◌∷
 use Rattle.std.proofs.lemmas.List.{length-append}
 use Rattle.sequential_signer.specs.Setup.{Setup, Handle}
 use Rattle.sequential_signer.specs.declared.event.Loader.{Loader}
-use Rattle.desk_parts.specs.SetUp.{IsSetUp}
+use Rattle.desk_parts.specs.WellFormedSetup.{IsWellFormedSetup}
 
 more_few : {X : Type 0} (xs : List X) (x : X) → length xs < 4294967295 → length (xs ++ x ∷ []) < 2 ^ 32
 more_few xs x h = omega (arith, length-append xs (x ∷ []))
@@ -24,9 +24,9 @@ pub each-by : {X : Type 0} (P Q : X → Type 0) → ((x : X) → P x → Q x) �
 each-by P Q f None h = tt
 each-by P Q f (Some x) h = f x h
 
-module _ {D : Type 0} (setup : Setup D) (ok : IsSetUp setup) where
+module _ {D : Type 0} (setup : Setup D) (ok : IsWellFormedSetup setup) where
   -- one more cache
-  pub set_up-cache : (loader : Loader) → length setup.loaders < 4294967295 → IsSetUp (record setup { loaders = setup.loaders ++ loader ∷ [] })
+  pub set_up-cache : (loader : Loader) → length setup.loaders < 4294967295 → IsWellFormedSetup (record setup { loaders = setup.loaders ++ loader ∷ [] })
   set_up-cache loader h = record {
     caches_few = more_few setup.loaders loader h;
     rules_few = ok.rules_few;
@@ -35,7 +35,7 @@ module _ {D : Type 0} (setup : Setup D) (ok : IsSetUp setup) where
   }
 
   -- one more rule
-  pub set_up-rule : (rule : D) → length setup.rules < 4294967295 → IsSetUp (record setup { rules = setup.rules ++ rule ∷ [] })
+  pub set_up-rule : (rule : D) → length setup.rules < 4294967295 → IsWellFormedSetup (record setup { rules = setup.rules ++ rule ∷ [] })
   set_up-rule rule h = record {
     caches_few = ok.caches_few;
     rules_few = more_few setup.rules rule h;
@@ -44,7 +44,7 @@ module _ {D : Type 0} (setup : Setup D) (ok : IsSetUp setup) where
   }
 
   -- one more handle
-  pub set_up-handle : (handle : Handle) → length setup.handles < 4294967295 → handle.cache < length setup.loaders → handle.rule < length setup.rules → IsSetUp (record setup { handles = setup.handles ++ handle ∷ [] })
+  pub set_up-handle : (handle : Handle) → length setup.handles < 4294967295 → handle.cache < length setup.loaders → handle.rule < length setup.rules → IsWellFormedSetup (record setup { handles = setup.handles ++ handle ∷ [] })
   set_up-handle handle h c r = record {
     caches_few = ok.caches_few;
     rules_few = ok.rules_few;

@@ -4,7 +4,7 @@ pub mod Leaves
 pub mod CallMap
 pub mod Views
 pub mod CausedBy
-pub mod IsSetUp
+pub mod IsWellFormedSetup
 pub mod BeginLemmas
 pub mod LiveRecord
 pub mod LiveCases

@@ -4,7 +4,7 @@ use Rattle.wake_lock.specs.declared.CallId.{CallId}
 use Rattle.sequential_signer.specs.Setup.{Handle}
 use Rattle.sequential_signer.specs.declared.event.Loader.{Loader}
 use Rattle.desk_parts.specs.LiveCallView.{stored_view, find_view}
-use Rattle.desk_parts.specs.SetUp.{IsSetUp}
+use Rattle.desk_parts.specs.WellFormedSetup.{IsWellFormedSetup}
 use Rattle.desk_parts.specs.Tables.{DeskTables, setup_of, find_call}
 use Rattle.desk_parts.specs.declared.call_record.CallRecord.{CallRecord}
 use Rattle.desk_parts.specs.declared.tables.LiveCallView.{LiveCallView}
@@ -12,7 +12,7 @@ use Rattle.desk_parts.proofs.ListPlaces.{place-there}
 use Rattle.desk_parts.proofs.LiveRecord.{Lives}
 use Rattle.desk_parts.proofs.Views.{view-cases}
 
-module _ {K D Q H : Type 0} (desk : DeskTables K D Q H) (set_up : IsSetUp (setup_of desk)) (call : CallId) where
+module _ {K D Q H : Type 0} (desk : DeskTables K D Q H) (set_up : IsWellFormedSetup (setup_of desk)) (call : CallId) where
   lives : (h : Handle) (r : CallRecord H) → slice_get desk.handles call.handle ≡ Some h → find_call call desk.calls ≡ Some r → Lives desk call h r
   lives h r under found =
       let places : (h.cache < length desk.loaders) × (h.rule < length desk.rules) = rw under at (set_up.handles call.handle) in

@@ -4,7 +4,7 @@ pub mod Tables
 pub mod TablesView
 pub mod Adding
 pub mod AddText
-pub mod SetUp
+pub mod WellFormedSetup
 pub mod LiveCallView
 pub mod Places
 pub mod Change

@@ -20,9 +20,9 @@ use Rattle.sequential_signer.proofs.GrantEntries.{as_signer-more}
 use Rattle.sequential_signer.proofs.GrantRuns.{committed_grants-more}
 use Rattle.sequential_signer.proofs.GrantSteps.{legal_grant_entry}
 use Rattle.desk_parts.specs.Adding.{with_rule, with_handle}
-use Rattle.desk_parts.specs.SetUp.{IsSetUp}
+use Rattle.desk_parts.specs.WellFormedSetup.{IsWellFormedSetup}
 use Rattle.desk_parts.specs.Tables.{setup_of, was_begun}
-use Rattle.desk_parts.proofs.IsSetUp.{set_up-cache, set_up-rule, set_up-handle}
+use Rattle.desk_parts.proofs.IsWellFormedSetup.{set_up-cache, set_up-rule, set_up-handle}
 use Rattle.grant_desk.specs.GrantDeskState.{GrantState, with_source, GrantRepresents}
 use Rattle.grant_desk.specs.GrantSteps.{GrantUnchangedBy}
 use Rattle.grant_desk.specs.IsGrantDesk.{IsGrantDesk}
@@ -121,7 +121,7 @@ module _ {K D : Type 0} (policy : Policy K D) where
 
     desk-committed : is_out_of_memory (as_reply reply) ≡ false → is_not_now (as_reply reply) ≡ false → IsGrantDesk policy new
     desk-committed m n = record {
-      set_up = subst IsSetUp (sym setup) d.set_up;
+      set_up = subst IsWellFormedSetup (sym setup) d.set_up;
       entries = d.entries ++ record { event = event; reply = reply } ∷ [];
       represents = next;
       empty = λ h. absurd (committed_begins m n h);

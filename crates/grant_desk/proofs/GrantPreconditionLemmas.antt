@@ -12,7 +12,7 @@ use Rattle.sequential_signer.specs.declared.event.Loader.{Loader}
 use Rattle.sequential_signer.specs.declared.grant_event.GrantEntry.{GrantEntry}
 use Rattle.desk_parts.specs.LiveCallView.{stored_view, find_view}
 use Rattle.desk_parts.specs.Places.{provider_count}
-use Rattle.desk_parts.specs.SetUp.{IsSetUp}
+use Rattle.desk_parts.specs.WellFormedSetup.{IsWellFormedSetup}
 use Rattle.desk_parts.specs.Tables.{setup_of, find_call, phase_of_stage}
 use Rattle.desk_parts.specs.declared.call_record.Stage.TheVariants as stage
 use Rattle.desk_parts.proofs.ListPlaces.{place-there, mapped-below, if-some}
@@ -23,7 +23,7 @@ use Rattle.grant_desk.specs.GrantPlaces.{IsGrantPlaced, GrantPrecondition}
 use Rattle.grant_desk.proofs.GrantLoadsFew.{grant_loads_few}
 use Rattle.grant_desk.proofs.GrantRefine.{grants_ran}
 
-module _ {K D : Type 0} (policy : Policy K D) (desk : GrantState K D) (entries : List (GrantEntry K)) (stood : GrantRepresents policy desk entries) (set_up : IsSetUp (setup_of desk)) where
+module _ {K D : Type 0} (policy : Policy K D) (desk : GrantState K D) (entries : List (GrantEntry K)) (stood : GrantRepresents policy desk entries) (set_up : IsWellFormedSetup (setup_of desk)) where
   abbrev before : List (GrantEntry K)
   before = committed_grants entries
 

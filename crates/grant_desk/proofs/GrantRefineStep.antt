@@ -16,7 +16,7 @@ use Rattle.sequential_signer.specs.declared.grant_event.Made.{Made as MadeOrFail
 use Rattle.sequential_signer.proofs.GrantRows.{grant_misfit}
 use Rattle.desk_parts.specs.Action.{Does, end_effect}
 use Rattle.desk_parts.specs.LiveCallView.{stored_view, find_view}
-use Rattle.desk_parts.specs.SetUp.{IsSetUp}
+use Rattle.desk_parts.specs.WellFormedSetup.{IsWellFormedSetup}
 use Rattle.desk_parts.specs.Tables.{setup_of}
 use Rattle.desk_parts.specs.declared.tables.LiveCallView.{LiveCallView}
 use Rattle.desk_parts.proofs.LiveCases.{lives-cases}
@@ -30,7 +30,7 @@ use Rattle.grant_desk.proofs.GrantRefineLook.{grant_refines-poll}
 use Rattle.grant_desk.proofs.GrantRefineLoad.{grant_refines-provided}
 use Rattle.grant_desk.proofs.GrantRefineEnd.{grant_refines-granted, grant_refines-cancel}
 
-module _ {K D : Type 0} (policy : Policy K D) (old : GrantState K D) (entries : List (GrantEntry K)) (stood : GrantRepresents policy old entries) (set_up : IsSetUp (setup_of old)) where
+module _ {K D : Type 0} (policy : Policy K D) (old : GrantState K D) (entries : List (GrantEntry K)) (stood : GrantRepresents policy old entries) (set_up : IsWellFormedSetup (setup_of old)) where
   -- events of a call, but for a begin, with what is done at them where the call is live
   data IsOfCall : GrantEvent K → (LiveCallView → GrantAction K D) → Type 0 where
     poll : (call : CallId) (now : ℤ) → IsOfCall (Poll call now) (λ view. grant_poll_action (look_action policy old now view) view.stage)

@@ -7,9 +7,9 @@ use Rattle.std.proofs.lemmas.Option.{slice_get_within}
 use Rattle.sequential_signer.proofs.Places.{slice_get-set_other}
 use Rattle.wake_lock.specs.declared.CallId.{CallId}
 use Rattle.sequential_signer.specs.Policy.{Policy}
-use Rattle.granter.specs.MadeBy.{IsGrantMadeBy}
+use Rattle.granter.specs.IssuedBy.{IsGrantIssuedBy}
 use Rattle.granter.specs.CallsOf.{AreCallsOf, state_back}
-use Rattle.granter.specs.GranterCalls.{Begins, KeepsOthers, IsAnswerMadeBy}
+use Rattle.granter.specs.GranterCalls.{Begins, KeepsOthers, IsAnswerIssuedBy}
 use Rattle.granter.specs.GranterInvariant.{GranterState}
 use Rattle.granter.specs.GranterObjects.{Meanings}
 use Rattle.granter.specs.declared.grant.Grant.{Grant}
@@ -46,7 +46,7 @@ module _ {P G K C L W : Type 0} (m : Meanings P G K C L W) where
   }
     where
       by_place : (n : ℕ) (other : Grant P G K C L C W K) → (slice_get calls n ≡ Some (Some other)) ⊎ ((n ≡ length calls) × ((let x : Option (Grant P G K C L C W K) = Some grant in x) ≡ Some other))
-          → (other.begun.id.number ≡ n) × IsGrantMadeBy m new other
+          → (other.begun.id.number ≡ n) × IsGrantIssuedBy m new other
       by_place n other (inl h) =
           let was = all.at n other h in
           let below : n < length calls = slice_get_within calls n (Some other) h in (
@@ -57,13 +57,13 @@ module _ {P G K C L W : Type 0} (m : Meanings P G K C L W) where
           )
       by_place n other (inr h) =
           let same : grant ≡ other = cc in
-          subst (λ (x : Grant P G K C L C W K). (x.begun.id.number ≡ n) × IsGrantMadeBy m new x) same (b.number ∙ sym all.begun ∙ sym h.0, b.made)
+          subst (λ (x : Grant P G K C L C W K). (x.begun.id.number ≡ n) × IsGrantIssuedBy m new x) same (b.number ∙ sym all.begun ∙ sym h.0, b.issued)
 
   -- what is done with one call leaves the others where they are, and at its place its state or none
   changed : (old new : GranterState P G K C) (calls next : List (Option (Grant P G K C L C W K))) (n : ℕ) (grant : Grant P G K C L C W K) → AreCallsOf m old calls
       → slice_get calls n ≡ Some (Some grant) → new ≡ record old { desk = new.desk } → KeepsOthers m grant.begun.id (record { old = old; new = new }) → length next ≡ length calls
       → ((k : ℕ) → (n ≡ k → ⊥) → slice_get next k ≡ slice_get calls k)
-      → ((left : Grant P G K C L C W K) → slice_get next n ≡ Some (Some left) → (left.begun.id ≡ grant.begun.id) × IsGrantMadeBy m new left)
+      → ((left : Grant P G K C L C W K) → slice_get next n ≡ Some (Some left) → (left.begun.id ≡ grant.begun.id) × IsGrantIssuedBy m new left)
       → AreCallsOf m new next
   changed old new calls next n grant all is same keeps len apart here = record {
     begun = len ∙ all.begun ∙ sym (ap (λ (s : GranterState P G K C). s.begun) same);
@@ -74,7 +74,7 @@ module _ {P G K C L W : Type 0} (m : Meanings P G K C L W) where
       number = (all.at n grant is).0
 
       by_place : (k : ℕ) (left : Grant P G K C L C W K) → slice_get next k ≡ Some (Some left) → ((eqb n k ≡ true) × (n ≡ k)) ⊎ ((eqb n k ≡ false) × (n ≢ k))
-          → (left.begun.id.number ≡ k) × IsGrantMadeBy m new left
+          → (left.begun.id.number ≡ k) × IsGrantIssuedBy m new left
       by_place k left there (inl h) =
           let own = here left (ap (λ j. slice_get next j) h.1 ∙ there) in
           (ap (λ (c : CallId). c.number) own.0 ∙ number ∙ h.1, own.1)
@@ -90,7 +90,7 @@ module _ {P G K C L W : Type 0} (m : Meanings P G K C L W) where
   }
     where
       by_place : (k : ℕ) (grant : Grant P G K C L C W K) → slice_get (slice_set calls n None) k ≡ Some (Some grant) → ((eqb n k ≡ true) × (n ≡ k)) ⊎ ((eqb n k ≡ false) × (n ≢ k))
-          → (grant.begun.id.number ≡ k) × IsGrantMadeBy m granter grant
+          → (grant.begun.id.number ≡ k) × IsGrantIssuedBy m granter grant
       by_place k grant is (inl h) =
           let e : (let x : Option (Grant P G K C L C W K) = None in x) ≡ Some grant = written calls n None (Some grant) (ap (λ j. slice_get (slice_set calls n None) j) h.1 ∙ is) in
           absurd (cc)
@@ -106,22 +106,22 @@ module _ {P G K C L W : Type 0} (m : Meanings P G K C L W) where
       let e : (let x : Option (Grant P G K C L C W K) = None in x) ≡ Some left = written calls n None (Some left) there in
       absurd (cc))
 
-  handed_back : (granter : GranterState P G K C) (call : CallId) (a : GrantPoll P G K C L C W K) → IsAnswerMadeBy m granter call a
-      → (grant : Grant P G K C L C W K) → state_back a ≡ Some grant → (grant.begun.id ≡ call) × IsGrantMadeBy m granter grant
-  handed_back granter call (answer.Pending back) made grant is =
+  handed_back : (granter : GranterState P G K C) (call : CallId) (a : GrantPoll P G K C L C W K) → IsAnswerIssuedBy m granter call a
+      → (grant : Grant P G K C L C W K) → state_back a ≡ Some grant → (grant.begun.id ≡ call) × IsGrantIssuedBy m granter grant
+  handed_back granter call (answer.Pending back) issued grant is =
       let same : back ≡ grant = cc in
-      subst (λ (x : Grant P G K C L C W K). (x.begun.id ≡ call) × IsGrantMadeBy m granter x) same made
-  handed_back granter call (answer.OutOfMemory back) made grant is =
+      subst (λ (x : Grant P G K C L C W K). (x.begun.id ≡ call) × IsGrantIssuedBy m granter x) same issued
+  handed_back granter call (answer.OutOfMemory back) issued grant is =
       let same : back ≡ grant = cc in
-      subst (λ (x : Grant P G K C L C W K). (x.begun.id ≡ call) × IsGrantMadeBy m granter x) same made
-  handed_back granter call (answer.Given credential) made grant is = absurd (cc)
-  handed_back granter call (answer.Refused why) made grant is = absurd (cc)
+      subst (λ (x : Grant P G K C L C W K). (x.begun.id ≡ call) × IsGrantIssuedBy m granter x) same issued
+  handed_back granter call (answer.Given credential) issued grant is = absurd (cc)
+  handed_back granter call (answer.Refused why) issued grant is = absurd (cc)
 
   -- `poll` of one of them leaves the state that it hands back
   pub calls-polled : (old new : GranterState P G K C) (calls : List (Option (Grant P G K C L C W K))) (n : ℕ) (grant : Grant P G K C L C W K) (a : GrantPoll P G K C L C W K) → AreCallsOf m old calls
-      → slice_get calls n ≡ Some (Some grant) → new ≡ record old { desk = new.desk } → KeepsOthers m grant.begun.id (record { old = old; new = new }) → IsAnswerMadeBy m new grant.begun.id a
+      → slice_get calls n ≡ Some (Some grant) → new ≡ record old { desk = new.desk } → KeepsOthers m grant.begun.id (record { old = old; new = new }) → IsAnswerIssuedBy m new grant.begun.id a
       → AreCallsOf m new (slice_set calls n (state_back a))
-  calls-polled old new calls n grant a all is same keeps made =
+  calls-polled old new calls n grant a all is same keeps issued =
       changed old new calls (slice_set calls n (state_back a)) n grant all is same keeps (length-set calls n (state_back a))
       (λ k apart. slice_get-set_other calls n k (state_back a) apart)
-      (λ left there. handed_back new grant.begun.id a made left (written calls n (state_back a) (Some left) there))
+      (λ left there. handed_back new grant.begun.id a issued left (written calls n (state_back a) (Some left) there))

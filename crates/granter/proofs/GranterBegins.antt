@@ -6,15 +6,15 @@ use Rattle.sequential_signer.specs.declared.grant_event.GrantEvent.TheVariants.{
 use Rattle.sequential_signer.specs.declared.grant_event.GrantReply.TheVariants.{Begun}
 use Rattle.grant_desk.specs.GrantDeskState.{GrantState}
 use Rattle.grant_desk.specs.GrantSteps.{IsGrantStep}
-use Rattle.granter.specs.CallStep.{IsBegun}
-use Rattle.granter.specs.MadeBy.{IsStateMade, IsGrantMadeBy}
+use Rattle.granter.specs.DeskReplies.{IsBegun}
+use Rattle.granter.specs.IssuedBy.{IsStateIssued, IsGrantIssuedBy}
 use Rattle.granter.specs.GranterCalls.{Begins}
 use Rattle.granter.specs.GranterInvariant.{GranterState, IsGranter}
 use Rattle.granter.specs.GranterObjects.{Meanings, Objects, call_meaning, objects_of}
 use Rattle.granter.specs.ObjectPoll.{BegunCall}
 use Rattle.granter.specs.declared.grant.Grant.{Grant}
 use Rattle.granter.specs.declared.grant.CallState.TheVariants.{Waiting}
-use Rattle.granter.proofs.GranterOthers.{KeepsCall, differs, keeps-made}
+use Rattle.granter.proofs.GranterOthers.{KeepsCall, differs, keeps-issued}
 use Rattle.granter.proofs.GranterSetup.{granter-desk, above-next, has-objects-at}
 
 module _ {P G K C L W : Type 0} (m : Meanings P G K C L W) (old : GranterState P G K C) (s : IsGranter old) (begun : BegunCall) (desk : GrantState K G) (b : IsBegun begun old.desk desk) where
@@ -29,10 +29,10 @@ module _ {P G K C L W : Type 0} (m : Meanings P G K C L W) (old : GranterState P
   same-objects : (handle : ℕ) → objects_of (record old { desk = desk }) handle ≡ objects_of old handle
   same-objects handle = rw (b.handles, b.rules) refl
 
-  unpolled-made : begun.id.handle < length old.desk.handles → IsGrantMadeBy m (record old { desk = desk; begun = old.begun + 1 }) (let x : Grant P G K C L C W K = record { begun = begun; state = Waiting } in x)
+  unpolled-made : begun.id.handle < length old.desk.handles → IsGrantIssuedBy m (record old { desk = desk; begun = old.begun + 1 }) (let x : Grant P G K C L C W K = record { begun = begun; state = Waiting } in x)
   unpolled-made there =
       let found = has-objects-at old s begun.id.handle there in
-      subst (λ o. IsSomeAnd o (λ (x : Objects P G C). IsStateMade (call_meaning m begun x) begun desk Waiting)) (sym (same-objects begun.id.handle ∙ found.1)) b.at
+      subst (λ o. IsSomeAnd o (λ (x : Objects P G C). IsStateIssued (call_meaning m begun x) begun desk Waiting)) (sym (same-objects begun.id.handle ∙ found.1)) b.at
 
   -- the granter that has begun the call is one
   pub granter-begun : begun.id.number ≡ old.begun → IsGranter (record old { desk = desk; begun = old.begun + 1 })
@@ -48,6 +48,6 @@ module _ {P G K C L W : Type 0} (m : Meanings P G K C L W) (old : GranterState P
     number = number;
     step = step;
     next = refl;
-    made = unpolled-made there;
-    others = λ other apart made. keeps-made m old desk other (keeps-apart other.begun.id apart) made;
+    issued = unpolled-made there;
+    others = λ other apart issued. keeps-issued m old desk other (keeps-apart other.begun.id apart) issued;
   }

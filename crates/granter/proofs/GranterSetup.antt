@@ -16,7 +16,7 @@ use Rattle.granter.specs.GranterInvariant.{GranterState, IsGranter, is_above_all
 use Rattle.desk_parts.specs.ProviderList.{loader_for, AreFew}
 use Rattle.granter.specs.GranterObjects.{Objects, objects_of}
 use Rattle.granter.proofs.GranterObjectsAt.{index-is}
-use Rattle.desk_parts.proofs.IsSetUp.{longer, each-more, each-by, set_up-cache, set_up-rule, set_up-handle}
+use Rattle.desk_parts.proofs.IsWellFormedSetup.{longer, each-more, each-by, set_up-cache, set_up-rule, set_up-handle}
 
 and_both : (a b : Bool) → a ≡ true → b ≡ true → (a && b) ≡ true
 and_both a b h k = rw (h, k) refl

@@ -1,9 +1,9 @@
-pub mod CallSteps
-pub mod PollSteps
-pub mod StepsTaken
+pub mod DeskSteps
+pub mod CourseOfSteps
+pub mod StepOutcomes
 pub mod PollEnds
 pub mod ObjectMeanings
-pub mod Underway
+pub mod PollInvariant
 pub mod GranterObjectsAt
 pub mod GranterOthers
 pub mod GranterSetup

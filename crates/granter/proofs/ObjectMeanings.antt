@@ -2,7 +2,7 @@
 use Rattle.std.proofs.Common.{◌≡◌, ℕ, Option, Some, None, IsSome, IsSomeAnd, refl, sym, subst}
 use Rattle.credentials.specs.declared.polled.Polled.{Polled}
 use Rattle.desk_parts.specs.LoadAnswer.{IsLoadKept, IsLoadPending, LoadRunsOut}
-use Rattle.granter.specs.MadeBy.{IsLoadMade}
+use Rattle.granter.specs.IssuedBy.{IsLoadMade}
 use Rattle.granter.specs.GranterObjects.{Meanings, Objects, call_meaning}
 use Rattle.desk_parts.specs.ProviderList.{provider_at}
 use Rattle.granter.specs.ObjectPoll.{BegunCall}

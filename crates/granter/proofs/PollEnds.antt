@@ -8,15 +8,15 @@ use Rattle.desk_parts.specs.Places.{provider_count}
 use Rattle.desk_parts.specs.ProviderList.{loader_for, provider_at}
 use Rattle.desk_parts.proofs.ListPlaces.{place-there}
 use Rattle.grant_desk.specs.GrantDeskState.{GrantState}
-use Rattle.granter.specs.Course.{PollEnd, Pends, Gives, Refuses, RunsOut, PolledCall, IsDriven, IsEnd, IsAnswerMade}
-use Rattle.granter.specs.MadeBy.{IsStateMade}
+use Rattle.granter.specs.Course.{PollEnd, Pends, Gives, Refuses, RunsOut, PolledCall, IsDriven, IsEnd, IsAnswerIssued}
+use Rattle.granter.specs.IssuedBy.{IsStateIssued}
 use Rattle.granter.specs.ObjectPoll.{BegunCall}
-use Rattle.granter.specs.PollStep.{StepChange, ComesLater, IsStepEnd, IsEndMade, answer_by}
+use Rattle.granter.specs.StepOutcome.{StepChange, ComesLater, IsStepEnd, IsEndIssued, answer_by}
 use Rattle.granter.specs.declared.grant.CallState.{CallState}
 use Rattle.granter.specs.declared.grant.CallState.TheVariants.{Waiting, Loading, Granting}
-use Rattle.granter.specs.declared.went.StepEnd.{StepEnd}
-use Rattle.granter.specs.declared.went.StepEnd.TheVariants.{Pending, Given, Refused, OutOfMemory}
-use Rattle.granter.proofs.PollSteps.{CourseEnds}
+use Rattle.granter.specs.declared.step_outcome.StepEnd.{StepEnd}
+use Rattle.granter.specs.declared.step_outcome.StepEnd.TheVariants.{Pending, Given, Refused, OutOfMemory}
+use Rattle.granter.proofs.CourseOfSteps.{CourseEnds}
 
 module _ (P G C : Type 0) {K L W : Type 0} (begun : BegunCall) where
   end-answers : (end : StepEnd K L W) (by : PollEnd K L W) → IsStepEnd end by → IsEnd (answer_by {P = P} {G = G} {C = C} begun end) by
@@ -38,11 +38,11 @@ module _ (P G C : Type 0) {K L W : Type 0} (begun : BegunCall) where
   end-answers (OutOfMemory state) (RunsOut left) h = h
 
 module _ (P G C : Type 0) {K D L W : Type 0} (v : PolledCall K D L W) where
-  made-answers : (end : StepEnd K L W) (desk : GrantState K D) → IsEndMade v desk end → IsAnswerMade v.meaning v.begun desk (answer_by {P = P} {G = G} {C = C} v.begun end)
-  made-answers (Pending state) desk h = (refl, h)
-  made-answers (Given credential) desk h = tt
-  made-answers (Refused why) desk h = tt
-  made-answers (OutOfMemory state) desk h = (refl, h)
+  issued-answers : (end : StepEnd K L W) (desk : GrantState K D) → IsEndIssued v desk end → IsAnswerIssued v.meaning v.begun desk (answer_by {P = P} {G = G} {C = C} v.begun end)
+  issued-answers (Pending state) desk h = (refl, h)
+  issued-answers (Given credential) desk h = tt
+  issued-answers (Refused why) desk h = tt
+  issued-answers (OutOfMemory state) desk h = (refl, h)
 
   pub driven : (start : CallState K L W) (change : StepChange K D) (end : StepEnd K L W) → CourseEnds v start change end
       → IsDriven v start change.old change.new (answer_by {P = P} {G = G} {C = C} v.begun end)
@@ -50,7 +50,7 @@ module _ (P G C : Type 0) {K D L W : Type 0} (v : PolledCall K D L W) where
     run = e.run;
     course = e.course;
     end = end-answers P G C v.begun end e.run.end e.ended;
-    made = made-answers end change.new e.made;
+    issued = issued-answers end change.new e.issued;
     others = e.others;
   }
 
@@ -65,7 +65,7 @@ module _ {K D L W : Type 0} (v : PolledCall K D L W) (desk : GrantState K D) (lo
   few provider h = subst (λ o. IsSomeAnd o (λ (l : Loader). provider < provider_count l)) loads h
 
   -- each step leaves fewer
-  pub fewer : (state next : CallState K L W) → IsStateMade v.meaning v.begun desk next → ComesLater state next → steps_left loader next < steps_left loader state
+  pub fewer : (state next : CallState K L W) → IsStateIssued v.meaning v.begun desk next → ComesLater state next → steps_left loader next < steps_left loader state
   fewer Waiting Waiting new later = absurd later
   fewer Waiting (Loading provider l) new later = omega arith
   fewer Waiting (Granting source w) new later = omega arith

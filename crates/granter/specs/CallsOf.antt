@@ -2,7 +2,7 @@
 use Rattle.std.specs.Prelude.{◌≡◌, ℕ, List, length, Option, Some, None, slice_get}
 use Rattle.granter.specs.GranterInvariant.{GranterState}
 use Rattle.granter.specs.GranterObjects.{Meanings}
-use Rattle.granter.specs.MadeBy.{IsGrantMadeBy}
+use Rattle.granter.specs.IssuedBy.{IsGrantIssuedBy}
 use Rattle.granter.specs.declared.grant.Grant.{Grant}
 use Rattle.granter.specs.declared.grant_poll.GrantPoll.{GrantPoll}
 use Rattle.granter.specs.declared.grant_poll.GrantPoll.TheVariants.{Pending, OutOfMemory}
@@ -14,7 +14,7 @@ module _ {P G K C L W : Type 0} where
   state_back (OutOfMemory grant) = Some grant
   state_back _ = None
 
-  -- there are as many as were begun, and a state stands at the number of its call and was made by this granter
+  -- there are as many as were begun, and a state stands at the number of its call and was issued by this granter
   pub record AreCallsOf (m : Meanings P G K C L W) (granter : GranterState P G K C) (calls : List (Option (Grant P G K C L C W K))) : Type 0 where
     pub begun : length calls ≡ granter.begun
-    pub at : (n : ℕ) (grant : Grant P G K C L C W K) → slice_get calls n ≡ Some (Some grant) → (grant.begun.id.number ≡ n) × IsGrantMadeBy m granter grant
+    pub at : (n : ℕ) (grant : Grant P G K C L C W K) → slice_get calls n ≡ Some (Some grant) → (grant.begun.id.number ≡ n) × IsGrantIssuedBy m granter grant

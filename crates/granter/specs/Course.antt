@@ -23,7 +23,7 @@ use Rattle.grant_desk.specs.GrantDeskState.{GrantState, GrantRepresents}
 use Rattle.desk_parts.specs.Memory.{ClonesAreFree}
 use Rattle.grant_desk.specs.GrantSteps.{IsGrantStep, RunsOutAtBegins}
 use Rattle.granter.specs.GranterObjects.{Meanings, Objects, CallMeaning, call_meaning}
-use Rattle.granter.specs.MadeBy.{IsStateMade}
+use Rattle.granter.specs.IssuedBy.{IsStateIssued}
 use Rattle.granter.specs.ObjectAnswer.{IsWorkPending, IsWorkOpen, WorkRunsOut}
 use Rattle.granter.specs.ObjectPoll.{BegunCall}
 use Rattle.granter.specs.declared.grant.CallState.{CallState}
@@ -136,19 +136,19 @@ module _ {P G K C L W : Type 0} where
   IsEnd (answer.OutOfMemory grant) (RunsOut left) = grant.state ≡ left
   IsEnd given end = ⊥
 
-  -- a state that is handed back is one that was made for the call
-  abbrev pub IsAnswerMade : {D : Type 0} → CallMeaning K L W → BegunCall → GrantState K D → GrantPoll P G K C L C W K → Type 0
-  IsAnswerMade m begun desk (answer.Pending grant) = (grant.begun ≡ begun) × IsStateMade m begun desk grant.state
-  IsAnswerMade m begun desk (answer.OutOfMemory grant) = (grant.begun ≡ begun) × IsStateMade m begun desk grant.state
-  IsAnswerMade m begun desk (answer.Given credential) = Unit {0}
-  IsAnswerMade m begun desk (answer.Refused refused) = Unit {0}
+  -- a state that is handed back is one that was issued for the call
+  abbrev pub IsAnswerIssued : {D : Type 0} → CallMeaning K L W → BegunCall → GrantState K D → GrantPoll P G K C L C W K → Type 0
+  IsAnswerIssued m begun desk (answer.Pending grant) = (grant.begun ≡ begun) × IsStateIssued m begun desk grant.state
+  IsAnswerIssued m begun desk (answer.OutOfMemory grant) = (grant.begun ≡ begun) × IsStateIssued m begun desk grant.state
+  IsAnswerIssued m begun desk (answer.Given credential) = Unit {0}
+  IsAnswerIssued m begun desk (answer.Refused refused) = Unit {0}
 
 -- a call in this state is driven by these events of the desk, and ends by them
 pub record IsDriven {P G K C D L W : Type 0} (v : PolledCall K D L W) (state : CallState K L W) (old new : GrantState K D) (poll : GrantPoll P G K C L C W K) : Type 0 where
   pub run : PollRun K L W
   pub course : IsCourse v state old run new
   pub end : IsEnd poll run.end
-  pub made : IsAnswerMade v.meaning v.begun new poll
+  pub issued : IsAnswerIssued v.meaning v.begun new poll
   pub others : LeavesOthers v.begun.id old new
 
 -- the poll of a call in this state: whatever transcript the desk represents, it then represents that with the events of the poll

@@ -9,7 +9,7 @@ use Rattle.sequential_signer.specs.declared.grant_event.GrantReply.TheVariants.{
 use Rattle.grant_desk.specs.GrantSteps.{IsGrantStep}
 use Rattle.granter.specs.GranterInvariant.{GranterState}
 use Rattle.granter.specs.GranterObjects.{Meanings}
-use Rattle.granter.specs.MadeBy.{IsGrantMadeBy}
+use Rattle.granter.specs.IssuedBy.{IsGrantIssuedBy}
 use Rattle.granter.specs.declared.grant.Grant.{Grant}
 use Rattle.granter.specs.declared.grant_poll.GrantPoll.{GrantPoll}
 use Rattle.granter.specs.declared.grant_poll.GrantPoll.TheVariants as answer
@@ -28,21 +28,21 @@ pub record GranterChange (P G K C : Type 0) : Type 0 where
   pub new : GranterState P G K C
 
 module _ {P G K C L W : Type 0} (m : Meanings P G K C L W) where
-  -- every other state that the granter made is still one that it made
+  -- every other state that the granter issued is still one that it issued
   abbrev pub KeepsOthers : CallId → GranterChange P G K C → Type 0
-  KeepsOthers call change = (other : Grant P G K C L C W K) → (other.begun.id ≡ call → ⊥) → IsGrantMadeBy m change.old other → IsGrantMadeBy m change.new other
+  KeepsOthers call change = (other : Grant P G K C L C W K) → (other.begun.id ≡ call → ⊥) → IsGrantIssuedBy m change.old other → IsGrantIssuedBy m change.new other
 
-  -- a state that a poll hands back is of the same call, and one that the granter made
-  abbrev pub IsAnswerMadeBy : GranterState P G K C → CallId → GrantPoll P G K C L C W K → Type 0
-  IsAnswerMadeBy granter call (answer.Pending grant) = (grant.begun.id ≡ call) × IsGrantMadeBy m granter grant
-  IsAnswerMadeBy granter call (answer.OutOfMemory grant) = (grant.begun.id ≡ call) × IsGrantMadeBy m granter grant
-  IsAnswerMadeBy granter call (answer.Given credential) = Unit {0}
-  IsAnswerMadeBy granter call (answer.Refused refused) = Unit {0}
+  -- a state that a poll hands back is of the same call, and one that the granter issued
+  abbrev pub IsAnswerIssuedBy : GranterState P G K C → CallId → GrantPoll P G K C L C W K → Type 0
+  IsAnswerIssuedBy granter call (answer.Pending grant) = (grant.begun.id ≡ call) × IsGrantIssuedBy m granter grant
+  IsAnswerIssuedBy granter call (answer.OutOfMemory grant) = (grant.begun.id ≡ call) × IsGrantIssuedBy m granter grant
+  IsAnswerIssuedBy granter call (answer.Given credential) = Unit {0}
+  IsAnswerIssuedBy granter call (answer.Refused refused) = Unit {0}
 
   -- a call that was begun: the next number, and the event of the desk
   pub record Begins (policy : Policy K G) (change : GranterChange P G K C) (grant : Grant P G K C L C W K) : Type 0 where
     pub number : grant.begun.id.number ≡ change.old.begun
     pub step : IsGrantStep policy (Begin grant.begun.id grant.begun.expires_in) change.old.desk Begun change.new.desk
     pub next : change.new ≡ record change.old { desk = change.new.desk; begun = change.old.begun + 1 }
-    pub made : IsGrantMadeBy m change.new grant
+    pub issued : IsGrantIssuedBy m change.new grant
     pub others : KeepsOthers grant.begun.id change

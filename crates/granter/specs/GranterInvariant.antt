@@ -7,7 +7,7 @@ use Rattle.sequential_signer.specs.declared.event.Loader.{Loader}
 use Rattle.sequential_signer.specs.Policy.{Policy}
 use Rattle.desk_parts.specs.Adding.{with_rule, with_handle}
 use Rattle.desk_parts.specs.ProviderList.{loader_for, AreFew}
-use Rattle.desk_parts.specs.SetUp.{IsSetUp}
+use Rattle.desk_parts.specs.WellFormedSetup.{IsWellFormedSetup}
 use Rattle.desk_parts.specs.Tables.{setup_of}
 use Rattle.grant_desk.specs.GrantDeskState.{GrantState, GrantRepresents, with_source}
 
@@ -32,7 +32,7 @@ providers_of granter cache = option_and_then (λ place. slice_get granter.provid
 
 -- each cache has its providers, each handle its cache, its service and its context, and the number of the next call is above all
 pub record IsGranter {P G K C : Type 0} (granter : GranterState P G K C) : Type 0 where
-  pub set_up : IsSetUp (setup_of granter.desk)
+  pub set_up : IsWellFormedSetup (setup_of granter.desk)
   pub loaders : (cache : ℕ) → slice_get granter.desk.loaders cache ≡ option_map loader_for (providers_of granter cache)
   pub provider_places : length granter.provider_places ≡ length granter.desk.loaders
   pub providers : (cache : ℕ) → IfSome (slice_get granter.provider_places cache) (λ place. place < length granter.providers)

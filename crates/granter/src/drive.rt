@@ -10,7 +10,7 @@ ghost use Rattle.sequential_signer.specs.declared.grant_event.Made.TheVariants a
 ghost use Rattle.desk_parts.specs.Memory.{ClonesAreFree};
 ghost use Rattle.grant_desk.specs.GrantSteps.{IsGrantStep, RunsOutAtBegins};
 ghost use Rattle.desk_parts.specs.CallAt.{IsLive, IsAsking, IsSigning, LeavesOthers};
-ghost use Rattle.granter.specs.CallStep.{IsUnpolled, IsBegun, AfterPoll, AfterFound, AfterNone, AfterMade, found_in_event, made_in_event};
+ghost use Rattle.granter.specs.DeskReplies.{IsUnpolled, IsBegun, AfterPoll, AfterFound, AfterNone, AfterMade, found_in_event, made_in_event};
 
 use credentials::{DeadlineRule, SigningCredential};
 use desk_parts::BegunCall;

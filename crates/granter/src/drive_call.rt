@@ -3,15 +3,15 @@ ghost use Rattle.std.specs.Prelude.{◌≡◌, Some, IsSome};
 ghost use Rattle.sequential_signer.specs.Policy.{policy_of};
 ghost use Rattle.desk_parts.specs.CallAt.{loader_of};
 ghost use Rattle.desk_parts.specs.ProviderList.{loader_for};
-ghost use Rattle.granter.specs.Driving.{IsMadeFor, IsDrivenFrom};
+ghost use Rattle.granter.specs.PollContext.{IsIssuedFor, IsDrivenFrom};
 ghost use Rattle.granter.specs.GranterObjects.{meanings_of, service_of};
-ghost use Rattle.granter.specs.PollStep.{answer_by};
+ghost use Rattle.granter.specs.StepOutcome.{answer_by};
 
 use crate::call_objects::CallObjects;
 use crate::grant::Grant;
 use crate::grant_poll::GrantPoll;
 use crate::step_call::step;
-use crate::went::{StepEnd, Went};
+use crate::step_outcome::{StepEnd, StepFlow};
 use credentials::{GrantCredential, ProvideCredential, SigningCredential};
 use desk_parts::BegunCall;
 use grant_desk::GrantDesk;
@@ -30,7 +30,7 @@ where
     G: GrantCredential<Credential = P::Credential, Ctx = P::Ctx>,
     requires there { IsSome (service_of desk.old grant.begun.id.handle) }
     requires loads { loader_of desk.old grant.begun.id.handle ≡ Some (loader_for objects.now.providers.now) }
-    requires made { IsMadeFor (record {
+    requires issued { IsIssuedFor (record {
       policy = policy_of P.Credential.valid P.Credential.valid_at G.deadline;
       clones_freely = P.Credential.clones_freely;
       meanings = meanings_of P.ProvideCredential G.GrantCredential.own;
@@ -50,8 +50,8 @@ where
     let Grant { begun, mut state } = grant;
     loop {
         match step(desk, objects, &begun, now, state) {
-            Went::On(next) => state = next,
-            Went::Over(end) => return answer_of(begun, end),
+            StepFlow::On(next) => state = next,
+            StepFlow::Over(end) => return answer_of(begun, end),
         }
     }
 }

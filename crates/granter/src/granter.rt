@@ -1,7 +1,7 @@
 //! The granter on one thread: a desk, and the providers, granting services and contexts that answer it.
 //!
 //! Contracts see a granter as the record `GranterState`. A call's state is in its caller's hands between
-//! polls; `IsGrantMadeBy` says that this granter made it.
+//! polls; `IsGrantIssuedBy` says that this granter issued it.
 ghost use Rattle.std.specs.Prelude.{◌≡◌, ◌<◌, Some, [], length, OnOk, OnErr, IfOk, IfErr, IfSome, slice_get, slice_index};
 ghost use Rattle.sequential_signer.specs.Policy.{policy_of};
 ghost use Rattle.sequential_signer.specs.declared.grant_event.GrantEvent.TheVariants.{Cancel};
@@ -11,8 +11,8 @@ ghost use Rattle.desk_parts.specs.ProviderList.{AreFew};
 ghost use Rattle.grant_desk.specs.GrantDeskState.{GrantRepresents};
 ghost use Rattle.grant_desk.specs.GrantSteps.{IsGrantStep};
 ghost use Rattle.granter.specs.Course.{IsGrantPoll, polled_call};
-ghost use Rattle.granter.specs.MadeBy.{IsGrantMadeBy};
-ghost use Rattle.granter.specs.GranterCalls.{Begins, RefusesToBegin, KeepsOthers, IsAnswerMadeBy};
+ghost use Rattle.granter.specs.IssuedBy.{IsGrantIssuedBy};
+ghost use Rattle.granter.specs.GranterCalls.{Begins, RefusesToBegin, KeepsOthers, IsAnswerIssuedBy};
 ghost use Rattle.granter.specs.GranterInvariant.{IsNewGranter, with_context_handle, with_service_handle, with_cache_handle};
 ghost use Rattle.granter.specs.GranterObjects.{Objects, meanings_of, objects_of};
 
@@ -281,11 +281,11 @@ where
     /// Goes on with a call, as far as its objects answer now. `now` is the moment of all that happens
     /// in this poll.
     pub fn poll(&mut self, grant: Grant<P, G>, now: Timestamp) -> GrantPoll<P, G>
-        requires { IsGrantMadeBy (meanings_of P.ProvideCredential G.GrantCredential.own) self.old grant }
+        requires { IsGrantIssuedBy (meanings_of P.ProvideCredential G.GrantCredential.own) self.old grant }
         ensures poll { (o : Objects P G P.Ctx) → objects_of self.old grant.begun.id.handle ≡ Some o
             → IsGrantPoll (polled_call (policy_of P.Credential.valid P.Credential.valid_at G.deadline) P.Credential.clones_freely
             (meanings_of P.ProvideCredential G.GrantCredential.own) o grant.begun now) grant.state self.old.desk self.new.desk result }
-        ensures made { IsAnswerMadeBy (meanings_of P.ProvideCredential G.GrantCredential.own) self.new grant.begun.id result }
+        ensures issued { IsAnswerIssuedBy (meanings_of P.ProvideCredential G.GrantCredential.own) self.new grant.begun.id result }
         ensures same { self.new ≡ record self.old { desk = self.new.desk } }
         ensures others { KeepsOthers (meanings_of P.ProvideCredential G.GrantCredential.own) grant.begun.id (record { old = self.old; new = self.new }) }
     {
@@ -303,7 +303,7 @@ where
 
     /// Gives a call up. It takes no memory.
     pub fn cancel(&mut self, grant: Grant<P, G>)
-        requires { IsGrantMadeBy (meanings_of P.ProvideCredential G.GrantCredential.own) self.old grant }
+        requires { IsGrantIssuedBy (meanings_of P.ProvideCredential G.GrantCredential.own) self.old grant }
         ensures step { IsGrantStep (policy_of P.Credential.valid P.Credential.valid_at G.deadline) (Cancel grant.begun.id) self.old.desk Cancelled self.new.desk }
         ensures same { self.new ≡ record self.old { desk = self.new.desk } }
         ensures others { KeepsOthers (meanings_of P.ProvideCredential G.GrantCredential.own) grant.begun.id (record { old = self.old; new = self.new }) }

@@ -12,8 +12,8 @@ mod handle_room;
 mod object_answer;
 mod refusal;
 mod step_call;
+mod step_outcome;
 mod step_reply;
-mod went;
 
 pub use desk_parts::{AddError, AddRefused};
 pub use grant::Grant;

@@ -3,7 +3,7 @@ ghost use Rattle.std.specs.Prelude.{◌≡◌, Some, IsSome};
 ghost use Rattle.desk_parts.specs.CallAt.{loader_of};
 ghost use Rattle.desk_parts.specs.ProviderList.{loader_for};
 ghost use Rattle.sequential_signer.specs.Policy.{policy_of};
-ghost use Rattle.granter.specs.Driving.{IsMadeFor, IsStepTaken};
+ghost use Rattle.granter.specs.PollContext.{IsIssuedFor, IsOutcomeWith};
 ghost use Rattle.granter.specs.GranterObjects.{meanings_of, service_of};
 ghost use Rattle.granter.specs.declared.grant.CallState.TheVariants.{Loading, Granting};
 
@@ -13,8 +13,8 @@ use crate::grant::{CallState, WorkState};
 use crate::granter_objects::poll_service;
 use crate::object_answer::WorkAnswer;
 use crate::refusal::GrantRefusal;
+use crate::step_outcome::{StepEnd, StepFlow};
 use crate::step_reply::{after_found, after_made, after_none, after_poll};
-use crate::went::{StepEnd, Went};
 use credentials::{GrantCredential, ProvideCredential, SigningCredential};
 use desk_parts::{BegunCall, LoadAnswer, LoadState, poll_provider, provider_at};
 use grant_desk::GrantDesk;
@@ -27,14 +27,14 @@ pub(crate) fn step<P, G>(
     begun: &BegunCall<()>,
     now: Timestamp,
     state: CallState<P::Credential, P::Load, G::Work>,
-) -> Went<P::Credential, P::Load, G::Work>
+) -> StepFlow<P::Credential, P::Load, G::Work>
 where
     P: ProvideCredential,
     P::Credential: SigningCredential,
     G: GrantCredential<Credential = P::Credential, Ctx = P::Ctx>,
     requires there { IsSome (service_of desk.old begun.now.id.handle) }
     requires loads { loader_of desk.old begun.now.id.handle ≡ Some (loader_for objects.now.providers.now) }
-    requires made { IsMadeFor (record {
+    requires issued { IsIssuedFor (record {
       policy = policy_of P.Credential.valid P.Credential.valid_at G.deadline;
       clones_freely = P.Credential.clones_freely;
       meanings = meanings_of P.ProvideCredential G.GrantCredential.own;
@@ -42,7 +42,7 @@ where
       begun = begun.now;
       now = now;
     }) desk.old state }
-    ensures { IsStepTaken (record {
+    ensures { IsOutcomeWith (record {
       policy = policy_of P.Credential.valid P.Credential.valid_at G.deadline;
       clones_freely = P.Credential.clones_freely;
       meanings = meanings_of P.ProvideCredential G.GrantCredential.own;
@@ -71,14 +71,14 @@ fn step_loading<P, G>(
     now: Timestamp,
     provider: u32,
     load: LoadState<P::Credential, P::Load>,
-) -> Went<P::Credential, P::Load, G::Work>
+) -> StepFlow<P::Credential, P::Load, G::Work>
 where
     P: ProvideCredential,
     P::Credential: SigningCredential,
     G: GrantCredential<Credential = P::Credential, Ctx = P::Ctx>,
     requires there { IsSome (service_of desk.old begun.now.id.handle) }
     requires loads { loader_of desk.old begun.now.id.handle ≡ Some (loader_for objects.now.providers.now) }
-    requires made { IsMadeFor (record {
+    requires issued { IsIssuedFor (record {
       policy = policy_of P.Credential.valid P.Credential.valid_at G.deadline;
       clones_freely = P.Credential.clones_freely;
       meanings = meanings_of P.ProvideCredential G.GrantCredential.own;
@@ -86,7 +86,7 @@ where
       begun = begun.now;
       now = now;
     }) desk.old (Loading provider load) }
-    ensures { IsStepTaken (record {
+    ensures { IsOutcomeWith (record {
       policy = policy_of P.Credential.valid P.Credential.valid_at G.deadline;
       clones_freely = P.Credential.clones_freely;
       meanings = meanings_of P.ProvideCredential G.GrantCredential.own;
@@ -100,10 +100,10 @@ where
     match poll_provider(objects.alloc, asked, objects.ctx, load) {
         LoadAnswer::Pending(load) => {
             let state = CallState::Loading(provider, LoadState::Started(load));
-            Went::Over(StepEnd::Pending(state))
+            StepFlow::Over(StepEnd::Pending(state))
         }
         LoadAnswer::OutOfMemory(load) => {
-            Went::Over(StepEnd::OutOfMemory(CallState::Loading(provider, load)))
+            StepFlow::Over(StepEnd::OutOfMemory(CallState::Loading(provider, load)))
         }
         LoadAnswer::Found(source) => {
             let (reply, found) = give_found(desk, begun, provider, now, source);
@@ -132,13 +132,13 @@ fn step_granting<P, G>(
     now: Timestamp,
     source: P::Credential,
     work: WorkState<P::Credential, G::Work>,
-) -> Went<P::Credential, P::Load, G::Work>
+) -> StepFlow<P::Credential, P::Load, G::Work>
 where
     P: ProvideCredential,
     P::Credential: SigningCredential,
     G: GrantCredential<Credential = P::Credential, Ctx = P::Ctx>,
     requires there { IsSome (service_of desk.old begun.now.id.handle) }
-    requires made { IsMadeFor (record {
+    requires issued { IsIssuedFor (record {
       policy = policy_of P.Credential.valid P.Credential.valid_at G.deadline;
       clones_freely = P.Credential.clones_freely;
       meanings = meanings_of P.ProvideCredential G.GrantCredential.own;
@@ -146,7 +146,7 @@ where
       begun = begun.now;
       now = now;
     }) desk.old (Granting source work) }
-    ensures { IsStepTaken (record {
+    ensures { IsOutcomeWith (record {
       policy = policy_of P.Credential.valid P.Credential.valid_at G.deadline;
       clones_freely = P.Credential.clones_freely;
       meanings = meanings_of P.ProvideCredential G.GrantCredential.own;
@@ -160,10 +160,10 @@ where
     match poll_service(objects.alloc, service, objects.ctx, begun, &source, work) {
         WorkAnswer::Pending(work) => {
             let state = CallState::Granting(source, WorkState::Started(work));
-            Went::Over(StepEnd::Pending(state))
+            StepFlow::Over(StepEnd::Pending(state))
         }
         WorkAnswer::OutOfMemory(work) => {
-            Went::Over(StepEnd::OutOfMemory(CallState::Granting(source, work)))
+            StepFlow::Over(StepEnd::OutOfMemory(CallState::Granting(source, work)))
         }
         WorkAnswer::Made(credential) => {
             let (reply, made) = give_made(desk, begun, now, credential);
@@ -171,7 +171,7 @@ where
         }
         WorkAnswer::Failed(e) => {
             give_unmade(desk, begun, now);
-            Went::Over(StepEnd::Refused(GrantRefusal::Service(e)))
+            StepFlow::Over(StepEnd::Refused(GrantRefusal::Service(e)))
         }
     }
 }

@@ -1,25 +1,28 @@
 //! How a poll goes on by a reply of its desk.
 ghost use Rattle.std.specs.Prelude.{◌≡◌};
-ghost use Rattle.granter.specs.StepReply.{plain_refusal, went_after_poll, went_after_found, went_after_none, went_after_made};
+ghost use Rattle.granter.specs.OutcomeByReply.{plain_refusal, flow_after_poll, flow_after_found, flow_after_none, flow_after_made};
 
 use crate::grant::{CallState, WorkState};
 use crate::refusal::GrantRefusal;
-use crate::went::{StepEnd, Went};
+use crate::step_outcome::{StepEnd, StepFlow};
 use desk_parts::LoadState;
 use sequential_signer::{GrantReply, GrantWhy};
 
 /// A poll of a call that has not looked at its cache yet. The desk replies out of memory where it replies
 /// none of these.
-pub(crate) fn after_poll<K: Drop, L, W>(reply: GrantReply<K>) -> Went<K, L, W>
-    ensures { result ≡ went_after_poll reply }
+pub(crate) fn after_poll<K: Drop, L, W>(reply: GrantReply<K>) -> StepFlow<K, L, W>
+    ensures { result ≡ flow_after_poll reply }
 {
     match reply {
         GrantReply::Ask { provider } => {
-            Went::On(CallState::Loading(provider, LoadState::Unstarted))
+            StepFlow::On(CallState::Loading(provider, LoadState::Unstarted))
         }
-        GrantReply::Grant { source } => Went::On(CallState::Granting(source, WorkState::Unstarted)),
-        GrantReply::Refused { why } => Went::Over(StepEnd::Refused(refusal_of(why))),
-        _ => Went::Over(StepEnd::OutOfMemory(CallState::Waiting)),
+        GrantReply::Grant { source } => StepFlow::On(CallState::Granting(
+            source,
+            WorkState::Unstarted,
+        )),
+        GrantReply::Refused { why } => StepFlow::Over(StepEnd::Refused(refusal_of(why))),
+        _ => StepFlow::Over(StepEnd::OutOfMemory(CallState::Waiting)),
     }
 }
 
@@ -28,15 +31,18 @@ pub(crate) fn after_found<K: Drop, L, W>(
     provider: u32,
     found: K,
     reply: GrantReply<K>,
-) -> Went<K, L, W>
-    ensures { result ≡ went_after_found provider found reply }
+) -> StepFlow<K, L, W>
+    ensures { result ≡ flow_after_found provider found reply }
 {
     match reply {
-        GrantReply::Grant { source } => Went::On(CallState::Granting(source, WorkState::Unstarted)),
-        GrantReply::Refused { why } => Went::Over(StepEnd::Refused(refusal_of(why))),
+        GrantReply::Grant { source } => StepFlow::On(CallState::Granting(
+            source,
+            WorkState::Unstarted,
+        )),
+        GrantReply::Refused { why } => StepFlow::Over(StepEnd::Refused(refusal_of(why))),
         _ => {
             let kept = CallState::Loading(provider, LoadState::Found(found));
-            Went::Over(StepEnd::OutOfMemory(kept))
+            StepFlow::Over(StepEnd::OutOfMemory(kept))
         }
     }
 }
@@ -46,30 +52,34 @@ pub(crate) fn after_found<K: Drop, L, W>(
 pub(crate) fn after_none<K: Drop, L, W>(
     failure: GrantRefusal,
     reply: GrantReply<K>,
-) -> Went<K, L, W>
-    ensures { result ≡ went_after_none failure reply }
+) -> StepFlow<K, L, W>
+    ensures { result ≡ flow_after_none failure reply }
 {
     match reply {
         GrantReply::Ask { provider } => {
-            Went::On(CallState::Loading(provider, LoadState::Unstarted))
+            StepFlow::On(CallState::Loading(provider, LoadState::Unstarted))
         }
         GrantReply::Refused {
             why: GrantWhy::Missing,
-        } => Went::Over(StepEnd::Refused(GrantRefusal::Missing)),
-        _ => Went::Over(StepEnd::Refused(failure)),
+        } => StepFlow::Over(StepEnd::Refused(GrantRefusal::Missing)),
+        _ => StepFlow::Over(StepEnd::Refused(failure)),
     }
 }
 
 /// A credential that was made of this source, and that is kept where there was no memory to give it.
-pub(crate) fn after_made<K: Drop, L, W>(source: K, made: K, reply: GrantReply<K>) -> Went<K, L, W>
-    ensures { result ≡ went_after_made source made reply }
+pub(crate) fn after_made<K: Drop, L, W>(
+    source: K,
+    made: K,
+    reply: GrantReply<K>,
+) -> StepFlow<K, L, W>
+    ensures { result ≡ flow_after_made source made reply }
 {
     match reply {
-        GrantReply::Given { credential } => Went::Over(StepEnd::Given(credential)),
-        GrantReply::Refused { why } => Went::Over(StepEnd::Refused(refusal_of(why))),
+        GrantReply::Given { credential } => StepFlow::Over(StepEnd::Given(credential)),
+        GrantReply::Refused { why } => StepFlow::Over(StepEnd::Refused(refusal_of(why))),
         _ => {
             let kept = CallState::Granting(source, WorkState::Made(made));
-            Went::Over(StepEnd::OutOfMemory(kept))
+            StepFlow::Over(StepEnd::OutOfMemory(kept))
         }
     }
 }

@@ -129,7 +129,7 @@ fn nothing_is_read_behind_a_bad_line_or_a_fault(rt: HostRuntime) {
 }
 
 /// So many exclamation marks, in pieces of a few thousand, the read that fails, and what is answered. A line
-/// that is too long is so before the command looks at it, and also where a read fails behind it.
+/// that is too long is so before the command looks at it, and also where a read fails after it.
 const MARKS: [(usize, Fault, &[u8], Status); 4] = [
     (
         LINE_LIMIT,

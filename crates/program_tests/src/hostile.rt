@@ -1,5 +1,5 @@
 //! One script with three waiting calls, cut at each byte, and with a fault at each read and at each
-//! write in turn; a read behind a grant's lines; and a head with every byte.
+//! write in turn; a read after a grant's lines; and a head with every byte.
 use crate::ran::{Fault, bytes, ends_as, run_command};
 use signctl_core::Status;
 use std::alloc::{AllocError, Global};
@@ -124,8 +124,8 @@ fn each_write_fails_in_turn(rt: HostRuntime) {
     }
 }
 
-/// A line of no form, behind lines of a form and their answers: where the read of this number in that line
-/// fails, or the one behind it.
+/// A line of no form, after lines of a form and their answers: where the read of this number in that line
+/// fails, or the one after it.
 fn stops_in_the_bad_line(rt: &impl Abort, alloc: Global, at: usize) {
     let input = bytes(
         rt,

@@ -106,7 +106,7 @@ impl Tally {
         self.step(call, line.as_str())
     }
 
-    /// The credential is found for a call, and those behind it are polled again.
+    /// The credential is found for a call, and those after it are polled again.
     fn find(&mut self, round: u64, call: u64, end: u64) -> Result<(), AllocError>
         requires early { round ≤ 20000 }
         requires before_end { call < end }

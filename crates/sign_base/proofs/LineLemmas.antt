@@ -22,7 +22,7 @@ first-newline bytes (Some n) first =
     position_or_len_is is_newline bytes n 0 (omega (arith, first.0.high))
     (λ k below. false_from_ne_true _ (first.0.before k (omega arith) below)) (λ inside. first.1)
 
--- the first newline stands among the bytes, or behind all of them
+-- the first newline stands among the bytes, or after all of them
 pub position-within : (bytes : List ℕ) → position_or_len is_newline bytes ≤ length bytes
 position-within bytes = prefix_len-le-length (λ byte. not (is_newline byte)) bytes
 
@@ -32,23 +32,23 @@ HasNoNewline-take bytes n le k d below =
     let short : k < n = omega (arith, length-take n bytes) in
     rw get_or-take (fails_before_first is_newline bytes k d (omega arith))
 
--- bytes have no newline where the first one stands behind them
+-- bytes have no newline where the first one stands after them
 pub HasNoNewline-from_position : (bytes : List ℕ) → position_or_len is_newline bytes ≡ length bytes → HasNoNewline bytes
 HasNoNewline-from_position bytes all =
     subst HasNoNewline (take_all (length bytes) bytes (omega arith)) (HasNoNewline-take bytes (length bytes) (omega arith))
 
--- the first newline of bytes without one stands behind them
+-- the first newline of bytes without one stands after them
 pub position-none : (bytes : List ℕ) → HasNoNewline bytes → position_or_len is_newline bytes ≡ length bytes
 position-none bytes none =
     position_or_len_is is_newline bytes (length bytes) 0 (omega arith) (λ k below. none k 0 below) (λ over. absurd (omega arith))
 
--- the first newline of more bytes, behind some without one
+-- the first newline of more bytes, after some without one
 pub position-append : (bytes more : List ℕ) → HasNoNewline bytes → position_or_len is_newline (bytes ++ more) ≡ length bytes + position_or_len is_newline more
 position-append bytes more none =
     let all = position-none bytes none in
     prefix_len-append (λ byte. not (is_newline byte)) bytes more ∙ rw all (rw (eq-eqb (length bytes) (length bytes) refl) refl)
 
--- a line with its newline, and what stands behind them
+-- a line with its newline, and what stands after them
 pub split-at-newline : (bytes : List ℕ) (n : ℕ) → n ≡ position_or_len is_newline bytes → n < length bytes → bytes ≡ take n bytes ++ newline ∷ drop (n + 1) bytes
 split-at-newline bytes n is inside =
     let first : position_or_len is_newline bytes < length bytes = omega arith in
@@ -122,14 +122,14 @@ module _ (input : LineInput) where
             refl,
           )
 
-      -- what is looked at behind that line
+      -- what is looked at after that line
       pub looked_at-behind : take (input_limit - (input.handed + (n + 1))) (drop (n + 1) input.held) ≡ drop (n + 1) (looked_at input)
       looked_at-behind =
           let many = length-take (input_limit - input.handed) input.held in
           let room : (n + 1) + (input_limit - (input.handed + (n + 1))) ≡ input_limit - input.handed = omega arith in
           sym (drop-take (n + 1) (input_limit - (input.handed + (n + 1))) input.held) ∙ ap (λ m. drop (n + 1) (take m input.held)) room
 
-  -- the first newline that is looked at, where a piece was read behind the beginning of a line, by a search of the piece
+  -- the first newline that is looked at, where a piece was read after the beginning of a line, by a search of the piece
   pub position-read : (piece shown : List ℕ) (len found : ℕ) → NeedsRead input → shown ≡ looked_at (with_taken input piece) → len ≡ length input.held
       → found ≡ position_or_len is_newline (drop len shown) → len + found ≡ position_or_len is_newline (looked_at (with_taken input piece))
   position-read piece shown len found needs shown_is len_is found_is =

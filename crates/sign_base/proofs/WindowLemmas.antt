@@ -31,7 +31,7 @@ slice_range-kept old new i at le kept =
     sym (drop-take i (at - i) new) ∙ ap (λ m. drop i (take m new)) ends ∙ ap (drop i) kept
     ∙ ap (λ m. drop i (take m old)) (sym ends) ∙ drop-take i (at - i) old
 
--- a part of bytes that stay, and a piece that was written behind it
+-- a part of bytes that stay, and a piece that was written after it
 pub slice_range-more : (old new : List ℕ) (i at n : ℕ) → i ≤ at → take at new ≡ take at old → slice_range new i (at + n) ≡ slice_range old i at ++ take n (drop at new)
 slice_range-more old new i at n le kept =
     let both : at + n - i ≡ (at - i) + n = omega arith in

@@ -6,7 +6,7 @@ use Rattle.std.specs.Io.KnownBytes.{Consumes, IsAtEnd, Keeps}
 abbrev pub buffer_size : ℕ
 buffer_size = 131072
 
--- the line that was handed out last, and the bytes held behind it
+-- the line that was handed out last, and the bytes held after it
 pub record HeldBytes : Type 0 where
   pub line : List ℕ
   pub held : List ℕ

@@ -213,7 +213,7 @@ impl LineBuffer {
     }
 }
 
-/// Those bytes that are looked at, behind so many of the input.
+/// Those bytes that are looked at, after so many of the input.
 fn within_limit(bytes: &[u8], before: u64) -> &[u8]
     requires { before ≤ input_limit }
     ensures { result.now ≡ take (input_limit - before) bytes.now }
@@ -222,7 +222,7 @@ fn within_limit(bytes: &[u8], before: u64) -> &[u8]
     &bytes[..limit.min(bytes.len())]
 }
 
-/// The number of bytes behind the first `from` of them, up to a newline or to their end.
+/// The number of bytes after the first `from` of them, up to a newline or to their end.
 fn line_len(bytes: &[u8], from: usize) -> usize
     requires { from ≤ length bytes.now }
     ensures { result ≡ position_or_len is_newline (drop from bytes.now) }

@@ -1,6 +1,6 @@
-//! The part of an input that is held, in a buffer of a fixed size: pieces are read in behind it, and
+//! The part of an input that is held, in a buffer of a fixed size: pieces are read in after it, and
 //! lines leave it at its front. What is held moves to the buffer's front only where nothing fits
-//! behind it, so that each byte moves a bounded number of times.
+//! after it, so that each byte moves a bounded number of times.
 ghost use Rattle.std.specs.Prelude.{◌≡◌, ◌<◌, ◌≤◌, ◌+◌, ◌-◌, [], IfOk, is_err, length, vec_len, take, drop, slice_range};
 ghost use Rattle.std.specs.Io.KnownBytes.{ReadConsumes};
 ghost use Rattle.sign_base.specs.Faults.{CountsFault};
@@ -83,7 +83,7 @@ impl Window {
         self.start += all;
     }
 
-    /// Reads a piece in behind what is held: what the source gives, at most `most` bytes.
+    /// Reads a piece in after what is held: what the source gives, at most `most` bytes.
     pub(crate) fn read<S: Source>(&mut self, source: &mut S, most: usize) -> Result<usize, Failed>
         requires room { length self.old.held < buffer_size }
         requires most { 0 < most }
@@ -111,8 +111,8 @@ impl fmt::Debug for Window {
     }
 }
 
-/// Where a part of a buffer begins once something fits behind it: where it did, or at the buffer's
-/// front, to which it moves where nothing fits behind it, or where it is empty.
+/// Where a part of a buffer begins once something fits after it: where it did, or at the buffer's
+/// front, to which it moves where nothing fits after it, or where it is empty.
 fn with_room(bytes: &mut Vec<u8>, start: usize, end: usize) -> usize
     requires part { (start ≤ end) × (end ≤ vec_len bytes.old) }
     requires room { end - start < vec_len bytes.old }
@@ -127,7 +127,7 @@ fn with_room(bytes: &mut Vec<u8>, start: usize, end: usize) -> usize
     0
 }
 
-/// Reads a piece into a buffer, behind its first `at` bytes, which stay.
+/// Reads a piece into a buffer, after its first `at` bytes, which stay.
 fn read_at<S: Source>(
     source: &mut S,
     buffer: &mut [u8],

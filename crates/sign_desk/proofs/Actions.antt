@@ -60,10 +60,10 @@ module _ {K D : Type 0} (old : DeskState K D) where
     stays : (desk : DeskState K D) → desk.calls ≡ old.calls → (change : CallRecord → CallRecord) → one_if (option_map change (find_call view.call desk.calls)) ≡ 1
     stays desk same change = ap (λ cs. one_if (option_map change (find_call view.call cs))) same ∙ ap (λ o. one_if (option_map change o)) found
 
-    hold_plain : (hold : Hold K D) → hold.asking.calls ≡ old.calls → ((c : K) → (hold.signing c).calls ≡ old.calls) → hold.over.calls ≡ old.calls → (progress : Option (Progress K)) → IsPlain view.call (hold_action hold view progress)
+    hold_plain : (hold : Hold K D) → hold.asking_desk.calls ≡ old.calls → ((c : K) → (hold.signing_desk c).calls ≡ old.calls) → hold.ended_desk.calls ≡ old.calls → (progress : Option (Progress K)) → IsPlain view.call (hold_action hold view progress)
     hold_plain hold a s o None = refl
-    hold_plain hold a s o (Some (Asking k)) = (a, (one, stays hold.asking a _))
-    hold_plain hold a s o (Some (Over (HandOut c) left)) = ((s c, (one, stays (hold.signing c) (s c) _)), refl)
+    hold_plain hold a s o (Some (Asking k)) = (a, (one, stays hold.asking_desk a _))
+    hold_plain hold a s o (Some (Over (HandOut c) left)) = ((s c, (one, stays (hold.signing_desk c) (s c) _)), refl)
     hold_plain hold a s o (Some (Over (Refuse why) left)) = (o, (one, refl))
 
     first_plain : (b : Bool) (look : Option (Progress K)) → IsPlain view.call (first_poll_action old view b look)

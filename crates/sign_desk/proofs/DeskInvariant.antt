@@ -19,10 +19,10 @@ use Rattle.sign_desk.specs.DeskState.{DeskState, Represents}
 use Rattle.desk_parts.specs.Tables.{setup_of, was_begun}
 use Rattle.sign_desk.specs.DeskState.{with_cache}
 use Rattle.desk_parts.specs.Adding.{with_rule, with_handle}
-use Rattle.desk_parts.specs.SetUp.{IsSetUp}
+use Rattle.desk_parts.specs.WellFormedSetup.{IsWellFormedSetup}
 use Rattle.sign_desk.specs.IsDesk.{IsDesk}
 use Rattle.sign_desk.specs.Change.{UnchangedBy}
-use Rattle.desk_parts.proofs.IsSetUp.{set_up-cache, set_up-rule, set_up-handle}
+use Rattle.desk_parts.proofs.IsWellFormedSetup.{set_up-cache, set_up-rule, set_up-handle}
 use Rattle.sign_desk.proofs.NewDesk.{empty, represents-empty, represents-with_cache, represents-with_rule, represents-with_handle}
 
 module _ {K D : Type 0} (policy : Policy K D) where
@@ -110,7 +110,7 @@ module _ {K D : Type 0} (policy : Policy K D) where
 
     desk-committed : is_out_of_memory reply ≡ false → is_not_now reply ≡ false → IsDesk policy new
     desk-committed m n = record {
-      set_up = subst IsSetUp (sym setup) d.set_up;
+      set_up = subst IsWellFormedSetup (sym setup) d.set_up;
       entries = d.entries ++ record { event = event; reply = reply } ∷ [];
       represents = next;
       empty = λ h. absurd (committed_begins m n h);

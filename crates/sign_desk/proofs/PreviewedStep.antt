@@ -28,7 +28,7 @@ use Rattle.sequential_signer.proofs.CallInvariantSteps.{stands}
 use Rattle.sequential_signer.proofs.BegunCalls.{begun_once, begun_there, begun_calls-same, begun_calls-begun, filter-drops}
 use Rattle.desk_parts.specs.Action.{Leaves, Does, Allocates}
 use Rattle.desk_parts.specs.Change.{ChangesOnlyCall, one_if}
-use Rattle.desk_parts.specs.SetUp.{IsSetUp}
+use Rattle.desk_parts.specs.WellFormedSetup.{IsWellFormedSetup}
 use Rattle.desk_parts.specs.Tables.{setup_of, find_call}
 use Rattle.desk_parts.specs.declared.call_record.CallRecord.{CallRecord as Kept}
 use Rattle.sign_desk.specs.Action.{Action, Performs}
@@ -296,7 +296,7 @@ module _ {K D : Type 0} (policy : Policy K D) (old : DeskState K D) (entries : L
   performed (Allocates effect) call reply k (inr h) = (old, inr (h, refl))
 
 -- a reply that is previewed is the expected one, or out of memory at an event that allocates
-pub preview-legal : {K D : Type 0} (policy : Policy K D) (old : DeskState K D) → IsSetUp (setup_of old) → (event : Event K) (reply : Reply K) → Previews (action_of policy old event) reply
+pub preview-legal : {K D : Type 0} (policy : Policy K D) (old : DeskState K D) → IsWellFormedSetup (setup_of old) → (event : Event K) (reply : Reply K) → Previews (action_of policy old event) reply
     → (entries : List (Entry K)) → Represents policy old entries → IsLegalEntry policy (setup_of old) (committed_entries entries) (record { event = event; reply = reply })
 preview-legal policy old set_up event reply h entries stood =
     let s = performed policy old entries stood (action_of policy old event) (call_of event) reply (action-plain old policy event) h in

@@ -148,10 +148,10 @@ module _ {K D : Type 0} (policy : Policy K D) (old : DeskState K D) (entries : L
 
   -- of a call that holds or waits
   refines-leave : (s : Stage) → r.stage ≡ s → is_unpolled (phase_of_stage s) ≡ false → (reply : Reply K) (new : DeskState K D)
-      → TakesEffect (end_effect (waited_hold old view).over (Cancelled (waited_hold old view).wake)) call reply new → Refines policy old entries (cancels reply) new
+      → TakesEffect (end_effect (waited_hold old view).ended_desk (Cancelled (waited_hold old view).wake)) call reply new → Refines policy old entries (cancels reply) new
   refines-leave s e f reply new m =
       let polled : is_unpolled (phase_of before call) ≡ false = ap is_unpolled (phase-is policy old entries stood call h r lives (phase_of_stage s) (ap phase_of_stage e)) ∙ f in
-      refines-end policy old entries stood (Cancel call) h r lives (waited_hold old view).over (Cancelled (waited_hold old view).wake)
+      refines-end policy old entries stood (Cancel call) h r lives (waited_hold old view).ended_desk (Cancelled (waited_hold old view).wake)
       (record { expected = ap Cancelled (sym (waited_wakes policy old entries stood (Cancel call) h r lives cancel_order polled (Cancelled None) refl refl)) ∙ expected_cancels (says policy old entries stood call h r lives).live; committed = refl; fits = refl; no_begin = refl })
       (waited_leaves policy old entries stood (Cancel call) h r lives cancel_order polled (Cancelled (waited_hold old view).wake) refl refl refl (ap is_unpolled (cancelled_phase (waited_hold old view).wake)) old.caches refl)
       (cancelled_phase (waited_hold old view).wake) reply new m

@@ -106,9 +106,9 @@ module _ {K D : Type 0} (policy : Policy K D) (old : DeskState K D) (entries : L
     pub expected : hold_reply setup before h.cache event (Some progress) ≡ expected_reply policy setup before event
     pub woken : (reply : Reply K) → ends_hold reply ≡ true → is_not_now reply ≡ false → call_to_wake setup before h.cache (entry reply) ≡ hold.wake
     pub answered : (reply : Reply K) → is_not_now reply ≡ false → length (answers_of (after reply) (call_of event)) ≡ answers
-    pub asking : (provider : ℕ) → Follows policy old entries hold.asking (entry (Ask provider))
-    pub signing : (credential : K) (cached : Option K) → progress ≡ Over (HandOut credential) cached → Follows policy old entries (hold.signing credential) (entry (Sign credential hold.wake))
-    pub over : (cause : Why) → Follows policy old entries hold.over (entry (Refused cause hold.wake))
+    pub asking_desk : (provider : ℕ) → Follows policy old entries hold.asking_desk (entry (Ask provider))
+    pub signing_desk : (credential : K) (cached : Option K) → progress ≡ Over (HandOut credential) cached → Follows policy old entries (hold.signing_desk credential) (entry (Sign credential hold.wake))
+    pub ended_desk : (cause : Why) → Follows policy old entries hold.ended_desk (entry (Refused cause hold.wake))
     pub allocating : (credential : K) (cached : Option K) → progress ≡ Over (HandOut credential) cached → IsTrue (allocates policy setup before event)
 
   phase_after : (reply : Reply K) → is_mark reply ≡ true → phase_of (after reply) (call_of event) ≡ phase_by (list_any is_waiting_poll (entries_of before (call_of event)) || is_waiting_poll (entry reply)) reply
@@ -118,17 +118,17 @@ module _ {K D : Type 0} (policy : Policy K D) (old : DeskState K D) (entries : L
   pub refines-hold : (hold : Hold K D) (answers : ℕ) (progress : Progress K) → HoldLaw hold answers progress → (reply : Reply K) (new : DeskState K D)
       → Performs (hold_action hold (viewed (call_of event) h r r.stage answers) (Some progress)) (call_of event) old reply new → Refines policy old entries (entry reply) new
   refines-hold hold answers (Asking provider) law reply new m =
-      refines-live hold.asking stage.Loading answers (Ask provider)
-      (record { expected = law.expected; committed = refl; fits = refl; no_begin = refl }) (law.asking provider) (phase_after (Ask provider) refl) (law.answered (Ask provider) refl) reply new m
+      refines-live hold.asking_desk stage.Loading answers (Ask provider)
+      (record { expected = law.expected; committed = refl; fits = refl; no_begin = refl }) (law.asking_desk provider) (phase_after (Ask provider) refl) (law.answered (Ask provider) refl) reply new m
   refines-hold hold answers (Over (HandOut c) cached) law reply new (inl m) =
-      refines-live (hold.signing c) stage.Signing answers (Sign c hold.wake)
+      refines-live (hold.signing_desk c) stage.Signing answers (Sign c hold.wake)
       (record { expected = ap (Sign c) (sym (law.woken (Sign c None) refl refl)) ∙ law.expected; committed = refl; fits = refl; no_begin = refl })
-      (law.signing c cached refl) (phase_after (Sign c hold.wake) refl) (law.answered (Sign c hold.wake) refl) reply new m
+      (law.signing_desk c cached refl) (phase_after (Sign c hold.wake) refl) (law.answered (Sign c hold.wake) refl) reply new m
   refines-hold hold answers (Over (HandOut c) cached) law reply new (inr m) = rw (m.0, m.1) (refines-lost policy old entries stood event (law.allocating c cached refl))
   refines-hold hold answers (Over (Refuse cause) cached) law reply new m =
-      refines-end hold.over (Refused cause hold.wake)
+      refines-end hold.ended_desk (Refused cause hold.wake)
       (record { expected = ap (Refused cause) (sym (law.woken (Refused cause None) refl refl)) ∙ law.expected; committed = refl; fits = refl; no_begin = refl })
-      (law.over cause) (phase_after (Refused cause hold.wake) refl) reply new m
+      (law.ended_desk cause) (phase_after (Refused cause hold.wake) refl) reply new m
 
   -- the hold of a call that waited: where the order of first polls stays, and the call was polled before
   module _ (order : (reply : Reply K) → is_not_now reply ≡ false → poll_order setup (after reply) h.cache ≡ poll_order setup before h.cache) (polled : is_unpolled (phase_of before (call_of event)) ≡ false) where

@@ -172,8 +172,8 @@ module _ {K D : Type 0} (policy : Policy K D) (old : DeskState K D) (entries : L
         found_is_handed_out policy setup before ran call now answer (Sign c (call_to_wake setup before h.cache (entry (Sign c None)))) c
         (legal_entry_step policy setup before (entry (Sign c (call_to_wake setup before h.cache (entry (Sign c None))))) refl (inl signs)) refl
 
-    stores : (c : K) (wake : Option CallId) → CachesAfter (Provided call now (Found c)) (Sign c wake) old ((loading_hold old view).signing c)
-    stores c wake = (refl, caches-stored call c old ((loading_hold old view).signing c) h.cache (at policy old entries stood call h r lives) (slice_get_within old.caches h.cache _ (cached policy old entries stood call h r lives)) refl)
+    stores : (c : K) (wake : Option CallId) → CachesAfter (Provided call now (Found c)) (Sign c wake) old ((loading_hold old view).signing_desk c)
+    stores c wake = (refl, caches-stored call c old ((loading_hold old view).signing_desk c) h.cache (at policy old entries stood call h r lives) (slice_get_within old.caches h.cache _ (cached policy old entries stood call h r lives)) refl)
 
     order : (reply : Reply K) → is_not_now reply ≡ false → poll_order setup (after reply) h.cache ≡ poll_order setup before h.cache
     order reply n = order-stays policy setup before ran (entry reply) refl h.cache
@@ -189,10 +189,10 @@ module _ {K D : Type 0} (policy : Policy K D) (old : DeskState K D) (entries : L
       expected = expected;
       woken = waited_wakes policy old entries stood (Provided call now answer) h r lives order was_polled;
       answered = answered;
-      asking = λ k. waited_asks policy old entries stood (Provided call now answer) h r lives order was_polled k (asks answer k);
-      signing = λ c left e. waited_leaves policy old entries stood (Provided call now answer) h r lives order was_polled (Sign c _) refl refl refl (ap is_unpolled (phase_after (Sign c _) refl)) (slice_set old.caches h.cache (Some c))
-          (subst (λ (a : Answer K). CachesAfter (Provided call now a) (Sign c (next_holder call (line_at h.cache old.queues))) old ((loading_hold old view).signing c)) (sym (found c left e)) (stores c (next_holder call (line_at h.cache old.queues))));
-      over = λ cause. waited_leaves policy old entries stood (Provided call now answer) h r lives order was_polled (Refused cause _) refl refl refl (ap is_unpolled (phase_after (Refused cause _) refl)) old.caches
+      asking_desk = λ k. waited_asks policy old entries stood (Provided call now answer) h r lives order was_polled k (asks answer k);
+      signing_desk = λ c left e. waited_leaves policy old entries stood (Provided call now answer) h r lives order was_polled (Sign c _) refl refl refl (ap is_unpolled (phase_after (Sign c _) refl)) (slice_set old.caches h.cache (Some c))
+          (subst (λ (a : Answer K). CachesAfter (Provided call now a) (Sign c (next_holder call (line_at h.cache old.queues))) old ((loading_hold old view).signing_desk c)) (sym (found c left e)) (stores c (next_holder call (line_at h.cache old.queues))));
+      ended_desk = λ cause. waited_leaves policy old entries stood (Provided call now answer) h r lives order was_polled (Refused cause _) refl refl refl (ap is_unpolled (phase_after (Refused cause _) refl)) old.caches
           (caches_after-same (Provided call now answer) (Refused cause _) old _ refl refl);
       allocating = λ c left e. rw (found c left e, was_loading) refl;
     }

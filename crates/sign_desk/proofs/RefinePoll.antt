@@ -162,9 +162,9 @@ module _ {K D : Type 0} (policy : Policy K D) (old : DeskState K D) (entries : L
             expected = expected_at_turn turn;
             woken = λ reply ends n. wakes-nobody policy setup before ran h.cache (entry reply) (nobody-held (open_calls setup before h.cache) false free);
             answered = λ reply n. answered reply;
-            asking = λ k. enters (Ask k) refl refl refl (ap is_unpolled (phase_after (Ask k) refl));
-            signing = λ c left e. passes free (Sign c None) refl refl refl (ap is_unpolled (phase_after (Sign c None) refl));
-            over = λ cause. passes free (Refused cause None) refl refl refl (ap is_unpolled (phase_after (Refused cause None) refl));
+            asking_desk = λ k. enters (Ask k) refl refl refl (ap is_unpolled (phase_after (Ask k) refl));
+            signing_desk = λ c left e. passes free (Sign c None) refl refl refl (ap is_unpolled (phase_after (Sign c None) refl));
+            ended_desk = λ cause. passes free (Refused cause None) refl refl refl (ap is_unpolled (phase_after (Refused cause None) refl));
             allocating = allocating turn;
           }
 
@@ -190,9 +190,9 @@ module _ {K D : Type 0} (policy : Policy K D) (old : DeskState K D) (entries : L
         expected = expected_at_turn turn;
         woken = waited_wakes policy old entries stood (Poll call now) h r lives order was_polled;
         answered = λ reply n. answered reply;
-        asking = λ k. waited_asks policy old entries stood (Poll call now) h r lives order was_polled k refl;
-        signing = λ c left e. waited_leaves policy old entries stood (Poll call now) h r lives order was_polled (Sign c _) refl refl refl (ap is_unpolled (phase_after (Sign c _) refl)) old.caches refl;
-        over = λ cause. waited_leaves policy old entries stood (Poll call now) h r lives order was_polled (Refused cause _) refl refl refl (ap is_unpolled (phase_after (Refused cause _) refl)) old.caches refl;
+        asking_desk = λ k. waited_asks policy old entries stood (Poll call now) h r lives order was_polled k refl;
+        signing_desk = λ c left e. waited_leaves policy old entries stood (Poll call now) h r lives order was_polled (Sign c _) refl refl refl (ap is_unpolled (phase_after (Sign c _) refl)) old.caches refl;
+        ended_desk = λ cause. waited_leaves policy old entries stood (Poll call now) h r lives order was_polled (Refused cause _) refl refl refl (ap is_unpolled (phase_after (Refused cause _) refl)) old.caches refl;
         allocating = allocating turn;
       }
 

@@ -15,7 +15,7 @@ use Rattle.sequential_signer.specs.declared.event.Reply.{Reply}
 use Rattle.sequential_signer.specs.declared.event.Verdict.{Verdict}
 use Rattle.sign_desk.specs.DeskState.{DeskState, Represents}
 use Rattle.desk_parts.specs.Tables.{setup_of, find_call}
-use Rattle.desk_parts.specs.SetUp.{IsSetUp}
+use Rattle.desk_parts.specs.WellFormedSetup.{IsWellFormedSetup}
 use Rattle.desk_parts.specs.LiveCallView.{stored_view, find_view}
 use Rattle.sign_desk.specs.Action.{Action, Performs}
 use Rattle.sign_desk.specs.Transition.{poll_action, provided_action, load_action, signed_action, cancel_action, live_action, Transition}
@@ -31,7 +31,7 @@ use Rattle.sign_desk.proofs.RefineLoad.{refines-provided}
 use Rattle.sign_desk.proofs.RefineEnd.{refines-signed, refines-cancel}
 
 module _ {K D : Type 0} (policy : Policy K D) where
-  module _ (old : DeskState K D) (entries : List (Entry K)) (stood : Represents policy old entries) (set_up : IsSetUp (setup_of old)) where
+  module _ (old : DeskState K D) (entries : List (Entry K)) (stood : Represents policy old entries) (set_up : IsWellFormedSetup (setup_of old)) where
     -- events of a call, but for a begin, with what is done at them where the call is live
     data IsOfCall : Event K → (LiveCallView → Action K D) → Type 0 where
       poll : (call : CallId) (now : ℤ) → IsOfCall (Poll call now) (λ view. poll_action policy old now view view.stage)

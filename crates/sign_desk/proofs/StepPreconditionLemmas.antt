@@ -24,7 +24,7 @@ use Rattle.sign_desk.specs.TranscriptQueue.{is_unpolled, queue_of}
 use Rattle.sequential_signer.specs.LiveCall.{live_calls}
 use Rattle.sign_desk.specs.DeskState.{DeskState, live_view, Represents}
 use Rattle.desk_parts.specs.Tables.{setup_of, find_call, phase_of_stage}
-use Rattle.desk_parts.specs.SetUp.{IsSetUp}
+use Rattle.desk_parts.specs.WellFormedSetup.{IsWellFormedSetup}
 use Rattle.sign_desk.specs.Records.{CallRecord}
 use Rattle.desk_parts.specs.declared.call_record.Stage.TheVariants as stage
 use Rattle.sequential_signer.specs.LiveCall.{begun_calls}
@@ -67,7 +67,7 @@ unpolled_live true Signing h = cc
 unpolled_live true Ended h = cc
 unpolled_live false p h = cc
 
-module _ {K D : Type 0} (policy : Policy K D) (old : DeskState K D) (entries : List (Entry K)) (stood : Represents policy old entries) (set_up : IsSetUp (setup_of old)) where
+module _ {K D : Type 0} (policy : Policy K D) (old : DeskState K D) (entries : List (Entry K)) (stood : Represents policy old entries) (set_up : IsWellFormedSetup (setup_of old)) where
   abbrev setup : Setup D
   setup = setup_of old
 

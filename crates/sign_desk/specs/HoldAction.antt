@@ -15,36 +15,36 @@ use Rattle.desk_parts.specs.declared.tables.LiveCallView.{LiveCallView}
 -- what becomes of the desk but for the call: where it asks a provider, where it is handed a credential, and where its hold
 -- ends without one; and the call that is woken where the hold is over
 pub record Hold (K D : Type 0) : Type 0 where
-  pub asking : DeskState K D
-  pub signing : K → DeskState K D
-  pub over : DeskState K D
+  pub asking_desk : DeskState K D
+  pub signing_desk : K → DeskState K D
+  pub ended_desk : DeskState K D
   pub wake : Option CallId
 
 -- the hold of a call that is first polled: it takes a place in the queue only where it asks
 abbrev pub first_hold : {K D : Type 0} → DeskState K D → LiveCallView → Hold K D
 first_hold desk view = record {
-  asking = with_queue (with_last view.call) view.cache desk;
-  signing = λ credential. with_queue without_room view.cache desk;
-  over = with_queue without_room view.cache desk;
+  asking_desk = with_queue (with_last view.call) view.cache desk;
+  signing_desk = λ credential. with_queue without_room view.cache desk;
+  ended_desk = with_queue without_room view.cache desk;
   wake = None;
 }
 
 -- the hold of a call that waited: it gives its place to the next where it is over
 abbrev pub waited_hold : {K D : Type 0} → DeskState K D → LiveCallView → Hold K D
 waited_hold desk view = record {
-  asking = desk;
-  signing = λ credential. with_queue (without_call view.call) view.cache desk;
-  over = with_queue (without_call view.call) view.cache desk;
+  asking_desk = desk;
+  signing_desk = λ credential. with_queue (without_call view.call) view.cache desk;
+  ended_desk = with_queue (without_call view.call) view.cache desk;
   wake = next_holder view.call (line_at view.cache desk.queues);
 }
 
 -- the hold of a call that loads: as of one that waited, but a credential that is handed out is cached
 abbrev pub loading_hold : {K D : Type 0} → DeskState K D → LiveCallView → Hold K D
-loading_hold desk view = record (waited_hold desk view) { signing = λ credential. with_cached credential view (waited_hold desk view).over }
+loading_hold desk view = record (waited_hold desk view) { signing_desk = λ credential. with_cached credential view (waited_hold desk view).ended_desk }
 
 -- what is done by how far the hold gets; only a credential that is handed out takes memory
 abbrev pub hold_action : {K D : Type 0} → Hold K D → LiveCallView → Option (Progress K) → Action K D
 hold_action hold view None = Leaves NotNow
-hold_action hold view (Some (Asking provider)) = Does (live_effect hold.asking (record view { stage = stage.Loading }) (Ask provider))
-hold_action hold view (Some (Over (HandOut credential) cached)) = Allocates (live_effect (hold.signing credential) (record view { stage = stage.Signing }) (Sign credential hold.wake))
-hold_action hold view (Some (Over (Refuse why) cached)) = Does (end_effect hold.over (Refused why hold.wake))
+hold_action hold view (Some (Asking provider)) = Does (live_effect hold.asking_desk (record view { stage = stage.Loading }) (Ask provider))
+hold_action hold view (Some (Over (HandOut credential) cached)) = Allocates (live_effect (hold.signing_desk credential) (record view { stage = stage.Signing }) (Sign credential hold.wake))
+hold_action hold view (Some (Over (Refuse why) cached)) = Does (end_effect hold.ended_desk (Refused why hold.wake))

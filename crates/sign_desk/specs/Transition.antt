@@ -69,8 +69,8 @@ signed_action desk answer view _ = Leaves NotNow
 -- a cancel, by the stage of its call: a place in the queue, or the room for one, is given back
 abbrev pub cancel_action : {K D : Type 0} → DeskState K D → LiveCallView → Stage → Action K D
 cancel_action desk view stage.Unpolled = Does (end_effect (with_queue without_room view.cache desk) (Cancelled None))
-cancel_action desk view stage.Queued = Does (end_effect (waited_hold desk view).over (Cancelled (waited_hold desk view).wake))
-cancel_action desk view stage.Loading = Does (end_effect (waited_hold desk view).over (Cancelled (waited_hold desk view).wake))
+cancel_action desk view stage.Queued = Does (end_effect (waited_hold desk view).ended_desk (Cancelled (waited_hold desk view).wake))
+cancel_action desk view stage.Loading = Does (end_effect (waited_hold desk view).ended_desk (Cancelled (waited_hold desk view).wake))
 cancel_action desk view stage.Signing = Does (end_effect desk (Cancelled None))
 
 -- what is done at a live call; an event of no live call does not fit

@@ -62,7 +62,7 @@ impl<K: SigningCredential, D: DeadlineRule<Credential = K>> State<K, D> {
     pub fn sign_and_leave(&mut self, view: LiveCallView, credential: K) -> Reply<K>
         requires live { IsSome (find_call view.call self.old.calls) }
         requires queue { view.cache < length self.old.queues }
-        ensures { TakesEffect (live_effect (waited_hold self.old view).over (record view { stage = Signing })
+        ensures { TakesEffect (live_effect (waited_hold self.old view).ended_desk (record view { stage = Signing })
             (Sign credential (waited_hold self.old view).wake)) view.call result self.new }
     {
         let wake = self.tables.leave(view.cache, view.call);
@@ -72,7 +72,7 @@ impl<K: SigningCredential, D: DeadlineRule<Credential = K>> State<K, D> {
     /// The call is over, and leaves its queue: the next in line is woken.
     pub fn refuse_and_leave(&mut self, view: LiveCallView, why: Why) -> Reply<K>
         requires { view.cache < length self.old.queues }
-        ensures { TakesEffect (end_effect (waited_hold self.old view).over
+        ensures { TakesEffect (end_effect (waited_hold self.old view).ended_desk
             (Refused why (waited_hold self.old view).wake)) view.call result self.new }
     {
         let wake = self.tables.leave(view.cache, view.call);

@@ -25,7 +25,7 @@ origin_form text =
 abbrev pub authority_form : List ℕ → Option PlainTarget
 authority_form text = then_some (is_authority text) (record { scheme = None; authority = Some text; path_and_query = [] })
 
--- what is kept of a path and query behind an authority: `/` where there are none
+-- what is kept of a path and query after an authority: `/` where there are none
 abbrev pub kept_tail : List ℕ → List ℕ
 kept_tail tail = if length tail == 0 then codes "/" else without_fragment tail
 

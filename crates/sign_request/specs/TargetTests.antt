@@ -72,7 +72,7 @@ is_path_and_query text =
     && (option_map_or (list_all is_query_byte) (split_once_back question_mark text) true
     && (is_utf8 text && nat_le (length text) most_target_bytes)))
 
--- the same with a fragment behind it, which may hold anything
+-- the same with a fragment after it, which may hold anything
 unfoldable pub is_path_input : List ℕ → Bool
 is_path_input text =
     (is_asterisk text || is_delimiter (slice_index text 0))

@@ -36,15 +36,15 @@ pub fn run_program<S: Source, D: Sink, E: Sink>(
         (record { holds = E.holds; faults = E.faults; old = errors.old; new = errors.new })) }
 {
     let status = match words {
-        Some(all) => answer(alloc, behind_name(all.as_slice()), source, output, keys),
+        Some(all) => answer(alloc, after_name(all.as_slice()), source, output, keys),
         None => Status::Usage,
     };
     report(status, errors);
     status.exit_status()
 }
 
-/// The words behind the program's name.
-fn behind_name(all: &[String]) -> &[String]
+/// The words after the program's name.
+fn after_name(all: &[String]) -> &[String]
     ensures { map string_bytes result.now ≡ drop 1 (map string_bytes all.now) }
 {
     match all {
@@ -125,7 +125,7 @@ fn reason_line(status: Status) -> &'static str
     }
 }
 
-/// The usage line, and what stands behind it.
+/// The usage line, and what stands after it.
 macro_rules! usage_line {
     ($($more:literal)?) => {
         concat!("usage: signctl script|view|hmac|grant|load N|pool W J\n" $(, $more)?)

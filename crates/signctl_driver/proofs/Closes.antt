@@ -1,4 +1,4 @@
--- The output to all bytes taken, by what stands behind the lines that were handed out.
+-- The output to all bytes taken, by what stands after the lines that were handed out.
 use Rattle.std.proofs.Common.{◌≡◌, ℕ, ◌+◌, ◌-◌, ◌<◌, ◌≤◌, inl, inr, Bool, true, false, nat_lt, List, [], ◌∷◌, ◌++◌, length, take, drop, Option, Some, Err, codes, refl, sym, ap, ◌∙◌, subst, append_assoc, arith, length-append, IsSome}
 use Rattle.std.proofs.Math.Seq.{take-append-add}
 use Rattle.std.proofs.lemmas.List.{take_all, take-append-drop, length-take-le}
@@ -15,7 +15,7 @@ use Rattle.signctl_driver.proofs.Truncation.{reading-too_long}
 use Rattle.signctl_driver.proofs.LineSteps.{lines-line, lines-too_long}
 use Rattle.signctl_driver.proofs.Progress.{GoesOn, seen-past, output-bad, output-many}
 
--- what is looked at of the bytes behind those that were handed out
+-- what is looked at of the bytes after those that were handed out
 abbrev pub seen : List ℕ → List ℕ → List ℕ
 seen bytes held = take (input_limit - length bytes) held
 

@@ -14,7 +14,7 @@ lines-line line more ending clear =
     ap (λ v. lines_in ending v) (slice_split_at is_newline line newline more clear refl ∙ ap (λ v. line ∷ v) first.2)
     ∙ ap (λ v. line ∷ lines_in ending v) (sym first.2)
 
--- what stands behind the last newline is a line at the end
+-- what stands after the last newline is a line at the end
 pub lines-last : (line : List ℕ) → HasNoNewline line → 0 < length line → lines_of line End ≡ line ∷ []
 lines-last [] clear some = absurd (omega arith)
 lines-last (b ∷ rest) clear some = ap (λ v. lines_in End v) (slice_split_none is_newline (b ∷ rest) clear)

@@ -1,4 +1,4 @@
--- Bytes cut at their newlines, and what more bytes behind them change.
+-- Bytes cut at their newlines, and what more bytes after them change.
 use Rattle.std.proofs.Common.{◌≡◌, ℕ, Bool, true, false, if◌then◌else◌, List, [], ◌∷◌, ◌++◌, refl, sym, ap, ◌∙◌, arith, length-append}
 use Rattle.std.specs.List.{slice_split, onto_first}
 use Rattle.std.proofs.lemmas.List.Elements.{All-head, All-tail, All-cons}
@@ -74,10 +74,10 @@ cut_of (x ∷ xs) = by_test (cut_of xs) (is_newline x) refl
     by_test c false e = by_done e c.done c.last c.clear c.pieces c.more
 
 -- all pieces but the last are lines
-pub lines_in-behind : (ending : Ending) (done : List (List ℕ)) (piece : List ℕ) (rest : List (List ℕ)) → lines_in ending (done ++ piece ∷ rest) ≡ done ++ lines_in ending (piece ∷ rest)
-lines_in-behind ending [] piece rest = refl
-lines_in-behind ending (d ∷ []) piece rest = refl
-lines_in-behind ending (d ∷ (e ∷ ds)) piece rest = ap (λ v. d ∷ v) (lines_in-behind ending (e ∷ ds) piece rest)
+pub lines_in-after : (ending : Ending) (done : List (List ℕ)) (piece : List ℕ) (rest : List (List ℕ)) → lines_in ending (done ++ piece ∷ rest) ≡ done ++ lines_in ending (piece ∷ rest)
+lines_in-after ending [] piece rest = refl
+lines_in-after ending (d ∷ []) piece rest = refl
+lines_in-after ending (d ∷ (e ∷ ds)) piece rest = ap (λ v. d ∷ v) (lines_in-after ending (e ∷ ds) piece rest)
 
 -- a line that is too long stays so when more bytes follow
 pub too_long-grows : (line behind : List ℕ) → is_too_long line ≡ true → is_too_long (line ++ behind) ≡ true

@@ -13,7 +13,7 @@ use Rattle.signctl_driver.proofs.ReadLines.{read-none, read-good, answers-start}
 use Rattle.signctl_driver.proofs.Truncation.{output-within, output-past}
 use Rattle.signctl_driver.proofs.LineSteps.{lines-line, lines-last, lines-none, lines-part}
 
--- what is looked at of too many bytes, behind those that were handed out
+-- what is looked at of too many bytes, after those that were handed out
 pub seen-past : (bytes held : List ℕ) → length bytes ≤ input_limit → take input_limit (bytes ++ held) ≡ bytes ++ take (input_limit - length bytes) held
 seen-past bytes held few =
     let room = input_limit - length bytes in
@@ -21,7 +21,7 @@ seen-past bytes held few =
     ap (λ n. take n (bytes ++ held)) limit ∙ take-append-add bytes held room
 
 module _ {Item Cause : Type 0} (command : Command Item Cause) where
-  -- whatever follows these bytes, its lines are read behind these items
+  -- whatever follows these bytes, its lines are read after these items
   abbrev pub GoesOn : List Item → List ℕ → Type 0
   GoesOn items handed = (more : List ℕ) (ending : Ending) → lines_read command (handed ++ more) ending ≡ read_from command items (lines_of more ending)
 
@@ -29,7 +29,7 @@ module _ {Item Cause : Type 0} (command : Command Item Cause) where
   pub goes_on-none : GoesOn [] []
   goes_on-none more ending = refl
 
-  -- and behind each good line
+  -- and after each good line
   pub goes_on-line : (items : List Item) (handed line : List ℕ) (x : Item) → GoesOn items handed → HasNoNewline line → reading_of command items line ≡ Ok x → GoesOn (items ++ x ∷ []) (handed ++ (line ++ newline ∷ []))
   goes_on-line items handed line x go clear reads more ending =
       ap (λ v. lines_read command v ending) (append_assoc handed (line ++ newline ∷ []) more ∙ ap (λ v. handed ++ v) (append_assoc line (newline ∷ []) more))
@@ -37,7 +37,7 @@ module _ {Item Cause : Type 0} (command : Command Item Cause) where
       ∙ ap (λ v. read_from command items v) (lines-line line more ending clear)
       ∙ read-good command items line (lines_of more ending) x reads
 
-  -- behind the good last line all was read, and no line is bad
+  -- after the good last line all was read, and no line is bad
   pub all_read-last : (items : List Item) (handed line : List ℕ) (x : Item) → GoesOn items handed → HasNoNewline line → 0 < length line → reading_of command items line ≡ Ok x → lines_read command (handed ++ line) End ≡ record { items = items ++ x ∷ []; bad = None }
   all_read-last items handed line x go clear some reads =
       go line End ∙ ap (λ v. read_from command items v) (lines-last line clear some)

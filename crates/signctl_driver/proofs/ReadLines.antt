@@ -9,7 +9,7 @@ use Rattle.signctl_driver.specs.LinesRead.{LinesRead, reading_of, read_on, read_
 use Rattle.signctl_driver.specs.Output.{bad_line, output_of}
 use Rattle.signctl_driver.proofs.Starts.{starts-append, starts-same, starts-trans}
 
--- one item more comes behind all others
+-- one item more comes after all others
 each_after-push : {A : Type 0} (before items : List A) (x : A) → each_after before (items ++ x ∷ []) ≡ each_after before items ++ (before ++ items, x) ∷ []
 each_after-push before [] x = ap (λ v. (v, x) ∷ []) (sym (append-nil before))
 each_after-push before (y ∷ rest) x =
@@ -22,7 +22,7 @@ module _ {Item Cause : Type 0} (command : Command Item Cause) where
   unfolding answers_to
   answers-none = refl
 
-  -- one item more is answered behind the others
+  -- one item more is answered after the others
   pub answers-push : (items : List Item) (x : Item) → answers_to command (items ++ x ∷ []) ≡ answers_to command items ++ command.answer items x
   unfolding answers_to
   answers-push items x =
@@ -36,13 +36,13 @@ module _ {Item Cause : Type 0} (command : Command Item Cause) where
   unfolding read_from
   read-none before = refl
 
-  -- the lines behind a good one are read behind its item
+  -- the lines after a good one are read after its item
   pub read-good : (before : List Item) (line : List ℕ) (rest : List (List ℕ)) (x : Item) → reading_of command before line ≡ Ok x → read_from command before (line ∷ rest) ≡ read_from command (before ++ x ∷ []) rest
   unfolding read_from
   read-good before line rest x h =
       ap (λ (r : Result Item (List ℕ)). read_on before (λ items. read_from command items rest) r) h
 
-  -- no line is read behind a bad one
+  -- no line is read after a bad one
   pub read-bad : (before : List Item) (line : List ℕ) (rest : List (List ℕ)) (why : List ℕ) → reading_of command before line ≡ Err why → read_from command before (line ∷ rest) ≡ record { items = before; bad = Some why }
   unfolding read_from
   read-bad before line rest why h =
@@ -65,12 +65,12 @@ module _ {Item Cause : Type 0} (command : Command Item Cause) where
           starts-append _ (answers_to command before) (bad_line (length before + 1) why) (ap (λ (s : LinesRead Item). output_of command closing s) (read-bad before line rest why e))
 
   -- what a line reads as changes nothing of what comes before it: lines in front of both keep a prefix a prefix
-  pub output-behind : (front less more : List (List ℕ)) (closing : List Item → List ℕ)
+  pub output-after : (front less more : List (List ℕ)) (closing : List Item → List ℕ)
       → ((before : List Item) → StartsWith (output_of command closing (read_from command before more)) (output_of command (λ items. []) (read_from command before less)))
       → (before : List Item) → StartsWith (output_of command closing (read_from command before (front ++ more))) (output_of command (λ items. []) (read_from command before (front ++ less)))
-  output-behind [] less more closing h before = h before
-  output-behind (line ∷ rest) less more closing h before =
-      by_reading (λ x. output-behind rest less more closing h (before ++ x ∷ [])) (reading_of command before line) refl
+  output-after [] less more closing h before = h before
+  output-after (line ∷ rest) less more closing h before =
+      by_reading (λ x. output-after rest less more closing h (before ++ x ∷ [])) (reading_of command before line) refl
     where
       Starts : LinesRead Item → LinesRead Item → Type 0
       Starts s t = StartsWith (output_of command closing s) (output_of command (λ items. []) t)

@@ -11,17 +11,17 @@ use Rattle.sign_base.specs.LineReader.{AnswersOpen, AnswersNext, is_fault}
 use Rattle.signctl_driver.specs.Command.{Command}
 use Rattle.signctl_driver.specs.LinesRead.{reading_of}
 use Rattle.signctl_driver.specs.Status.{FinishesBy, is_read_fault}
-use Rattle.signctl_driver.specs.Turn.{Good, Ends, turn_by, turn_of}
+use Rattle.signctl_driver.specs.LineOutcome.{Good, Ends, line_outcome_by, line_outcome}
 use Rattle.signctl_driver.specs.declared.status.Status.{Status}
 use Rattle.signctl_driver.proofs.RunState.{IsReadSoFar}
 use Rattle.signctl_driver.proofs.RunSteps.{status-is, closing-is}
 
 module _ {Item Cause : Type 0} (command : Command Item Cause) where
   -- a run ends as in a failed read exactly where the reader says so
-  pub turn-fault : (items : List Item) (answer : Result (List ℕ) Close) (status : Status) (closing : List ℕ) → turn_of command items answer ≡ Ends status closing → is_read_fault status ≡ is_fault answer
+  pub turn-fault : (items : List Item) (answer : Result (List ℕ) Close) (status : Status) (closing : List ℕ) → line_outcome command items answer ≡ Ends status closing → is_read_fault status ≡ is_fault answer
   turn-fault items (Ok line) status closing t = by_reading (reading_of command items line) t
     where
-      by_reading : (r : Result Item (List ℕ)) → turn_by (length items) r ≡ Ends status closing → is_read_fault status ≡ false
+      by_reading : (r : Result Item (List ℕ)) → line_outcome_by (length items) r ≡ Ends status closing → is_read_fault status ≡ false
       by_reading (Ok x) e = absurd (cc)
       by_reading (Err why) e = ap (λ s. is_read_fault s) (sym (status-is {Item = Item} _ _ _ _ e))
   turn-fault items (Err close.TooLong) status closing t = ap (λ s. is_read_fault s) (sym (status-is {Item = Item} _ _ _ _ t))
@@ -29,8 +29,8 @@ module _ {Item Cause : Type 0} (command : Command Item Cause) where
   turn-fault items (Err close.End) status closing t = ap (λ s. is_read_fault s) (sym (status-is {Item = Item} _ _ _ _ t))
   turn-fault items (Err close.Fault) status closing t = ap (λ s. is_read_fault s) (sym (status-is {Item = Item} _ _ _ _ t))
 
-  -- behind a good line no read has failed
-  pub good-no_fault : (items : List Item) (answer : Result (List ℕ) Close) (x : Item) → turn_of command items answer ≡ Good x → is_fault answer ≡ false
+  -- after a good line no read has failed
+  pub good-no_fault : (items : List Item) (answer : Result (List ℕ) Close) (x : Item) → line_outcome command items answer ≡ Good x → is_fault answer ≡ false
   good-no_fault items (Ok line) x t = refl
   good-no_fault items (Err close.TooLong) x t = refl
   good-no_fault items (Err close.TooMuch) x t = refl
@@ -38,7 +38,7 @@ module _ {Item Cause : Type 0} (command : Command Item Cause) where
   good-no_fault items (Err close.Fault) x t = absurd (cc)
 
   -- and nothing closes the output then
-  pub turn-nothing : (items : List Item) (answer : Result (List ℕ) Close) (status : Status) (closing : List ℕ) → turn_of command items answer ≡ Ends status closing → is_fault answer ≡ true → closing ≡ []
+  pub turn-nothing : (items : List Item) (answer : Result (List ℕ) Close) (status : Status) (closing : List ℕ) → line_outcome command items answer ≡ Ends status closing → is_fault answer ≡ true → closing ≡ []
   turn-nothing items (Ok line) status closing t h = absurd (cc)
   turn-nothing items (Err close.TooLong) status closing t h = absurd (cc)
   turn-nothing items (Err close.TooMuch) status closing t h = absurd (cc)

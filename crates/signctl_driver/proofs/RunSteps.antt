@@ -16,11 +16,11 @@ use Rattle.signctl_driver.specs.Output.{bad_line, too_much_line, output, Appends
 use Rattle.signctl_driver.specs.Run.{StopsEarly, RunAdds}
 use Rattle.signctl_driver.specs.Serving.{HasServed}
 use Rattle.signctl_driver.specs.Status.{FinishesBy}
-use Rattle.signctl_driver.specs.Turn.{Turn, Good, Ends, turn_by, turn_of}
+use Rattle.signctl_driver.specs.LineOutcome.{LineOutcome, Good, Ends, line_outcome_by, line_outcome}
 use Rattle.signctl_driver.specs.declared.service.Service.{Service}
 use Rattle.signctl_driver.specs.declared.status.Status.{Status}
 use Rattle.signctl_driver.specs.declared.status.Status.TheVariants.{Done, Refused, ReadFault, WriteFault, OutOfMemory}
-use Rattle.signctl_driver.proofs.Starts.{starts-append, starts-trans, starts-behind}
+use Rattle.signctl_driver.proofs.Starts.{starts-append, starts-trans, starts-after}
 use Rattle.signctl_driver.proofs.ReadLines.{answers-none, answers-push}
 use Rattle.signctl_driver.proofs.Progress.{GoesOn, goes_on-none, goes_on-line, all_read-last, all_read-none, answers-start_fault, output-good}
 use Rattle.signctl_driver.proofs.Closes.{seen}
@@ -70,7 +70,7 @@ module _ {Item Cause : Type 0} (command : Command Item Cause) where
             took.consumes,
             took.few,
             Appends-trans holds before now written part.1.0 added part.1.2,
-            subst P (sym part.0) (stops-starts command source.now taken (written ++ all) (written ++ part.1.0) (subst Q whole ends.starts) (starts-behind written part.1.0 all part.1.1)),
+            subst P (sym part.0) (stops-starts command source.now taken (written ++ all) (written ++ part.1.0) (subst Q whole ends.starts) (starts-after written part.1.0 all part.1.1)),
           )
 
 module _ {C Item Cause : Type 0} (command : Command Item Cause) (represents : C → List Item → Type 0) where
@@ -146,7 +146,7 @@ module _ {C Item Cause : Type 0} (command : Command Item Cause) (represents : C 
           reached.0.consumes,
           reached.0.few,
           Appends-trans sink.before sink.now now state.written part.0 state.added part.2,
-          stops-starts command left (state.bytes ++ input.held) (state.written ++ service.text.items) (state.written ++ part.0) (subst P state.answered reached.1) (starts-behind state.written part.0 service.text.items part.1),
+          stops-starts command left (state.bytes ++ input.held) (state.written ++ service.text.items) (state.written ++ part.0) (subst P state.answered reached.1) (starts-after state.written part.0 service.text.items part.1),
         )
 
 -- a good line has one item
@@ -154,10 +154,10 @@ good-is : {Item : Type 0} (x y : Item) → Good x ≡ Good y → x ≡ y
 good-is x y h = cc
 
 -- an end has one status and one closing
-pub status-is : {Item : Type 0} (s t : Status) (a b : List ℕ) → ◌≡◌ {A = Turn Item} (Ends s a) (Ends t b) → s ≡ t
+pub status-is : {Item : Type 0} (s t : Status) (a b : List ℕ) → ◌≡◌ {A = LineOutcome Item} (Ends s a) (Ends t b) → s ≡ t
 status-is s t a b h = cc
 
-pub closing-is : {Item : Type 0} (s t : Status) (a b : List ℕ) → ◌≡◌ {A = Turn Item} (Ends s a) (Ends t b) → a ≡ b
+pub closing-is : {Item : Type 0} (s t : Status) (a b : List ℕ) → ◌≡◌ {A = LineOutcome Item} (Ends s a) (Ends t b) → a ≡ b
 closing-is s t a b h = cc
 
 -- an answer hands out what was taken, or keeps it
@@ -201,7 +201,7 @@ module _ {C Item Cause : Type 0} (command : Command Item Cause) (represents : C 
           let done = subst P (sym same) (reached command represents before left sink input service state) in
           (state.bytes ++ input.held, done.0, done.1)
 
-  -- memory has run out behind the answers that were written
+  -- memory has run out after the answers that were written
   pub stops-taking : (answer : Result (List ℕ) Close) (new : LineInput) → AnswersNext input left next answer new → ((NeedsRead input → ⊥) → next ≡ left) → RunEnds command (record { before = before; now = next }) sink OutOfMemory
   stops-taking answer new answers still =
       let all = reached-after answer new answers still in
@@ -261,14 +261,14 @@ module _ {C Item Cause : Type 0} (command : Command Item Cause) (represents : C 
         clear_line : (line : List ℕ) → (with_taken input h.0).held ≡ line → IsLine (with_taken input h.0).held → HasNoNewline line
         clear_line line e part = let S : List ℕ → Type 0 = λ v. HasNoNewline v in subst S e part.0
 
-    -- the run goes on behind it
-    pub state-line : (answer : Result (List ℕ) Close) (new : LineInput) → AnswersNext input left next answer new → turn_of command state.items answer ≡ Good item → RunState command represents (streams_of (record { before = before; now = next }) sink) new served
+    -- the run goes on after it
+    pub state-line : (answer : Result (List ℕ) Close) (new : LineInput) → AnswersNext input left next answer new → line_outcome command state.items answer ≡ Good item → RunState command represents (streams_of (record { before = before; now = next }) sink) new served
     state-line answer new answers turn = by_read state.read
       where
-        by_answer : (a : Result (List ℕ) Close) → GoesOn command state.items state.bytes → AnswersOpen input left next a new → turn_of command state.items a ≡ Good item → RunState command represents (streams_of (record { before = before; now = next }) sink) new served
+        by_answer : (a : Result (List ℕ) Close) → GoesOn command state.items state.bytes → AnswersOpen input left next a new → line_outcome command state.items a ≡ Good item → RunState command represents (streams_of (record { before = before; now = next }) sink) new served
         by_answer (Ok line) go h t = by_reading (reading_of command state.items line) refl t
           where
-            by_reading : (r : Result Item (List ℕ)) → reading_of command state.items line ≡ r → turn_by (length state.items) r ≡ Good item → RunState command represents (streams_of (record { before = before; now = next }) sink) new served
+            by_reading : (r : Result Item (List ℕ)) → reading_of command state.items line ≡ r → line_outcome_by (length state.items) r ≡ Good item → RunState command represents (streams_of (record { before = before; now = next }) sink) new served
             by_reading (Ok x) e same = by_gives h.3
               where
                 reads : reading_of command state.items line ≡ Ok item
@@ -290,23 +290,23 @@ module _ {C Item Cause : Type 0} (command : Command Item Cause) (represents : C 
         by_read (inr over) =
             let P : Option Close → Type 0 = λ o. MatchOption o (AnswersOpen input left next answer new) (λ close. (answer ≡ Err close) × (new ≡ input)) in
             let h : (answer ≡ Err close.End) × (new ≡ input) = subst P over.0 answers in
-            let t : Ends Done (command.closing state.items) ≡ Good item = sym (ap (λ a. turn_of command state.items a) h.0) ∙ turn in
+            let t : Ends Done (command.closing state.items) ≡ Good item = sym (ap (λ a. line_outcome command state.items a) h.0) ∙ turn in
             absurd (cc)
 
   -- the run ends at this answer
-  pub ends-after : (answer : Result (List ℕ) Close) (new : LineInput) (status : Status) (closing : List ℕ) → AnswersNext input left next answer new → ((NeedsRead input → ⊥) → next ≡ left) → turn_of command state.items answer ≡ Ends status closing → (all : List ℕ) × HasTaken (record { before = before; now = next }) all × EndsWith command next status all (answers_to command state.items ++ closing)
+  pub ends-after : (answer : Result (List ℕ) Close) (new : LineInput) (status : Status) (closing : List ℕ) → AnswersNext input left next answer new → ((NeedsRead input → ⊥) → next ≡ left) → line_outcome command state.items answer ≡ Ends status closing → (all : List ℕ) × HasTaken (record { before = before; now = next }) all × EndsWith command next status all (answers_to command state.items ++ closing)
   ends-after answer new status closing answers still turn = by_read state.read
     where
       End_of : Status → List ℕ → Type 0
       End_of s text = (all : List ℕ) × HasTaken (record { before = before; now = next }) all × EndsWith command next s all (answers_to command state.items ++ text)
 
-      by : (s : Status) (text : List ℕ) → ◌≡◌ {A = Turn Item} (Ends s text) (Ends status closing) → End_of s text → End_of status closing
+      by : (s : Status) (text : List ℕ) → ◌≡◌ {A = LineOutcome Item} (Ends s text) (Ends status closing) → End_of s text → End_of status closing
       by s text e h =
           let P : Status → Type 0 = λ v. End_of v closing in
           let Q : List ℕ → Type 0 = λ v. End_of s v in
           subst P (status-is s status text closing e) (subst Q (closing-is s status text closing e) h)
 
-      by_line : (line : List ℕ) → GoesOn command state.items state.bytes → (h : AnswersOpen input left next (Ok line) new) → (r : Result Item (List ℕ)) → reading_of command state.items line ≡ r → turn_by (length state.items) r ≡ Ends status closing → End_of status closing
+      by_line : (line : List ℕ) → GoesOn command state.items state.bytes → (h : AnswersOpen input left next (Ok line) new) → (r : Result Item (List ℕ)) → reading_of command state.items line ≡ r → line_outcome_by (length state.items) r ≡ Ends status closing → End_of status closing
       by_line line go h (Ok x) e t = absurd (cc)
       by_line line go h (Err why) e t = by Refused (bad_line (length state.items + 1) why) t (by_gives h.3)
         where
@@ -324,7 +324,7 @@ module _ {C Item Cause : Type 0} (command : Command Item Cause) (represents : C 
                 ends-last command state.items next state.bytes go handed-few line why gives.1 gives.2 (subst S gives.3 gives.0.2.0) (omega (arith, length-append state.bytes line, state.handed, gives.0.1, ap (λ (v : List ℕ). length v) gives.3)) e,
               )
 
-      by_answer : (a : Result (List ℕ) Close) → GoesOn command state.items state.bytes → AnswersOpen input left next a new → turn_of command state.items a ≡ Ends status closing → End_of status closing
+      by_answer : (a : Result (List ℕ) Close) → GoesOn command state.items state.bytes → AnswersOpen input left next a new → line_outcome command state.items a ≡ Ends status closing → End_of status closing
       by_answer (Ok line) go h t = by_line line go h (reading_of command state.items line) refl t
       by_answer (Err close.TooLong) go h t = by Refused (bad_line (length state.items + 1) (codes "too long")) t (
         state.bytes ++ (input.held ++ h.0),
@@ -367,7 +367,7 @@ module _ {C Item Cause : Type 0} (command : Command Item Cause) (represents : C 
       by_read (inr over) =
           let Answered : Option Close → Type 0 = λ o. MatchOption o (AnswersOpen input left next answer new) (λ close. (answer ≡ Err close) × (new ≡ input)) in
           let h : (answer ≡ Err close.End) × (new ≡ input) = subst Answered over.0 answers in
-          let t : ◌≡◌ {A = Turn Item} (Ends Done (command.closing state.items)) (Ends status closing) = sym (ap (λ a. turn_of command state.items a) h.0) ∙ turn in
+          let t : ◌≡◌ {A = LineOutcome Item} (Ends Done (command.closing state.items)) (Ends status closing) = sym (ap (λ a. line_outcome command state.items a) h.0) ∙ turn in
           let same : next ≡ left = still (λ needs. let e : Some close.End ≡ None = sym over.0 ∙ needs.0 in absurd (cc)) in
           let Q : Option (List ℕ) → Type 0 = λ l. HasTaken (record { before = before; now = l }) state.bytes × EndsWith command l Done state.bytes (answers_to command state.items ++ command.closing state.items) in
           let R : List ℕ → Type 0 = λ v. HasTaken (record { before = before; now = left }) v in

@@ -23,8 +23,8 @@ starts-trans a b c f g =
     )
 
 -- the same list in front of both
-pub starts-behind : (done a b : List ℕ) → StartsWith b a → StartsWith (done ++ b) (done ++ a)
-starts-behind done a b f =
+pub starts-after : (done a b : List ℕ) → StartsWith b a → StartsWith (done ++ b) (done ++ a)
+starts-after done a b f =
     starts-append (done ++ b) (done ++ a) (drop (length a) b)
     (ap (λ (v : List ℕ). done ++ v) (starts_with_rest b a f) ∙ sym (append_assoc done a (drop (length a) b)))
 

@@ -12,8 +12,8 @@ use Rattle.signctl_driver.specs.Lines.{Ending, Fault, is_too_long, lines_in}
 use Rattle.signctl_driver.specs.LinesRead.{LinesRead, reading_of, read_from, lines_read}
 use Rattle.signctl_driver.specs.Output.{closing_at, output_of, output, too_much_line}
 use Rattle.signctl_driver.proofs.Starts.{starts-same}
-use Rattle.signctl_driver.proofs.ReadLines.{read-bad, answers-start, output-behind, output-none}
-use Rattle.signctl_driver.proofs.Pieces.{Cut, cut_of, grows-line, lines_in-behind, too_long-grows, too_long-line}
+use Rattle.signctl_driver.proofs.ReadLines.{read-bad, answers-start, output-after, output-none}
+use Rattle.signctl_driver.proofs.Pieces.{Cut, cut_of, grows-line, lines_in-after, too_long-grows, too_long-line}
 
 module _ {Item Cause : Type 0} (command : Command Item Cause) where
   -- a line that is too long is bad for that
@@ -54,13 +54,13 @@ module _ {Item Cause : Type 0} (command : Command Item Cause) where
       -- the lines of both begin with those that a newline ends
       less_is : (b : Bool) → is_too_long cut.last ≡ b → lines_in Fault (slice_split is_newline bytes) ≡ cut.done ++ (if b then cut.last ∷ [] else [])
       less_is b e =
-          ap (λ v. lines_in Fault v) cut.pieces ∙ lines_in-behind Fault cut.done cut.last []
+          ap (λ v. lines_in Fault v) cut.pieces ∙ lines_in-after Fault cut.done cut.last []
           ∙ ap (λ (t : Bool). cut.done ++ (if t then cut.last ∷ [] else [])) e
 
       more_is : lines_in ending (slice_split is_newline (bytes ++ next)) ≡ cut.done ++ lines_in ending ((cut.last ++ behind.0) ∷ behind.1)
       more_is =
           ap (λ v. lines_in ending v) (cut.more next ∙ ap (λ v. cut.done ++ v) behind.2)
-          ∙ lines_in-behind ending cut.done (cut.last ++ behind.0) behind.1
+          ∙ lines_in-after ending cut.done (cut.last ++ behind.0) behind.1
 
       too_long_both : (more : List (List ℕ)) → is_too_long cut.last ≡ true → (before : List Item) → StartsWith (output_of command closing (read_from command before ((cut.last ++ behind.0) ∷ more))) (output_of command (λ items. []) (read_from command before (cut.last ∷ [])))
       too_long_both more long before =
@@ -80,13 +80,13 @@ module _ {Item Cause : Type 0} (command : Command Item Cause) where
           let P : List (List ℕ) → Type 0 = λ v. Starts v (lines_in Fault (slice_split is_newline bytes)) in
           let Q : List (List ℕ) → Type 0 = λ v. Starts (cut.done ++ ((cut.last ++ behind.0) ∷ line.0)) v in
           subst P (sym (more_is ∙ ap (λ v. cut.done ++ v) line.1))
-          (subst Q (sym (less_is true e)) (output-behind command cut.done (cut.last ∷ []) ((cut.last ++ behind.0) ∷ line.0) closing (too_long_both line.0 e) []))
+          (subst Q (sym (less_is true e)) (output-after command cut.done (cut.last ∷ []) ((cut.last ++ behind.0) ∷ line.0) closing (too_long_both line.0 e) []))
       by_last false e =
           let more = lines_in ending ((cut.last ++ behind.0) ∷ behind.1) in
           let P : List (List ℕ) → Type 0 = λ v. Starts v (lines_in Fault (slice_split is_newline bytes)) in
           let Q : List (List ℕ) → Type 0 = λ v. Starts (cut.done ++ more) v in
           subst P (sym more_is)
-          (subst Q (sym (less_is false e)) (output-behind command cut.done [] more closing (none_less more) []))
+          (subst Q (sym (less_is false e)) (output-after command cut.done [] more closing (none_less more) []))
 
   -- the output where a read failed is a prefix of the output to more bytes
   pub output-truncated : (bytes next : List ℕ) (ending : Ending) → StartsWith (output command (bytes ++ next) ending) (output command bytes Fault)

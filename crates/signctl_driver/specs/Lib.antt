@@ -6,4 +6,4 @@ pub mod Law
 pub mod Status
 pub mod Serving
 pub mod Run
-pub mod Turn
+pub mod LineOutcome

@@ -4,7 +4,7 @@ use Rattle.std.specs.Result.{result_map_both}
 use Rattle.signctl_driver.specs.Command.{Command}
 use Rattle.signctl_driver.specs.Lines.{Ending, lines_of, is_too_long}
 
--- what a line reads as behind the items before it: an item, or why the line is bad. A line that is too long is bad for
+-- what a line reads as after the items before it: an item, or why the line is bad. A line that is too long is bad for
 -- that, whatever it says
 abbrev pub reading_of : {Item Cause : Type 0} → Command Item Cause → List Item → List ℕ → Result Item (List ℕ)
 reading_of command before line =
@@ -15,12 +15,12 @@ pub record LinesRead (Item : Type 0) : Type 0 where
   pub items : List Item
   pub bad : Option (List ℕ)
 
--- reading goes on behind a good line, and stops at a bad one
+-- reading goes on after a good line, and stops at a bad one
 abbrev pub read_on : {Item : Type 0} → List Item → (List Item → LinesRead Item) → Result Item (List ℕ) → LinesRead Item
 read_on before rest (Ok item) = rest (before ++ item ∷ [])
 read_on before rest (Err why) = record { items = before; bad = Some why }
 
--- these lines, read behind the items of the lines before them
+-- these lines, read after the items of the lines before them
 unfoldable pub read_from : {Item Cause : Type 0} → Command Item Cause → List Item → List (List ℕ) → LinesRead Item
 read_from command before [] = record { items = before; bad = None }
 read_from command before (line ∷ rest) = read_on before (λ items. read_from command items rest) (reading_of command before line)

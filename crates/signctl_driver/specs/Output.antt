@@ -16,12 +16,12 @@ bad_line number why = codes "line " ++ (decimal number ++ (codes ": " ++ (why ++
 abbrev pub too_much_line : List ℕ
 too_much_line = codes "input too long" ++ newline ∷ []
 
--- what comes behind the answers to so many items: the line that names a bad line, or this closing
+-- what comes after the answers to so many items: the line that names a bad line, or this closing
 abbrev pub last_lines : List ℕ → ℕ → Option (List ℕ) → List ℕ
 last_lines closing count None = closing
 last_lines closing count (Some why) = bad_line (count + 1) why
 
--- the answers to the lines before the first bad one, and what comes behind them
+-- the answers to the lines before the first bad one, and what comes after them
 abbrev pub output_of : {Item Cause : Type 0} → Command Item Cause → (List Item → List ℕ) → LinesRead Item → List ℕ
 output_of command closing lines =
     answers_to command lines.items ++ last_lines (closing lines.items) (length lines.items) lines.bad

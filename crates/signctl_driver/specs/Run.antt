@@ -36,7 +36,7 @@ pub record IsRefused {Item Cause : Type 0} (command : Command Item Cause) (left 
   pub text : added ≡ output command taken End
   pub cause : IsBadInput command left taken
 
--- a read failed behind good lines, whose answers were written
+-- a read failed after good lines, whose answers were written
 pub record IsCutOff {Item Cause : Type 0} (command : Command Item Cause) (taken added : List ℕ) : Type 0 where
   pub text : added ≡ output command taken Fault
   pub good : HasGoodLines command taken Fault

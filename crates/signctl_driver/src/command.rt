@@ -1,7 +1,7 @@
 //! What the driver asks of a command over lines: how a line reads, and what is answered to it.
 //!
 //! A new command is an item type, a step and a printer. Its meaning is the record `Command`, of four
-//! functions of lists: what a line reads as behind the items of the lines before it, the text of a
+//! functions of lists: what a line reads as after the items of the lines before it, the text of a
 //! cause, the answer to an item, and the closing. Reading, the numbers of lines, the limits, faults
 //! and the order of reads and writes are the driver's, and so are the proofs about them.
 ghost use Rattle.std.specs.Prelude.{◌≡◌, ◌++◌, ◌∷◌, ◌<◌, [], List, length, OnOk, IfOk};
@@ -27,7 +27,7 @@ pub trait LineCommand: Drop {
     /// The lines that it has answered, by their items.
     ghost represents: { Self → List Self.Item → Type 0 };
 
-    /// What a line says behind the lines so far, or why it is bad. The line has no newline and is not
+    /// What a line says after the lines so far, or why it is bad. The line has no newline and is not
     /// too long.
     fn read(
         &self,

@@ -14,7 +14,7 @@ use sign_base::{LineReader, Sink, Source};
 use std::alloc::Global;
 
 /// Runs a command over the lines of a source, and writes its output to a sink. The answers are written
-/// before the next read. Nothing is read behind a bad line, and nothing is read or written behind a
+/// before the next read. Nothing is read after a bad line, and nothing is read or written after a
 /// fault. It takes at most 67,108,865 bytes.
 ///
 /// It never answers `Usage`. At `Done`, `Refused` and `ReadFault` the whole output to the bytes taken

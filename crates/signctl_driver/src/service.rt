@@ -6,7 +6,7 @@ ghost use Rattle.sign_base.specs.LineReader.{is_fault};
 ghost use Rattle.sign_base.specs.Lines.{line_limit, input_limit};
 ghost use Rattle.signctl_driver.specs.LinesRead.{reading_of};
 ghost use Rattle.signctl_driver.specs.Output.{bad_line, AppendsPrefix};
-ghost use Rattle.signctl_driver.specs.Turn.{Good, Ends, turn_of};
+ghost use Rattle.signctl_driver.specs.LineOutcome.{Good, Ends, line_outcome};
 ghost use Rattle.sign_base.specs.Next.{answer_of};
 ghost use Rattle.signctl_driver.specs.Status.{is_write_fault, FinishesBy};
 
@@ -50,10 +50,10 @@ impl<C: LineCommand> Service<C> {
         requires served { (items : List C.Item) × HasServed C.represents self.old items × (length items ≤ input_limit) }
         requires line { IfOk (answer_of next) (λ line. (length line ≤ line_limit) × (self.old.lines < input_limit)) }
         ensures goes_on { result ≡ Ok None → (items : List C.Item) → HasServed C.represents self.old items
-            → (item : C.Item) × (turn_of C.command items (answer_of next.entry) ≡ Good item) × HasServed C.represents self.new (items ++ item ∷ [])
+            → (item : C.Item) × (line_outcome C.command items (answer_of next.entry) ≡ Good item) × HasServed C.represents self.new (items ++ item ∷ [])
             × (self.new.text.items ≡ self.old.text.items ++ C.command.answer items item) }
         ensures ends { IfOk result (λ how. IfSome how (λ status. (items : List C.Item) → HasServed C.represents self.old items
-            → (closing : List ℕ) × (turn_of C.command items (answer_of next.entry) ≡ Ends status closing)
+            → (closing : List ℕ) × (line_outcome C.command items (answer_of next.entry) ≡ Ends status closing)
             × (self.new.text.items ≡ self.old.text.items ++ closing))) }
         ensures fault { is_fault (answer_of next.entry) ≡ true → IsOk result }
     {

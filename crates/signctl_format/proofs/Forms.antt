@@ -29,13 +29,13 @@ use Rattle.signctl_format.proofs.Seconds.{duration_of-word, duration_of-some}
 use Rattle.signctl_format.proofs.Headers.{head_in-words, head_in-some}
 use Rattle.signctl_format.proofs.Calls.{number_at-decimal, number_at-some, moment_at-word, moment_at-some, call_at-words, call_at-some, credential_in-words, credential_in-some, rule_in-word, rule_in-some}
 
--- the line has this name and these words behind it
+-- the line has this name and these words after it
 abbrev pub Has : List ℕ → List ℕ → List (List ℕ) → Type 0
 Has line name rest = words line ≡ name ∷ rest
 
 -- ---- cache
 
--- the words behind the name of `cache chain N` read as it
+-- the words after the name of `cache chain N` read as it
 pub chain_form-words : (providers : ℕ) → providers ≤ greatest_u32 → chain_form (decimal providers ∷ []) ≡ Some (Cache (Chain providers))
 unfolding chain_form
 chain_form-words providers fits = rw (number_at-decimal greatest_u32 providers [] fits (omega arith)) refl
@@ -65,7 +65,7 @@ cache_form-some version line (kind ∷ rest) item has e = elim (chosen (bytes_eq
 
 -- ---- handle
 
--- the words behind the name of `handle C RULE` read as it
+-- the words after the name of `handle C RULE` read as it
 pub handle_form-words : (cache : ℕ) (rule : ScriptRule) → cache ≤ greatest_u32 → handle_form (decimal cache ∷ rule_word rule ∷ []) ≡ Some (Handle cache rule)
 unfolding handle_form
 handle_form-words cache rule fits = rw (number_at-decimal greatest_u32 cache (rule_word rule ∷ []) fits (omega arith), rule_in-word rule) refl
@@ -84,7 +84,7 @@ handle_form-some version line ws item has e =
 
 -- ---- events
 
--- the words behind the name of `begin H N D HEAD` read as it
+-- the words after the name of `begin H N D HEAD` read as it
 pub begin_form-words : (version : ScriptVersion) (call : CallId) (head : Head) (d : Option Duration) → IsLineCall call → IsLineDuration version d → IsLineHead head → begin_form version (call_words call ++ duration_word version d ∷ head_words head) ≡ Some (Event (Begin call head d))
 unfolding begin_form
 begin_form-words version call head d is_call is_duration is_head = rw (call_at-words call (duration_word version d ∷ head_words head) is_call, duration_of-word version d is_duration, head_in-words head is_head) refl
@@ -103,7 +103,7 @@ begin_form-some version line ws item has e =
     subst (λ (i : ScriptItem). Spells version line i) {x = Event (Begin c.0.0 h.0 d.0.0)} (some_is (Event (Begin c.0.0 h.0 d.0.0)) item h.2)
     ((call.1, duration.1, head.1), cc (has, call.0, first.1, duration.0, head.0))
 
--- the words behind the name of `poll H N T` read as it
+-- the words after the name of `poll H N T` read as it
 pub poll_form-words : (version : ScriptVersion) (call : CallId) (now : ℤ) → IsLineCall call → IsLineMoment version now → poll_form version (call_words call ++ moment_word version now ∷ []) ≡ Some (Event (Poll call now))
 unfolding poll_form
 poll_form-words version call now is_call is_moment = rw (call_at-words call (moment_word version now ∷ []) is_call, moment_at-word version now [] is_moment) refl
@@ -119,7 +119,7 @@ poll_form-some version line ws item has e =
     let now = moment_at-some version c.0.1 t.0 t.1 in
     subst (λ (i : ScriptItem). Spells version line i) {x = Event (Poll c.0.0 t.0.0)} last.0 ((call.1, now.1), cc (has, call.0, now.0, last.1))
 
--- the words behind the name of `found H N T CREDENTIAL` read as it
+-- the words after the name of `found H N T CREDENTIAL` read as it
 pub found_form-words : (version : ScriptVersion) (call : CallId) (now : ℤ) (k : ScriptCredential) → IsLineCall call → IsLineMoment version now → IsLineCredential version k → found_form version (call_words call ++ moment_word version now ∷ credential_words version k) ≡ Some (Event (Provided call now (Found k)))
 unfolding found_form
 found_form-words version call now k is_call is_moment is_credential = rw (call_at-words call (moment_word version now ∷ credential_words version k) is_call, moment_at-word version now (credential_words version k) is_moment, credential_in-words version k is_credential) refl
@@ -137,7 +137,7 @@ found_form-some version line ws item has e =
     subst (λ (i : ScriptItem). Spells version line i) {x = Event (Provided c.0.0 t.0.0 (Found k.0))} (some_is (Event (Provided c.0.0 t.0.0 (Found k.0))) item k.2)
     ((call.1, now.1, credential.1), cc (has, call.0, now.0, credential.0))
 
--- the words behind the name of `missing H N T` read as it
+-- the words after the name of `missing H N T` read as it
 pub missing_form-words : (version : ScriptVersion) (call : CallId) (now : ℤ) → IsLineCall call → IsLineMoment version now → missing_form version (call_words call ++ moment_word version now ∷ []) ≡ Some (Event (Provided call now Missing))
 unfolding missing_form
 missing_form-words version call now is_call is_moment = rw (call_at-words call (moment_word version now ∷ []) is_call, moment_at-word version now [] is_moment) refl
@@ -153,7 +153,7 @@ missing_form-some version line ws item has e =
     let now = moment_at-some version c.0.1 t.0 t.1 in
     subst (λ (i : ScriptItem). Spells version line i) {x = Event (Provided c.0.0 t.0.0 Missing)} last.0 ((call.1, now.1), cc (has, call.0, now.0, last.1))
 
--- the words behind the name of `failed H N T E` read as it
+-- the words after the name of `failed H N T E` read as it
 pub failed_form-words : (version : ScriptVersion) (call : CallId) (now : ℤ) (error : ℕ) → IsLineCall call → IsLineMoment version now → error ≤ greatest_u64 → failed_form version (call_words call ++ moment_word version now ∷ decimal error ∷ []) ≡ Some (Event (Provided call now (answer.Failed error)))
 unfolding failed_form
 failed_form-words version call now error is_call is_moment fits = rw (call_at-words call (moment_word version now ∷ decimal error ∷ []) is_call, moment_at-word version now (decimal error ∷ []) is_moment, number_at-decimal greatest_u64 error [] fits (omega arith)) refl
@@ -171,7 +171,7 @@ failed_form-some version line ws item has e =
     let number = number_at-some greatest_u64 t.0.1 n.0 n.1 in
     subst (λ (i : ScriptItem). Spells version line i) {x = Event (Provided c.0.0 t.0.0 (answer.Failed n.0.0))} last.0 ((call.1, now.1, number.1), cc (has, call.0, now.0, number.0, last.1))
 
--- the words behind the name of `accept H N HEAD` read as it
+-- the words after the name of `accept H N HEAD` read as it
 pub accept_form-words : (call : CallId) (head : Head) → IsLineCall call → IsLineHead head → accept_form (call_words call ++ head_words head) ≡ Some (Event (Signed call (Accepted head)))
 unfolding accept_form
 accept_form-words call head is_call is_head = rw (call_at-words call (head_words head) is_call, head_in-words head is_head) refl
@@ -186,7 +186,7 @@ accept_form-some version line ws item has e =
     let head = head_in-some c.0.1 h.0 h.1 in
     subst (λ (i : ScriptItem). Spells version line i) {x = Event (Signed c.0.0 (Accepted h.0))} (some_is (Event (Signed c.0.0 (Accepted h.0))) item h.2) ((call.1, head.1), cc (has, call.0, head.0))
 
--- the words behind the name of `reject H N E` read as it
+-- the words after the name of `reject H N E` read as it
 pub reject_form-words : (call : CallId) (error : ℕ) → IsLineCall call → error ≤ greatest_u64 → reject_form (call_words call ++ decimal error ∷ []) ≡ Some (Event (Signed call (verdict.Failed error)))
 unfolding reject_form
 reject_form-words call error is_call fits = rw (call_at-words call (decimal error ∷ []) is_call, number_at-decimal greatest_u64 error [] fits (omega arith)) refl
@@ -202,7 +202,7 @@ reject_form-some version line ws item has e =
     let number = number_at-some greatest_u64 c.0.1 n.0 n.1 in
     subst (λ (i : ScriptItem). Spells version line i) {x = Event (Signed c.0.0 (verdict.Failed n.0.0))} last.0 ((call.1, number.1), cc (has, call.0, number.0, last.1))
 
--- the words behind the name of `cancel H N` read as it
+-- the words after the name of `cancel H N` read as it
 pub cancel_form-words : (call : CallId) → IsLineCall call → cancel_form (call_words call) ≡ Some (Event (Cancel call))
 unfolding cancel_form
 cancel_form-words call is_call = rw (call_at-words call [] is_call) refl

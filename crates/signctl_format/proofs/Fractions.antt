@@ -80,7 +80,7 @@ unfolding fraction_of
 behind places digit [] n is e = absurd cc
 behind places digit (next ∷ others) n is e = rw (is, e) refl
 
--- a digit with others behind it, as a reader meets them
+-- a digit with others after it, as a reader meets them
 pub read_more : (places : ℕ) (word : List ℕ) (n : ℕ) → 0 < places → 1 ≤ length word → is_digit (get_or word 0 0) ≡ true → fraction_of (places - 1) (take (length word - 1) (drop 1 word)) ≡ Some n → fraction_of places word ≡ Some ((get_or word 0 0 - zero_digit) * 10 ^ (places - 1) + n)
 read_more zero word n some long is e = absurd (omega (arith, some))
 read_more places [] n some long is e = absurd (omega (arith, long))

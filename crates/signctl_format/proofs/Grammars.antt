@@ -73,12 +73,12 @@ item_of-some version line item e = elim (chosen (is_silent line) (Some Silent) (
 
 -- ---- what spells an item reads as it
 
-behind_hash : (text : List ℕ) → words (hash_sign ∷ text) ≡ (hash_sign ∷ take (position_or_len is_space text) text) ∷ words_after (drop (position_or_len is_space text) text)
-behind_hash text = rw (words_split text) refl
+after_hash : (text : List ℕ) → words (hash_sign ∷ text) ≡ (hash_sign ∷ take (position_or_len is_space text) text) ∷ words_after (drop (position_or_len is_space text) text)
+after_hash text = rw (words_split text) refl
 
 hash_name : (text name : List ℕ) (rest : List (List ℕ)) → words (hash_sign ∷ text) ≡ name ∷ rest → is_silent name ≡ true
 hash_name text name rest parted =
-    let same : hash_sign ∷ take (position_or_len is_space text) text ≡ name = cc (behind_hash text, parted) in
+    let same : hash_sign ∷ take (position_or_len is_space text) text ≡ name = cc (after_hash text, parted) in
     subst (λ (w : List ℕ). is_silent w ≡ true) same refl
 
 -- the first word of a silent line is empty or begins with `#`

@@ -18,7 +18,7 @@ mark_after mark (b ∷ front) rest none =
     let more : 1 + length front ≡ suc (length front) = omega arith in
     rw (parts.0, mark_after mark front rest parts.1, more) refl
 
--- behind bytes that are no mark the first mark stands where they end
+-- after bytes that are no mark the first mark stands where they end
 pub position-mark : (mark : ℕ) (front rest : List ℕ) → list_any (is_the mark) front ≡ false → position (is_the mark) (front ++ mark ∷ rest) ≡ Some (length front)
 position-mark mark front rest none =
     let within : length front < length (front ++ mark ∷ rest) = omega (arith, length-append front (mark ∷ rest)) in
@@ -28,7 +28,7 @@ position-mark mark front rest none =
 pub take-mark : (mark : ℕ) (front rest : List ℕ) → take (length front) (front ++ mark ∷ rest) ≡ front
 take-mark mark front rest = take_at front (mark ∷ rest) (length front) refl
 
--- bytes behind a mark
+-- bytes after a mark
 pub drop-mark : (mark : ℕ) (front rest : List ℕ) → drop (length front + 1) (front ++ mark ∷ rest) ≡ rest
 drop-mark mark front rest =
     let whole : (front ++ mark ∷ []) ++ rest ≡ front ++ mark ∷ rest = append_assoc front (mark ∷ []) rest in

@@ -22,9 +22,9 @@ short_first {first = first} behind short = record {
   room = rw (length-append first behind) (omega (arith, short.room));
 }
 
--- it runs short behind the first part
-pub short_behind : {old new : Vec ℕ} (mid : Vec ℕ) (first : List ℕ) {behind : List ℕ} → mid.items ≡ old.items ++ first → vec_capacity old ≤ vec_capacity mid → RunsShort mid new behind → RunsShort old new (first ++ behind)
-short_behind {old = old} mid first {behind = behind} held grown short = record {
+-- it runs short after the first part
+pub short_after : {old new : Vec ℕ} (mid : Vec ℕ) (first : List ℕ) {behind : List ℕ} → mid.items ≡ old.items ++ first → vec_capacity old ≤ vec_capacity mid → RunsShort mid new behind → RunsShort old new (first ++ behind)
+short_after {old = old} mid first {behind = behind} held grown short = record {
   part = first ++ short.part;
   rest = short.rest;
   parts = ap (λ (t : List ℕ). first ++ t) short.parts ∙ sym (append_assoc first short.part short.rest);
@@ -38,15 +38,15 @@ pub short_in_rest : {old mid new : Vec ℕ} {rest bytes : List ℕ} → Grows ol
 short_in_rest {old = old} {new = new} {rest = rest} {bytes = bytes} added left grown short =
     let whole : bytes ≡ added.more ++ rest =
     append_cancel_left old.items bytes (added.more ++ rest) (sym left ∙ ap (λ (t : List ℕ). t ++ rest) added.is ∙ append_assoc old.items added.more rest) in
-    subst (RunsShort old new) (sym whole) (short_behind _ _ added.is grown short)
+    subst (RunsShort old new) (sym whole) (short_after _ _ added.is grown short)
 
--- it runs short at one of several parts, behind those before it
+-- it runs short at one of several parts, after those before it
 pub short_at : {A : Type 0} {old mid new : Vec ℕ} (f : A → List ℕ) (xs : List A) (i : ℕ) (x d : A) → i < length xs → x ≡ get_or xs i d → mid.items ≡ old.items ++ flat_map f (take i xs) → vec_capacity old ≤ vec_capacity mid → RunsShort mid new (f x) → RunsShort old new (flat_map f xs)
 short_at {A = A} {old = old} {new = new} f xs i x d within is held grown short =
     let last : drop i xs ≡ x ∷ drop (suc i) xs = drop-cons xs i d within ∙ ap (λ (y : A). y ∷ drop (suc i) xs) (sym is) in
     let whole : flat_map f xs ≡ flat_map f (take i xs) ++ (f x ++ flat_map f (drop (suc i) xs)) =
     ap (flat_map f) (sym (take-append-drop i xs)) ∙ flat_map-append f (take i xs) (drop i xs) ∙ ap (λ (ys : List A). flat_map f (take i xs) ++ flat_map f ys) last in
-    subst (RunsShort old new) (sym whole) (short_behind _ _ held grown (short_first _ short))
+    subst (RunsShort old new) (sym whole) (short_after _ _ held grown (short_first _ short))
 
 -- what holds in any case holds at an error
 pub on_err : {A E P : Type 0} (result : Result A E) → P → OnErr result P

@@ -35,7 +35,7 @@ fails_everywhere p xs false test e =
 pub no_place : (p : ℕ → Bool) (xs : List ℕ) → position p xs ≡ None → length xs ≡ position_or_len p xs
 no_place p xs e = fails_everywhere p xs (ltb (position_or_len p xs) (length xs)) refl e
 
--- words behind a first one, each behind a space, are a space and their line
+-- words after a first one, each after a space, are a space and their line
 spaced_line : (ws : List (List ℕ)) (word : List ℕ) (rest : List (List ℕ)) → ws ≡ word ∷ rest → spaced_words ws ≡ space ∷ line_of ws
 spaced_line ws word rest e = rw e refl
 

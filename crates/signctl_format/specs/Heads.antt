@@ -56,7 +56,7 @@ field_at word (Some place) =
     then field_named (take place word) (value_of (drop (place + 1) word))
     else None
 
--- the header that a word spells: its name stands before the first colon, its value behind it
+-- the header that a word spells: its name stands before the first colon, its value after it
 abbrev pub field_of : List ℕ → Option Field
 field_of word = field_at word (position is_colon word)
 

@@ -86,7 +86,7 @@ pub record Grows (old new : List ℕ) : Type 0 where
   pub more : List ℕ
   pub is : new ≡ old ++ more
 
--- a text had not the room for all of these bytes, and holds a prefix of them behind what it held
+-- a text had not the room for all of these bytes, and holds a prefix of them after what it held
 pub record RunsShort (old new : Vec ℕ) (bytes : List ℕ) : Type 0 where
   pub part : List ℕ
   pub rest : List ℕ

@@ -28,7 +28,7 @@ fraction_digits (suc places) n =
     if n == 0 then []
     else (zero_digit + n / 10 ^ places) ∷ fraction_digits places (n % 10 ^ places)
 
--- what stands behind whole seconds: nothing, or a point and a fraction of a second
+-- what stands after whole seconds: nothing, or a point and a fraction of a second
 abbrev pub fraction_word : ℕ → List ℕ
 fraction_word nanos = if nanos == 0 then [] else point ∷ fraction_digits 9 nanos
 

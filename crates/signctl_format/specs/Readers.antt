@@ -5,7 +5,7 @@ use Rattle.signctl_format.specs.declared.read_error.ReadError.{ReadError}
 use Rattle.signctl_format.specs.declared.read_error.ReadError.TheVariants.{NotUnderstood, OutOfMemory}
 use Rattle.signctl_format.specs.Words.{words}
 
--- the words of what stands behind a word of its line: nothing, or a space and more words
+-- the words of what stands after a word of its line: nothing, or a space and more words
 abbrev pub words_after : List ℕ → List (List ℕ)
 words_after [] = []
 words_after (space ∷ rest) = words rest

@@ -55,7 +55,7 @@ abbrev pub setup_error : Bool → Bool → Option LineError
 setup_error had_event there =
     if had_event then Some Late else (if there then None else Some NoSuchCache)
 
--- why an item is bad behind these, where it is
+-- why an item is bad after these, where it is
 abbrev pub item_error : {E : Type 0} → List (Item E) → Item E → Option LineError
 item_error before item.Silent = None
 item_error before (item.Cache loader) = setup_error (not (is_empty (events_in before))) true

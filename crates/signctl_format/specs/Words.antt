@@ -15,11 +15,11 @@ is_silent (b ∷ rest) = b == hash_sign
 abbrev pub is_space : ℕ → Bool
 is_space b = b == space
 
--- the words of a line: what stands before, between and behind its spaces
+-- the words of a line: what stands before, between and after its spaces
 abbrev pub words : List ℕ → List (List ℕ)
 words line = slice_split is_space line
 
--- words after the first, each behind a space
+-- words after the first, each after a space
 abbrev pub spaced_words : List (List ℕ) → List ℕ
 spaced_words rest = flat_map (λ word. space ∷ word) rest
 

@@ -32,7 +32,7 @@ pub fn head_line(alloc: Global, line: &[u8]) -> Result<Head, ReadError>
     head_with(alloc, method, rest)
 }
 
-/// The head that a first word and those behind it spell.
+/// The head that a first word and those after it spell.
 #[tactic(auto, unfolding(crate::specs::Reading::head_in))]
 fn head_with(alloc: Global, method: &[u8], rest: &[u8]) -> Result<Head, ReadError>
     ensures { Gives (λ h. h) result (head_in (method.now ∷ words_after rest.now)) }
@@ -168,7 +168,7 @@ fn unescaped(alloc: Global, word: &[u8]) -> Result<Octets, ReadError>
     Ok(Octets::from_vec(value))
 }
 
-/// The next byte of a value, and what stands behind it.
+/// The next byte of a value, and what stands after it.
 fn next_byte(rest: &[u8]) -> Result<Option<(u8, &[u8])>, NotUnderstood>
     ensures { MatchResult result
         (λ o. MatchOption o (value_of rest.now ≡ Some [])
@@ -186,7 +186,7 @@ fn next_byte(rest: &[u8]) -> Result<Option<(u8, &[u8])>, NotUnderstood>
     }
 }
 
-/// The byte that two digits behind `%` represent.
+/// The byte that two digits after `%` represent.
 fn escaped_byte(high: u8, low: u8) -> Option<u8>
     ensures { result ≡ escaped_byte high low }
 {

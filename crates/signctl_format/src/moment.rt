@@ -102,7 +102,7 @@ fn fraction(places: u32, digits: &[u8]) -> Result<u32, NotUnderstood>
     }
 }
 
-/// What a digit counts, with so many places behind it.
+/// What a digit counts, with so many places after it.
 fn count(digit: u8, places: u32) -> u32
     requires digit { IsTrue (is_digit digit) }
     requires few { places ≤ 8 }

@@ -1,7 +1,7 @@
 //! The lines that a script prints, each added at the end of a text without its newline.
 //!
 //! Out of memory comes only where the text has not the room for the line. Then what stood in the text
-//! still stands in it, and a prefix of the line may stand behind it.
+//! still stands in it, and a prefix of the line may stand after it.
 #![tactic(auto, using(crate::proofs::Texts::grows_then, crate::proofs::Texts::grows_by, crate::proofs::Texts::grows_not))]
 
 ghost use Rattle.std.specs.Prelude.{◌≡◌, ◌++◌, ◌≤◌, OnOk, OnErr, vec_capacity};

@@ -1,8 +1,8 @@
 //! Texts that grow at their end.
 //!
 //! Out of memory comes only where the text has not the room for all that is to be added. Then what stood
-//! in the text still stands in it, and a prefix of what was to be added may stand behind it.
-#![tactic(auto, using(crate::proofs::Texts::grows_then, crate::proofs::Texts::grows_by, crate::proofs::Texts::grows_not, crate::proofs::ShortTexts::short_at_once, crate::proofs::ShortTexts::short_first, crate::proofs::ShortTexts::short_behind))]
+//! in the text still stands in it, and a prefix of what was to be added may stand after it.
+#![tactic(auto, using(crate::proofs::Texts::grows_then, crate::proofs::Texts::grows_by, crate::proofs::Texts::grows_not, crate::proofs::ShortTexts::short_at_once, crate::proofs::ShortTexts::short_first, crate::proofs::ShortTexts::short_after))]
 
 ghost use Rattle.std.specs.Prelude.{◌≡◌, ◌≤◌, ◌++◌, ◌∷◌, OnOk, OnErr, vec_capacity, decimal};
 ghost use Rattle.signctl_format.specs.Bytes.{space};

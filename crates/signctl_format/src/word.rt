@@ -1,6 +1,6 @@
 //! The words of a line, from left to right.
 //!
-//! What stands behind a word is empty, or begins with the space before the next word.
+//! What stands after a word is empty, or begins with the space before the next word.
 ghost use Rattle.std.specs.Prelude.{◌≡◌, ◌≤◌, ◌<◌, [], ◌∷◌, length, ℕ, ◌^◌, ◌+◌, ◌*◌, ◌≢◌, IfOk, None, MatchOption, MatchResult, IfSome, decimal};
 ghost use Rattle.std.specs.List.{position, position_or_len};
 ghost use Rattle.std.specs.Char.{digit_value};
@@ -47,7 +47,7 @@ fn first_space(text: &[u8]) -> Option<usize>
     text.iter().position(|b| *b == b' ')
 }
 
-/// The next word, and what stands behind it.
+/// The next word, and what stands after it.
 pub fn next_word(rest: &[u8]) -> Option<(&[u8], &[u8])>
     ensures words { MatchOption result (words_after rest.now ≡ [])
         (λ w. words_after rest.now ≡ w.0.now ∷ words_after w.1.now) }

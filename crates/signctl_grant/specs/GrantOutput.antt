@@ -20,7 +20,7 @@ use Rattle.signctl_grant.specs.GrantScript.{grant_reading}
 abbrev pub transcript_of : List GrantItem → List (GrantEntry ScriptCredential)
 transcript_of items = expected_grant_entries script_policy (setup_in items) (events_in items)
 
--- the answer to an item, behind these: the new number of a cache or a handle, the expected reply to an event, nothing to a
+-- the answer to an item, after these: the new number of a cache or a handle, the expected reply to an event, nothing to a
 -- silent line
 abbrev pub answer_to : List GrantItem → GrantItem → List ℕ
 answer_to before item.Silent = []

@@ -38,7 +38,7 @@ fail_form words = do
 abbrev pub shared_form : List ℕ → Option GrantItem
 shared_form line = item_of One line >>= as_grant
 
--- what a line says that begins with this word, with these words behind it
+-- what a line says that begins with this word, with these words after it
 unfoldable pub grant_form : List ℕ → List ℕ → List (List ℕ) → Option GrantItem
 grant_form line name words =
     if bytes_eq name (codes "begin") then begin_form words

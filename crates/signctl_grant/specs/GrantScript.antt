@@ -1,4 +1,4 @@
--- How the lines of `grant` are read, each behind those before it.
+-- How the lines of `grant` are read, each after those before it.
 use Rattle.std.specs.Prelude.{ℕ, List, Option, Some, None, Result, Ok, Err}
 use Rattle.signctl_format.specs.declared.line_error.LineError.{LineError}
 use Rattle.signctl_format.specs.declared.line_error.LineError.TheVariants.{NotUnderstood}
@@ -11,11 +11,11 @@ abbrev pub item_or : GrantItem → Option LineError → Result GrantItem LineErr
 item_or item None = Ok item
 item_or item (Some why) = Err why
 
--- a line that spells this item, or none, behind these items
+-- a line that spells this item, or none, after these items
 abbrev pub item_reading : List GrantItem → Option GrantItem → Result GrantItem LineError
 item_reading before None = Err NotUnderstood
 item_reading before (Some item) = item_or item (item_error before item)
 
--- what a line of `grant` reads as, behind these items
+-- what a line of `grant` reads as, after these items
 abbrev pub grant_reading : List GrantItem → List ℕ → Result GrantItem LineError
 grant_reading before line = item_reading before (grant_item_of line)

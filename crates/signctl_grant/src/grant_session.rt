@@ -56,7 +56,7 @@ impl GrantSession {
         })
     }
 
-    /// Why an item is bad behind the items so far, where it is.
+    /// Why an item is bad after the items so far, where it is.
     fn item_error(&self, item: &Item<GrantScriptEvent>) -> Option<LineError>
         ensures { (items : List GrantItem) → GrantSessionRepresents self.now items → result ≡ item_error items item.now }
     {

@@ -48,7 +48,7 @@ call_named-some word call e =
 
 -- ---- forms
 
--- the line has these words behind the name of a call
+-- the line has these words after the name of a call
 abbrev pub Names : List ℕ → HashCall → List (List ℕ) → Type 0
 Names line call ws = words line ≡ call_word call ∷ ws
 
@@ -59,7 +59,7 @@ bytes_first ws p e =
     let spelled = bytes_of-some first.0 p.0 first.2 in
     (first.1 ∙ ap (λ (w : List ℕ). w ∷ p.1) spelled.0, spelled.1)
 
--- the words behind the name of a call on bytes alone read as it
+-- the words after the name of a call on bytes alone read as it
 pub unkeyed_form-words : (call : UnkeyedCall) (content : List ℕ) → AreBytes content → unkeyed_form call (hex_word content ∷ []) ≡ Some (Unkeyed call content)
 unfolding unkeyed_form
 unkeyed_form-words call content fits = rw (bytes_of-word content fits) refl
@@ -73,7 +73,7 @@ unkeyed_form-some line call ws item named e =
     let content = bytes_first ws c.0 c.1 in
     subst (λ (i : HmacItem). SpellsHmac line i) {x = Unkeyed call c.0.0} last.0 (content.1, cc (named, content.0, last.1))
 
--- the words behind the name of a call under a key read as it
+-- the words after the name of a call under a key read as it
 pub keyed_form-words : (call : KeyedCall) (key content : List ℕ) → AreBytes key → AreBytes content → keyed_form call (hex_word key ∷ hex_word content ∷ []) ≡ Some (Keyed call key content)
 unfolding keyed_form
 keyed_form-words call key content key_fits fits = rw (bytes_of-word key key_fits, bytes_of-word content fits) refl
@@ -89,7 +89,7 @@ keyed_form-some line call ws item named e =
     let content = bytes_first k.0.1 c.0 c.1 in
     subst (λ (i : HmacItem). SpellsHmac line i) {x = Keyed call k.0.0 c.0.0} last.0 ((key.1, content.1), cc (named, key.0, content.0, last.1))
 
--- the word behind `base64_decode` reads as its text
+-- the word after `base64_decode` reads as its text
 pub decode_form-words : (content : List ℕ) → IsHmacItem (Base64Decode content) → decode_form (text_word content ∷ []) ≡ Some (Base64Decode content)
 unfolding decode_form
 decode_form-words content fits = rw (text_of-word content fits.0 fits.1) refl

@@ -35,7 +35,7 @@ pair_word pair = with_escapes is_pair_plain pair.0 ++ equals_sign ∷ with_escap
 abbrev pub pair_line : Pair → List ℕ
 pair_line pair = named_line (codes "pair") (pair_word pair)
 
--- the words behind `query`: none where the text is empty
+-- the words after `query`: none where the text is empty
 abbrev pub query_words : List ℕ → List (List ℕ)
 query_words [] = []
 query_words (b ∷ rest) = with_escapes is_plain (b ∷ rest) ∷ []

@@ -35,7 +35,7 @@ no_version before (Some x) h = by_error (item_error before x) h
     by_error None h = cc
     by_error (Some why) h = cc
 
--- the item of a line that was read is good behind the items before it
+-- the item of a line that was read is good after the items before it
 pub says-good : (lines : List ScriptLine) (item : ScriptItem) → MayFollow script_command lines (Says item) → item_error (items_in lines) item ≡ None
 says-good lines item may = by_version (is_empty lines && is_version_line may.0) may.1
   where

@@ -14,6 +14,6 @@ more-words old text new word before more so_far end =
     ∙ ap (λ (v : List ℕ). old ++ v)
     (append_assoc word (spaced_words before) (spaced_words more) ∙ ap (λ (v : List ℕ). word ++ v) (sym (flat_map-append (λ (w : List ℕ). space ∷ w) before more)))
 
--- one word behind a space is such words
+-- one word after a space is such words
 pub one-word : (text new word : List ℕ) → new ≡ text ++ space ∷ word → new ≡ text ++ spaced_words (word ∷ [])
 one-word text new word end = end ∙ ap (λ (v : List ℕ). text ++ space ∷ v) (sym (append-nil word))

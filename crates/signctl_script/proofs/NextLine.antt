@@ -1,4 +1,4 @@
--- A session after one more item represents the items with this one behind them.
+-- A session after one more item represents the items with this one after them.
 use Rattle.std.proofs.Common.{◌≡◌, ◌<◌, ℕ, arith, Option, Some, None, Result, Ok, Err, nat_lt, append_assoc, Bool, true, false, not, List, [], ◌∷◌, ◌++◌, length, refl, sym, ap, ◌∙◌, subst, inl, inr, map}
 use Rattle.std.proofs.lemmas.List.{append-nil, map-append}
 use Rattle.sequential_signer.specs.Setup.{Setup, Handle}

@@ -26,7 +26,7 @@ version_after [] = None
 version_after (VersionTwo ∷ rest) = Some Two
 version_after (Says item ∷ rest) = Some One
 
--- the version that a line is read in, behind these
+-- the version that a line is read in, after these
 abbrev pub version_in : List ScriptLine → ScriptVersion
 version_in lines = unwrap_or (version_after lines) One
 
@@ -35,12 +35,12 @@ abbrev pub line_or : ScriptItem → Option LineError → Result ScriptLine LineE
 line_or item None = Ok (Says item)
 line_or item (Some why) = Err why
 
--- a line that spells this item, or none, behind these items
+-- a line that spells this item, or none, after these items
 abbrev pub item_reading : List ScriptItem → Option ScriptItem → Result ScriptLine LineError
 item_reading before None = Err NotUnderstood
 item_reading before (Some item) = line_or item (item_error before item)
 
--- what a line of a script reads as, behind these
+-- what a line of a script reads as, after these
 abbrev pub script_reading : List ScriptLine → List ℕ → Result ScriptLine LineError
 script_reading before line =
     if is_empty before && is_version_line line then Ok VersionTwo

@@ -22,7 +22,7 @@ use Rattle.signctl_script.specs.declared.script_line.ScriptLine.TheVariants.{Ver
 abbrev pub transcript_of : List ScriptItem → List (Entry ScriptCredential)
 transcript_of items = expected_entries script_policy (setup_in items) (events_in items)
 
--- the answer to an item, behind these: the new number of a cache or a handle, the expected reply to an event, nothing to a
+-- the answer to an item, after these: the new number of a cache or a handle, the expected reply to an event, nothing to a
 -- silent line
 abbrev pub answer_to : List ScriptItem → ScriptItem → List ℕ
 answer_to before item.Silent = []
@@ -31,7 +31,7 @@ answer_to before (item.Handle cache rule) = with_newline (handle_line (length (s
 answer_to before (item.Event event) =
     with_newline (reply_line (expected_reply script_policy (setup_in before) (transcript_of before) event))
 
--- the answer to a line, behind these
+-- the answer to a line, after these
 abbrev pub script_answer : List ScriptLine → ScriptLine → List ℕ
 script_answer before VersionTwo = []
 script_answer before (Says item) = answer_to (items_in before) item

@@ -67,7 +67,7 @@ impl Session {
         self.version.unwrap_or(ScriptVersion::One)
     }
 
-    /// Why an item is bad behind the items so far, where it is.
+    /// Why an item is bad after the items so far, where it is.
     fn item_error(&self, item: &Item<ScriptEvent>) -> Option<LineError>
         ensures { (items : List ScriptItem) → RepresentsItems self.now items → result ≡ item_error items item.now }
     {

@@ -50,7 +50,7 @@ fn sign(alloc: Global, rest: &[u8]) -> Result<Sigv4Item, ReadError>
     })
 }
 
-/// The credential of the next two words, and what stands behind them.
+/// The credential of the next two words, and what stands after them.
 #[tactic(auto, unfolding(crate::specs::Sigv4Reading::credential_at))]
 fn credential_at(alloc: Global, rest: &[u8]) -> Result<(SigCredential, &[u8]), ReadError>
     ensures { Gives (λ x. (x.0, words_after x.1.now)) result (credential_at (words_after rest.now)) }
@@ -70,7 +70,7 @@ fn credential(alloc: Global, access: &[u8], secret: &[u8]) -> Result<SigCredenti
     }
 }
 
-/// The scope of the next two words, and what stands behind them.
+/// The scope of the next two words, and what stands after them.
 #[tactic(auto, unfolding(crate::specs::Sigv4Reading::scope_at))]
 fn scope_at(alloc: Global, rest: &[u8]) -> Result<(SigScope, &[u8]), ReadError>
     ensures { Gives (λ x. (x.0, words_after x.1.now)) result (scope_at (words_after rest.now)) }

@@ -8,9 +8,9 @@ use Rattle.sequential_signer.proofs.Places.{slice_get-set_other}
 use Rattle.http.specs.declared.request.Parts.{Parts}
 use Rattle.wake_lock.specs.declared.CallId.{CallId}
 use Rattle.sequential_signer.specs.Policy.{Policy}
-use Rattle.signer.specs.MadeBy.{IsMadeBy}
+use Rattle.signer.specs.IssuedBy.{IsIssuedBy}
 use Rattle.signer.specs.CallsOf.{AreCallsOf, state_back}
-use Rattle.signer.specs.SignerCalls.{Begins, KeepsOthers, IsAnswerMadeBy}
+use Rattle.signer.specs.SignerCalls.{Begins, KeepsOthers, IsAnswerIssuedBy}
 use Rattle.signer.specs.SignerInvariant.{SignerState}
 use Rattle.signer.specs.SignerObjects.{Meanings}
 use Rattle.signer.specs.declared.sign.Sign.{Sign}
@@ -47,7 +47,7 @@ module _ {P S K C L W : Type 0} (m : Meanings P S K C L W) where
   }
     where
       by_place : (n : ℕ) (other : Sign P S K C L C W K) → (slice_get calls n ≡ Some (Some other)) ⊎ ((n ≡ length calls) × ((let x : Option (Sign P S K C L C W K) = Some sign in x) ≡ Some other))
-          → (other.begun.id.number ≡ n) × IsMadeBy m new other
+          → (other.begun.id.number ≡ n) × IsIssuedBy m new other
       by_place n other (inl h) =
           let was = all.at n other h in
           let below : n < length calls = slice_get_within calls n (Some other) h in (
@@ -58,13 +58,13 @@ module _ {P S K C L W : Type 0} (m : Meanings P S K C L W) where
           )
       by_place n other (inr h) =
           let same : sign ≡ other = cc in
-          subst (λ (x : Sign P S K C L C W K). (x.begun.id.number ≡ n) × IsMadeBy m new x) same (b.number ∙ sym all.begun ∙ sym h.0, b.made)
+          subst (λ (x : Sign P S K C L C W K). (x.begun.id.number ≡ n) × IsIssuedBy m new x) same (b.number ∙ sym all.begun ∙ sym h.0, b.issued)
 
   -- what is done with one call leaves the others where they are, and at its place its state or none
   changed : (old new : SignerState P S K C) (calls next : List (Option (Sign P S K C L C W K))) (n : ℕ) (sign : Sign P S K C L C W K) → AreCallsOf m old calls
       → slice_get calls n ≡ Some (Some sign) → new ≡ record old { desk = new.desk } → KeepsOthers m sign.begun.id (record { old = old; new = new }) → length next ≡ length calls
       → ((k : ℕ) → (n ≡ k → ⊥) → slice_get next k ≡ slice_get calls k)
-      → ((left : Sign P S K C L C W K) → slice_get next n ≡ Some (Some left) → (left.begun.id ≡ sign.begun.id) × IsMadeBy m new left)
+      → ((left : Sign P S K C L C W K) → slice_get next n ≡ Some (Some left) → (left.begun.id ≡ sign.begun.id) × IsIssuedBy m new left)
       → AreCallsOf m new next
   changed old new calls next n sign all is same keeps len apart here = record {
     begun = len ∙ all.begun ∙ sym (ap (λ (s : SignerState P S K C). s.begun) same);
@@ -75,7 +75,7 @@ module _ {P S K C L W : Type 0} (m : Meanings P S K C L W) where
       number = (all.at n sign is).0
 
       by_place : (k : ℕ) (left : Sign P S K C L C W K) → slice_get next k ≡ Some (Some left) → ((eqb n k ≡ true) × (n ≡ k)) ⊎ ((eqb n k ≡ false) × (n ≢ k))
-          → (left.begun.id.number ≡ k) × IsMadeBy m new left
+          → (left.begun.id.number ≡ k) × IsIssuedBy m new left
       by_place k left there (inl h) =
           let own = here left (ap (λ j. slice_get next j) h.1 ∙ there) in
           (ap (λ (c : CallId). c.number) own.0 ∙ number ∙ h.1, own.1)
@@ -91,7 +91,7 @@ module _ {P S K C L W : Type 0} (m : Meanings P S K C L W) where
   }
     where
       by_place : (k : ℕ) (sign : Sign P S K C L C W K) → slice_get (slice_set calls n None) k ≡ Some (Some sign) → ((eqb n k ≡ true) × (n ≡ k)) ⊎ ((eqb n k ≡ false) × (n ≢ k))
-          → (sign.begun.id.number ≡ k) × IsMadeBy m signer sign
+          → (sign.begun.id.number ≡ k) × IsIssuedBy m signer sign
       by_place k sign is (inl h) =
           let e : (let x : Option (Sign P S K C L C W K) = None in x) ≡ Some sign = written calls n None (Some sign) (ap (λ j. slice_get (slice_set calls n None) j) h.1 ∙ is) in
           absurd (cc)
@@ -107,22 +107,22 @@ module _ {P S K C L W : Type 0} (m : Meanings P S K C L W) where
       let e : (let x : Option (Sign P S K C L C W K) = None in x) ≡ Some left = written calls n None (Some left) there in
       absurd (cc))
 
-  handed_back : (signer : SignerState P S K C) (call : CallId) (a : SignAnswer P S K C L C W K) → IsAnswerMadeBy m signer call a
-      → (sign : Sign P S K C L C W K) → state_back a ≡ Some sign → (sign.begun.id ≡ call) × IsMadeBy m signer sign
-  handed_back signer call (answer.Pending back) made sign is =
+  handed_back : (signer : SignerState P S K C) (call : CallId) (a : SignAnswer P S K C L C W K) → IsAnswerIssuedBy m signer call a
+      → (sign : Sign P S K C L C W K) → state_back a ≡ Some sign → (sign.begun.id ≡ call) × IsIssuedBy m signer sign
+  handed_back signer call (answer.Pending back) issued sign is =
       let same : back ≡ sign = cc in
-      subst (λ (x : Sign P S K C L C W K). (x.begun.id ≡ call) × IsMadeBy m signer x) same made
-  handed_back signer call (answer.OutOfMemory back) made sign is =
+      subst (λ (x : Sign P S K C L C W K). (x.begun.id ≡ call) × IsIssuedBy m signer x) same issued
+  handed_back signer call (answer.OutOfMemory back) issued sign is =
       let same : back ≡ sign = cc in
-      subst (λ (x : Sign P S K C L C W K). (x.begun.id ≡ call) × IsMadeBy m signer x) same made
-  handed_back signer call answer.Done made sign is = absurd (cc)
-  handed_back signer call (answer.Refused why) made sign is = absurd (cc)
+      subst (λ (x : Sign P S K C L C W K). (x.begun.id ≡ call) × IsIssuedBy m signer x) same issued
+  handed_back signer call answer.Done issued sign is = absurd (cc)
+  handed_back signer call (answer.Refused why) issued sign is = absurd (cc)
 
   -- `poll` of one of them leaves the state that it hands back
   pub calls-polled : (old new : SignerState P S K C) (calls : List (Option (Sign P S K C L C W K))) (n : ℕ) (sign : Sign P S K C L C W K) (a : SignAnswer P S K C L C W K) → AreCallsOf m old calls
-      → slice_get calls n ≡ Some (Some sign) → new ≡ record old { desk = new.desk } → KeepsOthers m sign.begun.id (record { old = old; new = new }) → IsAnswerMadeBy m new sign.begun.id a
+      → slice_get calls n ≡ Some (Some sign) → new ≡ record old { desk = new.desk } → KeepsOthers m sign.begun.id (record { old = old; new = new }) → IsAnswerIssuedBy m new sign.begun.id a
       → AreCallsOf m new (slice_set calls n (state_back a))
-  calls-polled old new calls n sign a all is same keeps made =
+  calls-polled old new calls n sign a all is same keeps issued =
       changed old new calls (slice_set calls n (state_back a)) n sign all is same keeps (length-set calls n (state_back a))
       (λ k apart. slice_get-set_other calls n k (state_back a) apart)
-      (λ left there. handed_back new sign.begun.id a made left (written calls n (state_back a) (Some left) there))
+      (λ left there. handed_back new sign.begun.id a issued left (written calls n (state_back a) (Some left) there))

@@ -1,10 +1,10 @@
-pub mod CallSteps
-pub mod PollSteps
-pub mod StepsTaken
+pub mod DeskSteps
+pub mod CourseOfSteps
+pub mod StepOutcomes
 pub mod PollEnds
 pub mod SignerOthers
 pub mod ObjectMeanings
-pub mod Underway
+pub mod PollInvariant
 pub mod SignerObjectsAt
 pub mod SignerSetup
 pub mod SignerBegins

@@ -2,7 +2,7 @@
 use Rattle.std.proofs.Common.{◌≡◌, ℕ, Option, Some, None, IsSome, IsSomeAnd, refl, sym, subst}
 use Rattle.credentials.specs.declared.polled.Polled.{Polled}
 use Rattle.desk_parts.specs.LoadAnswer.{IsLoadKept, IsLoadPending, LoadRunsOut}
-use Rattle.signer.specs.MadeBy.{IsLoadMade}
+use Rattle.signer.specs.IssuedBy.{IsLoadMade}
 use Rattle.signer.specs.SignerObjects.{Meanings, Objects, call_meaning}
 use Rattle.desk_parts.specs.ProviderList.{provider_at}
 use Rattle.sign_desk.specs.Records.{BegunCall}

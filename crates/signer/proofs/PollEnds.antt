@@ -8,18 +8,18 @@ use Rattle.sequential_signer.specs.declared.event.Loader.{Loader}
 use Rattle.sign_desk.specs.DeskState.{DeskState}
 use Rattle.desk_parts.specs.Places.{provider_count}
 use Rattle.desk_parts.specs.CallAt.{HasProvider, loader_of}
-use Rattle.signer.specs.MadeBy.{IsStateMade}
+use Rattle.signer.specs.IssuedBy.{IsStateIssued}
 use Rattle.desk_parts.specs.ProviderList.{loader_for}
 use Rattle.desk_parts.specs.ProviderList.{provider_at}
-use Rattle.signer.specs.Course.{PollEnd, Pends, Finishes, Refuses, RunsOut, PolledCall, IsDriven, IsEnd, IsAnswerMade}
-use Rattle.signer.specs.PollStep.{StepChange, ComesLater, IsStepEnd, IsEndMade, answer_by}
+use Rattle.signer.specs.Course.{PollEnd, Pends, Finishes, Refuses, RunsOut, PolledCall, IsDriven, IsEnd, IsAnswerIssued}
+use Rattle.signer.specs.StepOutcome.{StepChange, ComesLater, IsStepEnd, IsEndIssued, answer_by}
 use Rattle.sign_desk.specs.Records.{BegunCall}
 use Rattle.signer.specs.declared.sign.SignState.{SignState}
 use Rattle.signer.specs.declared.sign.SignState.TheVariants.{Waiting, Loading, Signing}
-use Rattle.signer.specs.declared.went.StepEnd.{StepEnd}
-use Rattle.signer.specs.declared.went.StepEnd.TheVariants.{Pending, Done, Refused, OutOfMemory}
+use Rattle.signer.specs.declared.step_outcome.StepEnd.{StepEnd}
+use Rattle.signer.specs.declared.step_outcome.StepEnd.TheVariants.{Pending, Done, Refused, OutOfMemory}
 use Rattle.desk_parts.proofs.ListPlaces.{place-there}
-use Rattle.signer.proofs.PollSteps.{CourseEnds}
+use Rattle.signer.proofs.CourseOfSteps.{CourseEnds}
 
 module _ (P S C : Type 0) {K L W : Type 0} (begun : BegunCall) where
   end-answers : (end : StepEnd K L W) (by : PollEnd K L W) (before after : Parts) → IsStepEnd end before after by → IsEnd (answer_by {P = P} {S = S} {C = C} begun end) before after by
@@ -41,11 +41,11 @@ module _ (P S C : Type 0) {K L W : Type 0} (begun : BegunCall) where
   end-answers (OutOfMemory state) (RunsOut left) before after h = h
 
 module _ (P S C : Type 0) {K D L W : Type 0} (v : PolledCall K D L W) where
-  made-answers : (end : StepEnd K L W) (desk : DeskState K D) → IsEndMade v desk end → IsAnswerMade v.meaning v.begun desk (answer_by {P = P} {S = S} {C = C} v.begun end)
-  made-answers (Pending state) desk h = (refl, h)
-  made-answers Done desk h = tt
-  made-answers (Refused why) desk h = tt
-  made-answers (OutOfMemory state) desk h = (refl, h)
+  issued-answers : (end : StepEnd K L W) (desk : DeskState K D) → IsEndIssued v desk end → IsAnswerIssued v.meaning v.begun desk (answer_by {P = P} {S = S} {C = C} v.begun end)
+  issued-answers (Pending state) desk h = (refl, h)
+  issued-answers Done desk h = tt
+  issued-answers (Refused why) desk h = tt
+  issued-answers (OutOfMemory state) desk h = (refl, h)
 
   pub driven : (start : SignState K L W) (change : StepChange K D) (wake : Option CallId) (end : StepEnd K L W) → CourseEnds v start change wake end
       → IsDriven v start change.old change.new (record { poll = record { answer = answer_by {P = P} {S = S} {C = C} v.begun end; wake = wake }; before = change.before; after = change.after })
@@ -54,7 +54,7 @@ module _ (P S C : Type 0) {K D L W : Type 0} (v : PolledCall K D L W) where
     course = e.course;
     end = end-answers P S C v.begun end e.run.end change.before change.after e.ended;
     wake = e.named;
-    made = made-answers end change.new e.made;
+    issued = issued-answers end change.new e.issued;
     others = e.others;
   }
 
@@ -69,7 +69,7 @@ module _ {K D L W : Type 0} (v : PolledCall K D L W) (desk : DeskState K D) (loa
   few provider h = subst (λ o. IsSomeAnd o (λ (l : Loader). provider < provider_count l)) loads h
 
   -- each step leaves fewer
-  pub fewer : (state next : SignState K L W) → IsStateMade v.meaning v.begun desk next → ComesLater state next → steps_left loader next < steps_left loader state
+  pub fewer : (state next : SignState K L W) → IsStateIssued v.meaning v.begun desk next → ComesLater state next → steps_left loader next < steps_left loader state
   fewer (Waiting candidate) (Waiting copy) new later = absurd later
   fewer (Waiting candidate) (Loading copy provider l) new later = omega arith
   fewer (Waiting candidate) (Signing credential w) new later = omega arith

@@ -9,15 +9,15 @@ use Rattle.sequential_signer.specs.declared.event.Reply.TheVariants.{Begun}
 use Rattle.sign_request.specs.PlainHead.{IsHeadOf}
 use Rattle.sign_desk.specs.DeskState.{DeskState}
 use Rattle.sign_desk.specs.Steps.{IsStep}
-use Rattle.signer.specs.CallStep.{IsBegun}
-use Rattle.signer.specs.MadeBy.{IsStateMade, IsMadeBy}
+use Rattle.signer.specs.DeskReplies.{IsBegun}
+use Rattle.signer.specs.IssuedBy.{IsStateIssued, IsIssuedBy}
 use Rattle.signer.specs.SignerCalls.{Begins}
 use Rattle.signer.specs.SignerInvariant.{SignerState, IsSigner}
 use Rattle.signer.specs.SignerObjects.{Meanings, Objects, call_meaning, objects_of}
 use Rattle.sign_desk.specs.Records.{BegunCall}
 use Rattle.signer.specs.declared.sign.Sign.{Sign}
 use Rattle.signer.specs.declared.sign.SignState.TheVariants.{Waiting}
-use Rattle.signer.proofs.SignerOthers.{KeepsCall, differs, keeps-made}
+use Rattle.signer.proofs.SignerOthers.{KeepsCall, differs, keeps-issued}
 use Rattle.signer.proofs.SignerSetup.{signer-desk, above-next, has-objects-at}
 
 module _ {P S K C L W : Type 0} (m : Meanings P S K C L W) (old : SignerState P S K C) (s : IsSigner old) (begun : BegunCall) (desk : DeskState K S) (b : IsBegun begun old.desk desk) where
@@ -32,10 +32,10 @@ module _ {P S K C L W : Type 0} (m : Meanings P S K C L W) (old : SignerState P 
   same-objects : (handle : ℕ) → objects_of (record old { desk = desk }) handle ≡ objects_of old handle
   same-objects handle = rw (b.handles, b.rules) refl
 
-  waiting-made : (candidate : Head) → candidate ≡ begun.head → begun.id.handle < length old.desk.handles → IsMadeBy m (record old { desk = desk; begun = old.begun + 1 }) (let x : Sign P S K C L C W K = record { begun = begun; state = Waiting candidate } in x)
-  waiting-made candidate copied there =
+  waiting-issued : (candidate : Head) → candidate ≡ begun.head → begun.id.handle < length old.desk.handles → IsIssuedBy m (record old { desk = desk; begun = old.begun + 1 }) (let x : Sign P S K C L C W K = record { begun = begun; state = Waiting candidate } in x)
+  waiting-issued candidate copied there =
       let found = has-objects-at old s begun.id.handle there in
-      subst (λ o. IsSomeAnd o (λ (x : Objects P S C). IsStateMade (call_meaning m begun x) begun desk (Waiting candidate))) (sym (same-objects begun.id.handle ∙ found.1)) (inl b.at, copied)
+      subst (λ o. IsSomeAnd o (λ (x : Objects P S C). IsStateIssued (call_meaning m begun x) begun desk (Waiting candidate))) (sym (same-objects begun.id.handle ∙ found.1)) (inl b.at, copied)
 
   -- the signer that has begun the call is one
   pub signer-begun : begun.id.number ≡ old.begun → IsSigner (record old { desk = desk; begun = old.begun + 1 })
@@ -52,6 +52,6 @@ module _ {P S K C L W : Type 0} (m : Meanings P S K C L W) (old : SignerState P 
     head = head;
     step = step;
     next = refl;
-    made = waiting-made candidate copied there;
-    others = λ other apart made. keeps-made m old desk other (keeps-apart other.begun.id apart) made;
+    issued = waiting-issued candidate copied there;
+    others = λ other apart issued. keeps-issued m old desk other (keeps-apart other.begun.id apart) issued;
   }

@@ -17,7 +17,7 @@ use Rattle.signer.specs.SignerInvariant.{SignerState, IsSigner, is_above_all, wi
 use Rattle.desk_parts.specs.ProviderList.{loader_for}
 use Rattle.signer.specs.SignerObjects.{Objects, objects_of}
 use Rattle.signer.proofs.SignerObjectsAt.{index-is}
-use Rattle.desk_parts.proofs.IsSetUp.{longer, each-more, each-by, set_up-cache, set_up-rule, set_up-handle}
+use Rattle.desk_parts.proofs.IsWellFormedSetup.{longer, each-more, each-by, set_up-cache, set_up-rule, set_up-handle}
 
 and_both : (a b : Bool) → a ≡ true → b ≡ true → (a && b) ≡ true
 and_both a b h k = rw (h, k) refl

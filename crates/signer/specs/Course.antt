@@ -28,7 +28,7 @@ use Rattle.sign_desk.specs.Steps.{IsStep}
 use Rattle.desk_parts.specs.LoadAnswer.{IsLoadPending, LoadRunsOut}
 use Rattle.signer.specs.ObjectAnswer.{IsWorkPending, WorkRunsOut}
 use Rattle.desk_parts.specs.CallAt.{LeavesOthers}
-use Rattle.signer.specs.MadeBy.{IsStateMade}
+use Rattle.signer.specs.IssuedBy.{IsStateIssued}
 use Rattle.signer.specs.SignerObjects.{Meanings, Objects, CallMeaning, call_meaning}
 use Rattle.signer.specs.declared.refusal.Refusal.{Refusal}
 use Rattle.signer.specs.declared.refusal.Refusal.TheVariants as refusal
@@ -189,12 +189,12 @@ IsEnd (answer.Refused refused) before after (Refuses cause) = (refused ≡ cause
 IsEnd (answer.OutOfMemory sign) before after (RunsOut left) = (sign.state ≡ left) × (after ≡ before)
 IsEnd given before after end = ⊥
 
--- a state that is handed back is one that was made for the call
-abbrev pub IsAnswerMade : {P S K C D L W : Type 0} → CallMeaning K L W → BegunCall → DeskState K D → SignAnswer P S K C L C W K → Type 0
-IsAnswerMade m begun desk (answer.Pending sign) = (sign.begun ≡ begun) × IsStateMade m begun desk sign.state
-IsAnswerMade m begun desk (answer.OutOfMemory sign) = (sign.begun ≡ begun) × IsStateMade m begun desk sign.state
-IsAnswerMade m begun desk answer.Done = Unit {0}
-IsAnswerMade m begun desk (answer.Refused refused) = Unit {0}
+-- a state that is handed back is one that was issued for the call
+abbrev pub IsAnswerIssued : {P S K C D L W : Type 0} → CallMeaning K L W → BegunCall → DeskState K D → SignAnswer P S K C L C W K → Type 0
+IsAnswerIssued m begun desk (answer.Pending sign) = (sign.begun ≡ begun) × IsStateIssued m begun desk sign.state
+IsAnswerIssued m begun desk (answer.OutOfMemory sign) = (sign.begun ≡ begun) × IsStateIssued m begun desk sign.state
+IsAnswerIssued m begun desk answer.Done = Unit {0}
+IsAnswerIssued m begun desk (answer.Refused refused) = Unit {0}
 
 -- a call in this state is driven by these events of the desk, and ends by them
 pub record IsDriven {P S K C D L W : Type 0} (v : PolledCall K D L W) (state : SignState K L W) (old new : DeskState K D) (outcome : PollOutcome P S K C L W) : Type 0 where
@@ -202,7 +202,7 @@ pub record IsDriven {P S K C D L W : Type 0} (v : PolledCall K D L W) (state : S
   pub course : IsCourse v state old run new
   pub end : IsEnd outcome.poll.answer outcome.before outcome.after run.end
   pub wake : wakes_in run.entries ≡ option_to_list outcome.poll.wake
-  pub made : IsAnswerMade v.meaning v.begun new outcome.poll.answer
+  pub issued : IsAnswerIssued v.meaning v.begun new outcome.poll.answer
   pub others : LeavesOthers v.begun.id old new
 
 -- the poll of a call in this state: whatever transcript the desk represents, it then represents that with the events of the poll

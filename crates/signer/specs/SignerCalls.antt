@@ -9,7 +9,7 @@ use Rattle.sequential_signer.specs.declared.event.Reply.TheVariants.{Begun}
 use Rattle.sign_request.specs.PlainHead.{IsHeadOf, IsUnknownVersion}
 use Rattle.sign_request.specs.Refusal.{IsOutOfMemory, RefusedFor, unknown_version}
 use Rattle.sign_desk.specs.Steps.{IsStep}
-use Rattle.signer.specs.MadeBy.{IsMadeBy}
+use Rattle.signer.specs.IssuedBy.{IsIssuedBy}
 use Rattle.signer.specs.SignerInvariant.{SignerState}
 use Rattle.signer.specs.SignerObjects.{Meanings}
 use Rattle.signer.specs.declared.sign.Sign.{Sign}
@@ -31,16 +31,16 @@ pub record SignerChange (P S K C : Type 0) : Type 0 where
   pub new : SignerState P S K C
 
 module _ {P S K C L W : Type 0} (m : Meanings P S K C L W) where
-  -- every other state that the signer made is still one that it made
+  -- every other state that the signer issued is still one that it issued
   abbrev pub KeepsOthers : CallId → SignerChange P S K C → Type 0
-  KeepsOthers call change = (other : Sign P S K C L C W K) → (other.begun.id ≡ call → ⊥) → IsMadeBy m change.old other → IsMadeBy m change.new other
+  KeepsOthers call change = (other : Sign P S K C L C W K) → (other.begun.id ≡ call → ⊥) → IsIssuedBy m change.old other → IsIssuedBy m change.new other
 
-  -- a state that a poll hands back is of the same call, and one that the signer made
-  abbrev pub IsAnswerMadeBy : SignerState P S K C → CallId → SignAnswer P S K C L C W K → Type 0
-  IsAnswerMadeBy signer call (answer.Pending sign) = (sign.begun.id ≡ call) × IsMadeBy m signer sign
-  IsAnswerMadeBy signer call (answer.OutOfMemory sign) = (sign.begun.id ≡ call) × IsMadeBy m signer sign
-  IsAnswerMadeBy signer call answer.Done = Unit {0}
-  IsAnswerMadeBy signer call (answer.Refused refused) = Unit {0}
+  -- a state that a poll hands back is of the same call, and one that the signer issued
+  abbrev pub IsAnswerIssuedBy : SignerState P S K C → CallId → SignAnswer P S K C L C W K → Type 0
+  IsAnswerIssuedBy signer call (answer.Pending sign) = (sign.begun.id ≡ call) × IsIssuedBy m signer sign
+  IsAnswerIssuedBy signer call (answer.OutOfMemory sign) = (sign.begun.id ≡ call) × IsIssuedBy m signer sign
+  IsAnswerIssuedBy signer call answer.Done = Unit {0}
+  IsAnswerIssuedBy signer call (answer.Refused refused) = Unit {0}
 
   -- a call that was begun: the next number, the request's head, and the event of the desk
   pub record Begins (policy : Policy K S) (change : SignerChange P S K C) (parts : Parts) (sign : Sign P S K C L C W K) : Type 0 where
@@ -48,5 +48,5 @@ module _ {P S K C L W : Type 0} (m : Meanings P S K C L W) where
     pub head : IsHeadOf parts sign.begun.head
     pub step : IsStep policy (Begin sign.begun.id sign.begun.head sign.begun.expires_in) change.old.desk Begun change.new.desk
     pub next : change.new ≡ record change.old { desk = change.new.desk; begun = change.old.begun + 1 }
-    pub made : IsMadeBy m change.new sign
+    pub issued : IsIssuedBy m change.new sign
     pub others : KeepsOthers sign.begun.id change

@@ -11,7 +11,7 @@ use Rattle.desk_parts.specs.Tables.{setup_of}
 use Rattle.sign_desk.specs.DeskState.{with_cache}
 use Rattle.desk_parts.specs.Adding.{with_rule, with_handle}
 use Rattle.desk_parts.specs.ProviderList.{loader_for}
-use Rattle.desk_parts.specs.SetUp.{IsSetUp}
+use Rattle.desk_parts.specs.WellFormedSetup.{IsWellFormedSetup}
 
 -- the desk, the providers of each cache, the contexts, the place of each handle's context, the number of calls begun, and the keys of
 -- header maps
@@ -30,7 +30,7 @@ is_above_all n (x ∷ rest) = is_above n x && is_above_all n rest
 
 -- each cache has its providers, each handle its cache, its service and its context, and the number of the next call is above all
 pub record IsSigner {P S K C : Type 0} (signer : SignerState P S K C) : Type 0 where
-  pub set_up : IsSetUp (setup_of signer.desk)
+  pub set_up : IsWellFormedSetup (setup_of signer.desk)
   pub loaders : signer.desk.loaders ≡ map loader_for signer.providers
   pub places : length signer.context_places ≡ length signer.desk.handles
   pub contexts : (handle : ℕ) → IfSome (slice_get signer.context_places handle) (λ place. place < length signer.contexts)

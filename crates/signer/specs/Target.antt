@@ -12,7 +12,7 @@ use Rattle.sign_request.specs.PlainHead.{Commits, header_map}
 use Rattle.desk_parts.specs.CallAt.{IsSigning}
 use Rattle.sign_desk.specs.Records.{BegunCall}
 use Rattle.sign_desk.specs.Steps.{IsStep}
-use Rattle.signer.specs.PollStep.{StepChange}
+use Rattle.signer.specs.StepOutcome.{StepChange}
 
 -- the head of `http` has the URI and the headers of the plain one
 pub record IsTargetOf (candidate : Head) (target : Parts) : Type 0 where

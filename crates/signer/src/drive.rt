@@ -10,7 +10,7 @@ ghost use Rattle.sign_desk.specs.Steps.{IsStep};
 ghost use Rattle.desk_parts.specs.Memory.{ClonesAreFree};
 ghost use Rattle.sign_desk.specs.Memory.{RunsOutAtHeads};
 ghost use Rattle.desk_parts.specs.CallAt.{IsLive, IsWaiting, IsAsking, IsSigning, LeavesOthers};
-ghost use Rattle.signer.specs.CallStep.{IsBegun, AfterPoll, AfterFound, AfterNone, AfterAccepted, begun_in_event, found_in_event, accepted_in_event};
+ghost use Rattle.signer.specs.DeskReplies.{IsBegun, AfterPoll, AfterFound, AfterNone, AfterAccepted, begun_in_event, found_in_event, accepted_in_event};
 ghost use Rattle.sequential_signer.specs.LiveCall.{is_above};
 
 use credentials::{DeadlineRule, SigningCredential};

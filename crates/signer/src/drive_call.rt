@@ -2,8 +2,8 @@
 ghost use Rattle.std.specs.Prelude.{◌≡◌, Some, IsSome};
 ghost use Rattle.sequential_signer.specs.Policy.{policy_of};
 ghost use Rattle.desk_parts.specs.CallAt.{loader_of};
-ghost use Rattle.signer.specs.Driving.{IsMadeFor, IsDrivenFrom};
-ghost use Rattle.signer.specs.PollStep.{answer_by};
+ghost use Rattle.signer.specs.PollContext.{IsIssuedFor, IsDrivenFrom};
+ghost use Rattle.signer.specs.StepOutcome.{answer_by};
 ghost use Rattle.desk_parts.specs.ProviderList.{loader_for};
 ghost use Rattle.signer.specs.SignerObjects.{meanings_of, service_of};
 
@@ -11,7 +11,7 @@ use crate::call_objects::CallObjects;
 use crate::sign::{Sign, SignState};
 use crate::sign_poll::{SignAnswer, SignPoll};
 use crate::step_call::step;
-use crate::went::{StepEnd, Went};
+use crate::step_outcome::{StepEnd, StepFlow};
 use credentials::{ProvideCredential, SignRequest, SigningCredential};
 use desk_parts::BegunCall;
 use http::request::Parts;
@@ -32,7 +32,7 @@ where
     S: SignRequest<Credential = P::Credential, Ctx = P::Ctx>,
     requires there { IsSome (service_of desk.old sign.begun.id.handle) }
     requires loads { loader_of desk.old sign.begun.id.handle ≡ Some (loader_for objects.now.providers.now) }
-    requires made { IsMadeFor (record {
+    requires issued { IsIssuedFor (record {
       policy = policy_of P.Credential.valid P.Credential.valid_at S.deadline;
       clones_freely = P.Credential.clones_freely;
       meanings = meanings_of P.ProvideCredential S.SignRequest.own;
@@ -55,9 +55,9 @@ where
     loop {
         let taken = step(desk, objects, &begun, now, state, req);
         wake = wake.or(taken.wake);
-        match taken.went {
-            Went::On(next) => state = next,
-            Went::Over(end) => {
+        match taken.flow {
+            StepFlow::On(next) => state = next,
+            StepFlow::Over(end) => {
                 return SignPoll {
                     answer: answer_of(begun, end),
                     wake,

@@ -12,9 +12,9 @@ mod sign_poll;
 mod signer;
 mod signer_objects;
 mod step_call;
+mod step_outcome;
 mod step_reply;
 mod target;
-mod went;
 
 pub use desk_parts::{AddError, AddRefused};
 pub use refusal::Refusal;

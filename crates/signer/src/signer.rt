@@ -1,7 +1,7 @@
 //! The signer on one thread: a desk, and the providers, services and contexts that answer it.
 //!
 //! Contracts see a signer as the record `SignerState`. A call's state is in its caller's hands between
-//! polls; `IsMadeBy` says that this signer made it.
+//! polls; `IsIssuedBy` says that this signer issued it.
 ghost use Rattle.std.specs.Prelude.{◌≡◌, ◌<◌, Some, None, [], length, OnOk, OnErr, IfOk, IfErr, IfSome, IsSome, option_and_then, option_copied, slice_get, slice_index};
 ghost use Rattle.sequential_signer.specs.Policy.{policy_of};
 ghost use Rattle.sequential_signer.specs.declared.event.Event.TheVariants.{Cancel};
@@ -10,8 +10,8 @@ ghost use Rattle.desk_parts.specs.Adding.{late_refusal, AddAnswer, AddAnswerBack
 ghost use Rattle.sign_desk.specs.DeskState.{with_cache};
 ghost use Rattle.signer.specs.Course.{IsPoll, polled_call};
 ghost use Rattle.sign_desk.specs.DeskState.{Represents};
-ghost use Rattle.signer.specs.MadeBy.{IsMadeBy};
-ghost use Rattle.signer.specs.SignerCalls.{Begins, RefusesToBegin, KeepsOthers, IsAnswerMadeBy};
+ghost use Rattle.signer.specs.IssuedBy.{IsIssuedBy};
+ghost use Rattle.signer.specs.SignerCalls.{Begins, RefusesToBegin, KeepsOthers, IsAnswerIssuedBy};
 ghost use Rattle.desk_parts.specs.ProviderList.{AreFew, loader_for};
 ghost use Rattle.signer.specs.SignerInvariant.{IsNewSigner, with_context_handle, with_service_handle, with_cache_handle};
 ghost use Rattle.signer.specs.SignerObjects.{Objects, meanings_of, objects_of};
@@ -289,12 +289,12 @@ where
     /// in this poll. On `Done` the request has the signed URI and headers; on every other answer it is
     /// as it was.
     pub fn poll(&mut self, sign: Sign<P, S>, req: &mut Parts, now: Timestamp) -> SignPoll<P, S>
-        requires { IsMadeBy (meanings_of P.ProvideCredential S.SignRequest.own) self.old sign }
+        requires { IsIssuedBy (meanings_of P.ProvideCredential S.SignRequest.own) self.old sign }
         ensures poll { (o : Objects P S P.Ctx) → objects_of self.old sign.begun.id.handle ≡ Some o
             → IsPoll (polled_call (policy_of P.Credential.valid P.Credential.valid_at S.deadline) P.Credential.clones_freely
             (meanings_of P.ProvideCredential S.SignRequest.own) o sign.begun now) sign.state self.old.desk self.new.desk
             (record { poll = result; before = req.old; after = req.new }) }
-        ensures made { IsAnswerMadeBy (meanings_of P.ProvideCredential S.SignRequest.own) self.new sign.begun.id result.answer }
+        ensures issued { IsAnswerIssuedBy (meanings_of P.ProvideCredential S.SignRequest.own) self.new sign.begun.id result.answer }
         ensures same { self.new ≡ record self.old { desk = self.new.desk } }
         ensures others { KeepsOthers (meanings_of P.ProvideCredential S.SignRequest.own) sign.begun.id (record { old = self.old; new = self.new }) }
     {
@@ -312,7 +312,7 @@ where
 
     /// Gives a call up, and names the call that has its turn by this. It takes no memory.
     pub fn cancel(&mut self, sign: Sign<P, S>) -> Option<CallId>
-        requires { IsMadeBy (meanings_of P.ProvideCredential S.SignRequest.own) self.old sign }
+        requires { IsIssuedBy (meanings_of P.ProvideCredential S.SignRequest.own) self.old sign }
         ensures step { IsStep (policy_of P.Credential.valid P.Credential.valid_at S.deadline) (Cancel sign.begun.id) self.old.desk (Cancelled result) self.new.desk }
         ensures same { self.new ≡ record self.old { desk = self.new.desk } }
         ensures others { KeepsOthers (meanings_of P.ProvideCredential S.SignRequest.own) sign.begun.id (record { old = self.old; new = self.new }) }

@@ -4,15 +4,15 @@ ghost use Rattle.desk_parts.specs.CallAt.{loader_of};
 ghost use Rattle.desk_parts.specs.ProviderList.{loader_for};
 ghost use Rattle.http.specs.declared.request.Parts.{Parts};
 ghost use Rattle.sequential_signer.specs.Policy.{policy_of};
-ghost use Rattle.signer.specs.Driving.{IsMadeFor, IsStepTaken};
+ghost use Rattle.signer.specs.PollContext.{IsIssuedFor, IsOutcomeWith};
 ghost use Rattle.signer.specs.ObjectAnswer.{KeepsWork};
 ghost use Rattle.signer.specs.SignerObjects.{meanings_of, service_of};
 ghost use Rattle.desk_parts.specs.ProviderList.{provider_at};
 ghost use Rattle.signer.specs.declared.sign.SignState.TheVariants.{Loading, Signing};
 ghost use Rattle.signer.specs.declared.sign.WorkState.{WorkState};
 ghost use Rattle.signer.specs.declared.sign.WorkState.TheVariants as work_state;
-ghost use Rattle.signer.specs.declared.went.StepEnd.TheVariants.{OutOfMemory};
-ghost use Rattle.signer.specs.declared.went.Went.TheVariants.{Over};
+ghost use Rattle.signer.specs.declared.step_outcome.StepEnd.TheVariants.{OutOfMemory};
+ghost use Rattle.signer.specs.declared.step_outcome.StepFlow.TheVariants.{Over};
 
 use crate::call_objects::CallObjects;
 use crate::drive::{give_failed, give_found, give_missing, give_rejected, poll_call};
@@ -20,9 +20,9 @@ use crate::object_answer::WorkAnswer;
 use crate::refusal::Refusal;
 use crate::sign::{SignState, WorkState};
 use crate::signer_objects::poll_service;
+use crate::step_outcome::{StepEnd, StepOutcome};
 use crate::step_reply::{after_found, after_none, after_poll};
 use crate::target::{hand_in, target_of};
-use crate::went::{StepEnd, StepTaken};
 use credentials::{ProvideCredential, SignRequest, SigningCredential};
 use desk_parts::{BegunCall, LoadAnswer, LoadState, poll_provider, provider_at};
 use http::request::Parts;
@@ -37,14 +37,14 @@ pub(crate) fn step<P, S>(
     now: Timestamp,
     state: SignState<P::Credential, P::Load, S::Work>,
     req: &mut Parts,
-) -> StepTaken<P::Credential, P::Load, S::Work>
+) -> StepOutcome<P::Credential, P::Load, S::Work>
 where
     P: ProvideCredential,
     P::Credential: SigningCredential,
     S: SignRequest<Credential = P::Credential, Ctx = P::Ctx>,
     requires there { IsSome (service_of desk.old begun.now.id.handle) }
     requires loads { loader_of desk.old begun.now.id.handle ≡ Some (loader_for objects.now.providers.now) }
-    requires made { IsMadeFor (record {
+    requires issued { IsIssuedFor (record {
       policy = policy_of P.Credential.valid P.Credential.valid_at S.deadline;
       clones_freely = P.Credential.clones_freely;
       meanings = meanings_of P.ProvideCredential S.SignRequest.own;
@@ -52,7 +52,7 @@ where
       begun = begun.now;
       now = now;
     }) desk.old state }
-    ensures { IsStepTaken (record {
+    ensures { IsOutcomeWith (record {
       policy = policy_of P.Credential.valid P.Credential.valid_at S.deadline;
       clones_freely = P.Credential.clones_freely;
       meanings = meanings_of P.ProvideCredential S.SignRequest.own;
@@ -82,14 +82,14 @@ fn step_loading<P, S>(
     candidate: Head,
     provider: u32,
     load: LoadState<P::Credential, P::Load>,
-) -> StepTaken<P::Credential, P::Load, S::Work>
+) -> StepOutcome<P::Credential, P::Load, S::Work>
 where
     P: ProvideCredential,
     P::Credential: SigningCredential,
     S: SignRequest<Credential = P::Credential, Ctx = P::Ctx>,
     requires there { IsSome (service_of desk.old begun.now.id.handle) }
     requires loads { loader_of desk.old begun.now.id.handle ≡ Some (loader_for objects.now.providers.now) }
-    requires made { IsMadeFor (record {
+    requires issued { IsIssuedFor (record {
       policy = policy_of P.Credential.valid P.Credential.valid_at S.deadline;
       clones_freely = P.Credential.clones_freely;
       meanings = meanings_of P.ProvideCredential S.SignRequest.own;
@@ -97,7 +97,7 @@ where
       begun = begun.now;
       now = now;
     }) desk.old (Loading candidate provider load) }
-    ensures { (request : Parts) → IsStepTaken (record {
+    ensures { (request : Parts) → IsOutcomeWith (record {
       policy = policy_of P.Credential.valid P.Credential.valid_at S.deadline;
       clones_freely = P.Credential.clones_freely;
       meanings = meanings_of P.ProvideCredential S.SignRequest.own;
@@ -111,11 +111,11 @@ where
     match poll_provider(objects.alloc, asked, objects.ctx, load) {
         LoadAnswer::Pending(load) => {
             let state = SignState::Loading(candidate, provider, LoadState::Started(load));
-            StepTaken::over(StepEnd::Pending(state))
+            StepOutcome::over(StepEnd::Pending(state))
         }
         LoadAnswer::OutOfMemory(load) => {
             let state = SignState::Loading(candidate, provider, load);
-            StepTaken::over(StepEnd::OutOfMemory(state))
+            StepOutcome::over(StepEnd::OutOfMemory(state))
         }
         LoadAnswer::Found(credential) => {
             let (reply, found) = give_found(desk, begun, provider, now, credential);
@@ -141,13 +141,13 @@ fn step_signing<P, S>(
     credential: P::Credential,
     work: WorkState<S::Work>,
     req: &mut Parts,
-) -> StepTaken<P::Credential, P::Load, S::Work>
+) -> StepOutcome<P::Credential, P::Load, S::Work>
 where
     P: ProvideCredential,
     P::Credential: SigningCredential,
     S: SignRequest<Credential = P::Credential, Ctx = P::Ctx>,
     requires there { IsSome (service_of desk.old begun.now.id.handle) }
-    requires made { IsMadeFor (record {
+    requires issued { IsIssuedFor (record {
       policy = policy_of P.Credential.valid P.Credential.valid_at S.deadline;
       clones_freely = P.Credential.clones_freely;
       meanings = meanings_of P.ProvideCredential S.SignRequest.own;
@@ -155,7 +155,7 @@ where
       begun = begun.now;
       now = now;
     }) desk.old (Signing credential work) }
-    ensures { IsStepTaken (record {
+    ensures { IsOutcomeWith (record {
       policy = policy_of P.Credential.valid P.Credential.valid_at S.deadline;
       clones_freely = P.Credential.clones_freely;
       meanings = meanings_of P.ProvideCredential S.SignRequest.own;
@@ -176,14 +176,14 @@ where
     ) {
         WorkAnswer::Pending(work, candidate) => {
             let state = SignState::Signing(credential, WorkState::Started(work, candidate));
-            StepTaken::over(StepEnd::Pending(state))
+            StepOutcome::over(StepEnd::Pending(state))
         }
         WorkAnswer::OutOfMemory(work) => {
-            StepTaken::over(StepEnd::OutOfMemory(SignState::Signing(credential, work)))
+            StepOutcome::over(StepEnd::OutOfMemory(SignState::Signing(credential, work)))
         }
         WorkAnswer::Failed(e) => {
             give_rejected(desk, begun);
-            StepTaken::refused(Refusal::Service(e), None)
+            StepOutcome::refused(Refusal::Service(e), None)
         }
         WorkAnswer::Signed(candidate) => {
             accept(desk, objects, begun, now, credential, candidate, req)
@@ -200,13 +200,13 @@ fn accept<P, S>(
     credential: P::Credential,
     candidate: Head,
     req: &mut Parts,
-) -> StepTaken<P::Credential, P::Load, S::Work>
+) -> StepOutcome<P::Credential, P::Load, S::Work>
 where
     P: ProvideCredential,
     P::Credential: SigningCredential,
     S: SignRequest<Credential = P::Credential, Ctx = P::Ctx>,
     requires there { IsSome (service_of desk.old begun.now.id.handle) }
-    requires made { IsMadeFor (record {
+    requires issued { IsIssuedFor (record {
       policy = policy_of P.Credential.valid P.Credential.valid_at S.deadline;
       clones_freely = P.Credential.clones_freely;
       meanings = meanings_of P.ProvideCredential S.SignRequest.own;
@@ -214,7 +214,7 @@ where
       begun = begun.now;
       now = _now;
     }) desk.old (Signing credential (work_state.Signed candidate)) }
-    ensures { (work : WorkState S.Work) → KeepsWork work (work_state.Signed candidate) → IsStepTaken (record {
+    ensures { (work : WorkState S.Work) → KeepsWork work (work_state.Signed candidate) → IsOutcomeWith (record {
       policy = policy_of P.Credential.valid P.Credential.valid_at S.deadline;
       clones_freely = P.Credential.clones_freely;
       meanings = meanings_of P.ProvideCredential S.SignRequest.own;
@@ -226,23 +226,23 @@ where
 {
     match target_of(objects.alloc, &candidate, objects.keys) {
         Ok(target) => match hand_in(desk, begun, candidate, target, req) {
-            None => StepTaken::over(StepEnd::Done),
+            None => StepOutcome::over(StepEnd::Done),
             Some(candidate) => keep(credential, candidate),
         },
         Err(e) => match e.kind() {
             ErrorKind::OutOfMemory => keep(credential, candidate),
             _ => {
                 give_rejected(desk, begun);
-                StepTaken::refused(Refusal::Service(e), None)
+                StepOutcome::refused(Refusal::Service(e), None)
             }
         },
     }
 }
 
 /// There was no memory to take the head that the service signed.
-fn keep<K, L, W>(credential: K, candidate: Head) -> StepTaken<K, L, W>
-    ensures { result ≡ record { went = Over (OutOfMemory (Signing credential (work_state.Signed candidate))); wake = None } }
+fn keep<K, L, W>(credential: K, candidate: Head) -> StepOutcome<K, L, W>
+    ensures { result ≡ record { flow = Over (OutOfMemory (Signing credential (work_state.Signed candidate))); wake = None } }
 {
     let state = SignState::Signing(credential, WorkState::Signed(candidate));
-    StepTaken::over(StepEnd::OutOfMemory(state))
+    StepOutcome::over(StepEnd::OutOfMemory(state))
 }

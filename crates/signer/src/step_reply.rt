@@ -1,30 +1,30 @@
 //! How a poll goes on by a reply of its desk.
 ghost use Rattle.std.specs.Prelude.{◌≡◌};
-ghost use Rattle.signer.specs.StepReply.{plain_refusal, taken_after_poll, taken_after_found, taken_after_none};
+ghost use Rattle.signer.specs.OutcomeByReply.{plain_refusal, outcome_after_poll, outcome_after_found, outcome_after_none};
 
 use crate::refusal::Refusal;
 use crate::sign::{SignState, WorkState};
-use crate::went::{StepEnd, StepTaken};
+use crate::step_outcome::{StepEnd, StepOutcome};
 use desk_parts::LoadState;
 use sequential_signer::{Reply, Why};
 use sign_base::Head;
 
 /// A poll of a call that waits. The desk replies out of memory where it replies none of these.
-pub(crate) fn after_poll<K: Drop, L, W>(candidate: Head, reply: Reply<K>) -> StepTaken<K, L, W>
-    ensures { result ≡ taken_after_poll candidate reply }
+pub(crate) fn after_poll<K: Drop, L, W>(candidate: Head, reply: Reply<K>) -> StepOutcome<K, L, W>
+    ensures { result ≡ outcome_after_poll candidate reply }
 {
     match reply {
-        Reply::Pending => StepTaken::over(StepEnd::Pending(SignState::Waiting(candidate))),
+        Reply::Pending => StepOutcome::over(StepEnd::Pending(SignState::Waiting(candidate))),
         Reply::Ask { provider } => {
             let loading = SignState::Loading(candidate, provider, LoadState::Unstarted);
-            StepTaken::on(loading, None)
+            StepOutcome::on(loading, None)
         }
         Reply::Sign { credential, wake } => {
             let signing = SignState::Signing(credential, WorkState::Unstarted(candidate));
-            StepTaken::on(signing, wake)
+            StepOutcome::on(signing, wake)
         }
-        Reply::Refused { why, wake } => StepTaken::refused(refusal_of(why), wake),
-        _ => StepTaken::over(StepEnd::OutOfMemory(SignState::Waiting(candidate))),
+        Reply::Refused { why, wake } => StepOutcome::refused(refusal_of(why), wake),
+        _ => StepOutcome::over(StepEnd::OutOfMemory(SignState::Waiting(candidate))),
     }
 }
 
@@ -34,18 +34,18 @@ pub(crate) fn after_found<K: Drop, L, W>(
     provider: u32,
     found: K,
     reply: Reply<K>,
-) -> StepTaken<K, L, W>
-    ensures { result ≡ taken_after_found candidate provider found reply }
+) -> StepOutcome<K, L, W>
+    ensures { result ≡ outcome_after_found candidate provider found reply }
 {
     match reply {
         Reply::Sign { credential, wake } => {
             let signing = SignState::Signing(credential, WorkState::Unstarted(candidate));
-            StepTaken::on(signing, wake)
+            StepOutcome::on(signing, wake)
         }
-        Reply::Refused { why, wake } => StepTaken::refused(refusal_of(why), wake),
+        Reply::Refused { why, wake } => StepOutcome::refused(refusal_of(why), wake),
         _ => {
             let kept = SignState::Loading(candidate, provider, LoadState::Found(found));
-            StepTaken::over(StepEnd::OutOfMemory(kept))
+            StepOutcome::over(StepEnd::OutOfMemory(kept))
         }
     }
 }
@@ -56,20 +56,20 @@ pub(crate) fn after_none<K: Drop, L, W>(
     candidate: Head,
     failure: Refusal,
     reply: Reply<K>,
-) -> StepTaken<K, L, W>
-    ensures { result ≡ taken_after_none candidate failure reply }
+) -> StepOutcome<K, L, W>
+    ensures { result ≡ outcome_after_none candidate failure reply }
 {
     match reply {
         Reply::Ask { provider } => {
             let loading = SignState::Loading(candidate, provider, LoadState::Unstarted);
-            StepTaken::on(loading, None)
+            StepOutcome::on(loading, None)
         }
         Reply::Refused {
             why: Why::Missing,
             wake,
-        } => StepTaken::refused(Refusal::Missing, wake),
-        Reply::Refused { wake, .. } => StepTaken::refused(failure, wake),
-        _ => StepTaken::refused(failure, None),
+        } => StepOutcome::refused(Refusal::Missing, wake),
+        Reply::Refused { wake, .. } => StepOutcome::refused(failure, wake),
+        _ => StepOutcome::refused(failure, None),
     }
 }
 

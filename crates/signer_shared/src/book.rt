@@ -54,7 +54,7 @@ impl<K: SigningCredential, D: DeadlineRule<Credential = K>> Book<K, D> {
         Book { desk, journal }
     }
 
-    /// One event: a step of the desk, whose entry is put behind the journal and its receipt behind the
+    /// One event: a step of the desk, whose entry is put after the journal and its receipt after the
     /// pass. The room and the copies are taken before the step.
     ///
     /// `OutOfMemory` changes neither. It does not come for a cancel of a live call of which the pass has

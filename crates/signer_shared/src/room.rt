@@ -22,7 +22,7 @@ pub(crate) fn call_of<K>(event: &Event<K>) -> CallId
     }
 }
 
-/// Whether the call is open behind one more receipt.
+/// Whether the call is open after one more receipt.
 fn is_open_after<K>(found: bool, call: CallId, receipt: &Receipt<K>) -> bool
     ensures { result ≡ (if cancels_call call receipt.now then begins_call call receipt.now else (begins_call call receipt.now || found)) }
 {

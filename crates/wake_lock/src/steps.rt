@@ -3,12 +3,12 @@
 ghost use Rattle.std.specs.Prelude.{◌≡◌, ℕ, ◌+◌, ◌<◌};
 
 use std::marker::Model;
-use std::sync::ledger::{Blank, Book, Ledger, Share};
+use std::sync::ledger::{Blank, Book as LedgerBook, Ledger, Share};
 
 /// How many steps were taken.
 #[derive(Drop)]
 pub struct Steps<L: Ledger> {
-    book: Book<L>,
+    book: LedgerBook<L>,
     share: Share<L>,
 }
 

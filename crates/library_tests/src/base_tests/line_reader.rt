@@ -8,7 +8,7 @@ use std::alloc::{AllocError, Global};
 use std::str;
 
 /// Adds an answer to a text: a short line itself, a longer one as its number of bytes, each with a
-/// bar behind it; or why there is no line.
+/// bar after it; or why there is no line.
 fn push_answer(text: &mut String, answer: Next<'_>) -> Result<(), AllocError> {
     match answer {
         Next::Line(line) if line.len() < 9 => write!(text, "{}|", as_text(line)),
@@ -46,7 +46,7 @@ fn repeated(alloc: Global, byte: u8, count: usize, end: &[u8]) -> Result<Vec<u8>
     Ok(bytes)
 }
 
-/// So many letters `x`, the bytes behind them, and the first five answers.
+/// So many letters `x`, the bytes after them, and the first five answers.
 static INPUTS: [(usize, &[u8], &str); 13] = [
     (0, b"", "End|End|End|End|End|"),
     (0, b"\n", "|End|End|End|End|"),

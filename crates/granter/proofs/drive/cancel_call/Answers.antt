@@ -3,7 +3,7 @@ use Rattle.sequential_signer.specs.Policy.{policy_of}
 use Rattle.sequential_signer.specs.declared.grant_event.GrantEvent.TheVariants.{Cancel}
 use Rattle.sequential_signer.specs.declared.grant_event.GrantReply.{GrantReply}
 use Rattle.grant_desk.specs.GrantSteps.{IsGrantStep}
-use Rattle.granter.proofs.CallSteps.{after-cancel}
+use Rattle.granter.proofs.DeskSteps.{after-cancel}
 use Rattle.granter.proofs.drive.cancel_call.Goals as goal
 
 pub returns-clause-step : goal.returns-clause-step

@@ -1,5 +1,5 @@
 use Rattle.sequential_signer.specs.Policy.{policy_of}
-use Rattle.granter.proofs.CallSteps.{after-failed}
+use Rattle.granter.proofs.DeskSteps.{after-failed}
 use Rattle.granter.proofs.drive.give_failed.Goals as goal
 
 pub returns-clause-after : goal.returns-clause-after

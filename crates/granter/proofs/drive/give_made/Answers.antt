@@ -1,5 +1,5 @@
 use Rattle.sequential_signer.specs.Policy.{policy_of}
-use Rattle.granter.proofs.CallSteps.{after-made}
+use Rattle.granter.proofs.DeskSteps.{after-made}
 use Rattle.granter.proofs.drive.give_made.Goals as goal
 
 pub returns-clause-after : goal.returns-clause-after

@@ -1,5 +1,5 @@
 use Rattle.sequential_signer.specs.Policy.{policy_of}
-use Rattle.granter.proofs.CallSteps.{after-missing}
+use Rattle.granter.proofs.DeskSteps.{after-missing}
 use Rattle.granter.proofs.drive.give_missing.Goals as goal
 
 pub returns-clause-after : goal.returns-clause-after

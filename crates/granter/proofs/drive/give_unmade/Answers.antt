@@ -4,7 +4,7 @@ use Rattle.sequential_signer.specs.declared.grant_event.GrantEvent.TheVariants.{
 use Rattle.sequential_signer.specs.declared.grant_event.Made.TheVariants as made
 use Rattle.sequential_signer.specs.declared.grant_event.GrantReply.{GrantReply}
 use Rattle.grant_desk.specs.GrantSteps.{IsGrantStep}
-use Rattle.granter.proofs.CallSteps.{after-unmade}
+use Rattle.granter.proofs.DeskSteps.{after-unmade}
 use Rattle.granter.proofs.drive.give_unmade.Goals as goal
 
 pub returns-clause-step : goal.returns-clause-step

@@ -1,5 +1,5 @@
 use Rattle.sequential_signer.specs.Policy.{policy_of}
-use Rattle.granter.proofs.CallSteps.{after-poll}
+use Rattle.granter.proofs.DeskSteps.{after-poll}
 use Rattle.granter.proofs.drive.poll_call.Goals as goal
 
 pub returns-clause-after : goal.returns-clause-after

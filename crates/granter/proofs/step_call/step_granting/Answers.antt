@@ -1,54 +1,54 @@
 use Rattle.std.proofs.Common.{◌≡◌, refl, sym, subst, ap, ◌∙◌, Some, Option}
 use Rattle.std.specs.Option.{option_copied}
 use Rattle.sequential_signer.specs.Policy.{policy_of}
-use Rattle.granter.specs.Driving.{Driving, call_with}
+use Rattle.granter.specs.PollContext.{PollContext, call_with}
 use Rattle.granter.specs.GranterObjects.{meanings_of, service_of}
 use Rattle.granter.specs.ObjectAnswer.{IsWorkAnswer}
 use Rattle.granter.specs.ObjectPoll.{service_meaning}
-use Rattle.granter.specs.PollStep.{StepChange, IsTaken}
-use Rattle.granter.specs.StepReply.{went_after_made}
+use Rattle.granter.specs.StepOutcome.{StepChange, IsStepOutcome}
+use Rattle.granter.specs.OutcomeByReply.{flow_after_made}
 use Rattle.granter.specs.declared.grant.CallState.TheVariants.{Granting}
-use Rattle.granter.proofs.StepsTaken.{work-pending, work-without-memory, unmade-taken, made-taken}
+use Rattle.granter.proofs.StepOutcomes.{work-pending, work-without-memory, unmade-taken, made-taken}
 use Rattle.granter.proofs.step_call.step_granting.Goals as goal
 
 pub returns-in-Pending : goal.returns-in-Pending
 returns-in-Pending g c = λ service is.
-    let d : Driving g.row.P.Denot g.row.G.Denot g.row.P-Credential.Denot g.row.P-Ctx.Denot g.row.P-Load.Denot g.row.G-Work.Denot = record { policy = policy_of g.P.Credential.SigningCredential.valid g.P.Credential.SigningCredential.valid_at g.G.DeadlineRule.deadline; clones_freely = g.P.Credential.SigningCredential.clones_freely; meanings = meanings_of g.P.ProvideCredential g.G.GrantCredential; objects = c.args.objects.now; begun = c.args.begun.now; now = c.args.now } in
+    let d : PollContext g.row.P.Denot g.row.G.Denot g.row.P-Credential.Denot g.row.P-Ctx.Denot g.row.P-Load.Denot g.row.G-Work.Denot = record { policy = policy_of g.P.Credential.SigningCredential.valid g.P.Credential.SigningCredential.valid_at g.G.DeadlineRule.deadline; clones_freely = g.P.Credential.SigningCredential.clones_freely; meanings = meanings_of g.P.ProvideCredential g.G.GrantCredential; objects = c.args.objects.now; begun = c.args.begun.now; now = c.args.now } in
     let change : StepChange g.row.P-Credential.Denot g.row.G.Denot = record { old = c.args.desk.now; new = c.args.desk.now } in
     let v = call_with d service in
     let there : service_of c.args.desk.now c.args.begun.now.id.handle ≡ Some c.unwrap-service.result.now = sym c.rule_of.ensures ∙ ap option_copied c.unwrap-service.ensures in
     let one : c.unwrap-service.result.now ≡ service = let both : (let x : Option g.row.G.Denot = Some c.unwrap-service.result.now in x) ≡ Some service = sym there ∙ is in cc in
     let said = subst (λ s. IsWorkAnswer (service_meaning g.G.GrantCredential s c.args.objects.now.ctx.now c.args.begun.now c.args.source) c.args.work c.poll_service.result) one c.poll_service.ensures in
     let answered = subst (IsWorkAnswer (service_meaning g.G.GrantCredential service c.args.objects.now.ctx.now c.args.begun.now c.args.source) c.args.work) c.in-Pending.is said in
-    work-pending v change c.args.source c.args.work c.in-Pending.work refl (c.requires.made service is).0 answered.0 answered.1
+    work-pending v change c.args.source c.args.work c.in-Pending.work refl (c.requires.issued service is).0 answered.0 answered.1
 
 pub returns-in-OutOfMemory : goal.returns-in-OutOfMemory
 returns-in-OutOfMemory g c = λ service is.
-    let d : Driving g.row.P.Denot g.row.G.Denot g.row.P-Credential.Denot g.row.P-Ctx.Denot g.row.P-Load.Denot g.row.G-Work.Denot = record { policy = policy_of g.P.Credential.SigningCredential.valid g.P.Credential.SigningCredential.valid_at g.G.DeadlineRule.deadline; clones_freely = g.P.Credential.SigningCredential.clones_freely; meanings = meanings_of g.P.ProvideCredential g.G.GrantCredential; objects = c.args.objects.now; begun = c.args.begun.now; now = c.args.now } in
+    let d : PollContext g.row.P.Denot g.row.G.Denot g.row.P-Credential.Denot g.row.P-Ctx.Denot g.row.P-Load.Denot g.row.G-Work.Denot = record { policy = policy_of g.P.Credential.SigningCredential.valid g.P.Credential.SigningCredential.valid_at g.G.DeadlineRule.deadline; clones_freely = g.P.Credential.SigningCredential.clones_freely; meanings = meanings_of g.P.ProvideCredential g.G.GrantCredential; objects = c.args.objects.now; begun = c.args.begun.now; now = c.args.now } in
     let change : StepChange g.row.P-Credential.Denot g.row.G.Denot = record { old = c.args.desk.now; new = c.args.desk.now } in
     let v = call_with d service in
     let there : service_of c.args.desk.now c.args.begun.now.id.handle ≡ Some c.unwrap-service.result.now = sym c.rule_of.ensures ∙ ap option_copied c.unwrap-service.ensures in
     let one : c.unwrap-service.result.now ≡ service = let both : (let x : Option g.row.G.Denot = Some c.unwrap-service.result.now in x) ≡ Some service = sym there ∙ is in cc in
     let said = subst (λ s. IsWorkAnswer (service_meaning g.G.GrantCredential s c.args.objects.now.ctx.now c.args.begun.now c.args.source) c.args.work c.poll_service.result) one c.poll_service.ensures in
     let answered = subst (IsWorkAnswer (service_meaning g.G.GrantCredential service c.args.objects.now.ctx.now c.args.begun.now c.args.source) c.args.work) c.in-OutOfMemory.is said in
-    work-without-memory v change c.args.source c.args.work c.in-OutOfMemory.work refl (c.requires.made service is).0 answered.0 answered.1
+    work-without-memory v change c.args.source c.args.work c.in-OutOfMemory.work refl (c.requires.issued service is).0 answered.0 answered.1
 
 pub returns-in-Made : goal.returns-in-Made
 returns-in-Made g c = λ service is.
-    let d : Driving g.row.P.Denot g.row.G.Denot g.row.P-Credential.Denot g.row.P-Ctx.Denot g.row.P-Load.Denot g.row.G-Work.Denot = record { policy = policy_of g.P.Credential.SigningCredential.valid g.P.Credential.SigningCredential.valid_at g.G.DeadlineRule.deadline; clones_freely = g.P.Credential.SigningCredential.clones_freely; meanings = meanings_of g.P.ProvideCredential g.G.GrantCredential; objects = c.args.objects.now; begun = c.args.begun.now; now = c.args.now } in
+    let d : PollContext g.row.P.Denot g.row.G.Denot g.row.P-Credential.Denot g.row.P-Ctx.Denot g.row.P-Load.Denot g.row.G-Work.Denot = record { policy = policy_of g.P.Credential.SigningCredential.valid g.P.Credential.SigningCredential.valid_at g.G.DeadlineRule.deadline; clones_freely = g.P.Credential.SigningCredential.clones_freely; meanings = meanings_of g.P.ProvideCredential g.G.GrantCredential; objects = c.args.objects.now; begun = c.args.begun.now; now = c.args.now } in
     let change : StepChange g.row.P-Credential.Denot g.row.G.Denot = record { old = c.args.desk.now; new = c.give_made-reply.new.desk } in
     let v = call_with d service in
     let there : service_of c.args.desk.now c.args.begun.now.id.handle ≡ Some c.unwrap-service.result.now = sym c.rule_of.ensures ∙ ap option_copied c.unwrap-service.ensures in
     let one : c.unwrap-service.result.now ≡ service = let both : (let x : Option g.row.G.Denot = Some c.unwrap-service.result.now in x) ≡ Some service = sym there ∙ is in cc in
     let said = subst (λ s. IsWorkAnswer (service_meaning g.G.GrantCredential s c.args.objects.now.ctx.now c.args.begun.now c.args.source) c.args.work c.poll_service.result) one c.poll_service.ensures in
     let answered = subst (IsWorkAnswer (service_meaning g.G.GrantCredential service c.args.objects.now.ctx.now c.args.begun.now c.args.source) c.args.work) c.in-Made.is said in
-    let is_taken = c.after_made.ensures ∙ ap (λ x. went_after_made c.args.source x c.give_made-reply.result.0) c.give_made-reply.ensures.back in
-    subst (IsTaken v (Granting c.args.source c.args.work) change) (sym is_taken)
-    (made-taken v change c.args.source c.args.work c.in-Made.credential c.give_made-reply.result.0 (c.requires.made service is).0 answered.0 answered.1 c.give_made-reply.ensures.step c.give_made-reply.ensures.memory c.give_made-reply.ensures.after c.give_made-reply.ensures.others)
+    let is_taken = c.after_made.ensures ∙ ap (λ x. flow_after_made c.args.source x c.give_made-reply.result.0) c.give_made-reply.ensures.back in
+    subst (IsStepOutcome v (Granting c.args.source c.args.work) change) (sym is_taken)
+    (made-taken v change c.args.source c.args.work c.in-Made.credential c.give_made-reply.result.0 (c.requires.issued service is).0 answered.0 answered.1 c.give_made-reply.ensures.step c.give_made-reply.ensures.memory c.give_made-reply.ensures.after c.give_made-reply.ensures.others)
 
 pub returns-in-Failed : goal.returns-in-Failed
 returns-in-Failed g c = λ service is.
-    let d : Driving g.row.P.Denot g.row.G.Denot g.row.P-Credential.Denot g.row.P-Ctx.Denot g.row.P-Load.Denot g.row.G-Work.Denot = record { policy = policy_of g.P.Credential.SigningCredential.valid g.P.Credential.SigningCredential.valid_at g.G.DeadlineRule.deadline; clones_freely = g.P.Credential.SigningCredential.clones_freely; meanings = meanings_of g.P.ProvideCredential g.G.GrantCredential; objects = c.args.objects.now; begun = c.args.begun.now; now = c.args.now } in
+    let d : PollContext g.row.P.Denot g.row.G.Denot g.row.P-Credential.Denot g.row.P-Ctx.Denot g.row.P-Load.Denot g.row.G-Work.Denot = record { policy = policy_of g.P.Credential.SigningCredential.valid g.P.Credential.SigningCredential.valid_at g.G.DeadlineRule.deadline; clones_freely = g.P.Credential.SigningCredential.clones_freely; meanings = meanings_of g.P.ProvideCredential g.G.GrantCredential; objects = c.args.objects.now; begun = c.args.begun.now; now = c.args.now } in
     let change : StepChange g.row.P-Credential.Denot g.row.G.Denot = record { old = c.args.desk.now; new = c.give_unmade.new.desk } in
     let v = call_with d service in
     let there : service_of c.args.desk.now c.args.begun.now.id.handle ≡ Some c.unwrap-service.result.now = sym c.rule_of.ensures ∙ ap option_copied c.unwrap-service.ensures in

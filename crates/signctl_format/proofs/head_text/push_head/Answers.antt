@@ -1,6 +1,6 @@
 use Rattle.std.proofs.Common.{append_assoc}
 use Rattle.std.proofs.lemmas.Result.{on_err_weaker}
-use Rattle.signctl_format.proofs.ShortTexts.{on_err, short_first, short_behind}
+use Rattle.signctl_format.proofs.ShortTexts.{on_err, short_first, short_after}
 use Rattle.signctl_format.proofs.head_text.push_head.Goals as goal
 
 pub returns-clause-ok : goal.returns-clause-ok
@@ -14,17 +14,17 @@ returns-in_err-push_word-clause-err c = rw (← c.as_slice.ensures) (on_err _ (s
 pub returns-in_err-push_word-2-clause-err : goal.returns-in_err-push_word-2-clause-err
 returns-in_err-push_word-2-clause-err c =
     let method = c.in_ok-push_word.ensures in
-    rw (← c.as_slice.ensures, ← c.as_slice-2.ensures) (on_err _ (short_behind _ _ method.ok method.capacity (short_first _ c.in_err-push_word-2.ensures.err)))
+    rw (← c.as_slice.ensures, ← c.as_slice-2.ensures) (on_err _ (short_after _ _ method.ok method.capacity (short_first _ c.in_err-push_word-2.ensures.err)))
 
 pub returns-in_err-push_version-clause-err : goal.returns-in_err-push_version-clause-err
 returns-in_err-push_version-clause-err c =
     let method = c.in_ok-push_word.ensures in
     let uri = c.in_ok-push_word-2.ensures in
-    rw (← c.as_slice.ensures, ← c.as_slice-2.ensures) (on_err _ (short_behind c.push_word.new.text _ method.ok method.capacity (short_behind _ _ uri.ok uri.capacity (short_first _ c.in_err-push_version.ensures.err))))
+    rw (← c.as_slice.ensures, ← c.as_slice-2.ensures) (on_err _ (short_after c.push_word.new.text _ method.ok method.capacity (short_after _ _ uri.ok uri.capacity (short_first _ c.in_err-push_version.ensures.err))))
 
 pub returns-clause-err : goal.returns-clause-err
 returns-clause-err c =
     let method = c.in_ok-push_word.ensures in
     let uri = c.in_ok-push_word-2.ensures in
     let version = c.in_ok-push_version.ensures in
-    rw (← c.as_slice.ensures, ← c.as_slice-2.ensures, ← c.as_slice-3.ensures) (on_err_weaker c.push_fields.result (λ short. short_behind c.push_word.new.text _ method.ok method.capacity (short_behind c.push_word-2.new.text _ uri.ok uri.capacity (short_behind c.push_version.new.text _ version.ok version.capacity short))) c.push_fields.ensures.err)
+    rw (← c.as_slice.ensures, ← c.as_slice-2.ensures, ← c.as_slice-3.ensures) (on_err_weaker c.push_fields.result (λ short. short_after c.push_word.new.text _ method.ok method.capacity (short_after c.push_word-2.new.text _ uri.ok uri.capacity (short_after c.push_version.new.text _ version.ok version.capacity short))) c.push_fields.ensures.err)

@@ -14,7 +14,7 @@ use Rattle.signctl_format.specs.declared.script_version.ScriptVersion.TheVariant
 use Rattle.signctl_format.specs.Bytes.{dash}
 use Rattle.signctl_format.specs.Moments.{nanos_of_second, in_nanos, plain_duration, time_word, moment_word}
 use Rattle.signctl_format.specs.Lines.{RunsShort}
-use Rattle.signctl_format.proofs.ShortTexts.{on_err, short_first, short_behind}
+use Rattle.signctl_format.proofs.ShortTexts.{on_err, short_first, short_after}
 use Rattle.signctl_format.proofs.moment_text.push_exact_moment.Goals as goal
 use Rattle.signctl_format.proofs.moment_text.push_exact_moment.Goals.{then-nanos-lt0+in_ok-push-2, else-nanos-lt0}
 
@@ -37,7 +37,7 @@ returns-in_err-push-2-clause-err c =
     let fits : SFits w128 c.as_nanos-nanos.result = search rules in
     let is = to_z-of_z w128 c.as_nanos-nanos.result fits ∙ c.as_nanos-nanos.ensures.value in
     rw (before_1970 c.args.moment (rw is at c.if-nanos-lt0.true))
-    (on_err _ (short_behind _ _ c.in_ok-push.ensures.ok c.in_ok-push.ensures.capacity (short_first _ c.in_err-push-2.ensures.err)))
+    (on_err _ (short_after _ _ c.in_ok-push.ensures.ok c.in_ok-push.ensures.capacity (short_first _ c.in_err-push-2.ensures.err)))
 
 pub returns-clause-err : goal.returns-clause-err
 returns-clause-err c =
@@ -50,8 +50,8 @@ returns-clause-err c =
     elim c.if-nanos-lt0.branch [
       | then-nanos-lt0+in_ok-push-2 w ↦
           let sign = w.in_ok-push-2.ensures in
-          let behind = λ (short : RunsShort w.push-then-nanos-lt0.new.text c.push_time.new.text word). short_behind c.push.new.text _ c.in_ok-push.ensures.ok c.in_ok-push.ensures.capacity (short_behind _ _ sign.ok sign.capacity short) in
+          let behind = λ (short : RunsShort w.push-then-nanos-lt0.new.text c.push_time.new.text word). short_after c.push.new.text _ c.in_ok-push.ensures.ok c.in_ok-push.ensures.capacity (short_after _ _ sign.ok sign.capacity short) in
           rw (before_1970 c.args.moment (rw is at w.if-nanos-lt0.true)) (on_err_weaker _ behind (from _ w.text-is))
       | else-nanos-lt0 w ↦
-          rw (from_1970 c.args.moment (rw is at w.if-nanos-lt0.false)) (on_err_weaker _ (short_behind _ _ c.in_ok-push.ensures.ok c.in_ok-push.ensures.capacity) (from _ w.text-is))
+          rw (from_1970 c.args.moment (rw is at w.if-nanos-lt0.false)) (on_err_weaker _ (short_after _ _ c.in_ok-push.ensures.ok c.in_ok-push.ensures.capacity) (from _ w.text-is))
     ]

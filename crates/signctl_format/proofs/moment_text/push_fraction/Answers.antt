@@ -1,6 +1,6 @@
 use Rattle.std.proofs.lemmas.Bool.{ne_eqb}
 use Rattle.std.proofs.lemmas.Result.{on_err_weaker}
-use Rattle.signctl_format.proofs.ShortTexts.{on_err, short_first, short_behind}
+use Rattle.signctl_format.proofs.ShortTexts.{on_err, short_first, short_after}
 use Rattle.signctl_format.proofs.moment_text.push_fraction.Goals as goal
 
 pub returns-in_err-push-clause-err : goal.returns-in_err-push-clause-err
@@ -8,4 +8,4 @@ returns-in_err-push-clause-err c = rw (ne_eqb c.args.nanos 0 c.if-nanos-eq0.fals
 
 pub returns-clause-err : goal.returns-clause-err
 returns-clause-err c =
-    rw (ne_eqb c.args.nanos 0 c.if-nanos-eq0.false) (on_err_weaker _ (short_behind _ _ c.in_ok-push.ensures.ok c.in_ok-push.ensures.capacity) c.push_digits.ensures.err)
+    rw (ne_eqb c.args.nanos 0 c.if-nanos-eq0.false) (on_err_weaker _ (short_after _ _ c.in_ok-push.ensures.ok c.in_ok-push.ensures.capacity) c.push_digits.ensures.err)

@@ -7,7 +7,7 @@ use Rattle.signctl_format.specs.declared.script_version.ScriptVersion.{ScriptVer
 use Rattle.signctl_format.specs.declared.script_version.ScriptVersion.TheVariants.{One, Two}
 use Rattle.signctl_format.specs.Moments.{plain_duration, time_word}
 use Rattle.signctl_format.specs.Lines.{RunsShort}
-use Rattle.signctl_format.proofs.ShortTexts.{on_err, short_first, short_behind}
+use Rattle.signctl_format.proofs.ShortTexts.{on_err, short_first, short_after}
 use Rattle.signctl_format.proofs.moment_text.push_time.Goals as goal
 
 short_seconds : {old new : Vec ℕ} (version : ScriptVersion) (time : Duration) → RunsShort old new (decimal time.secs) → RunsShort old new (time_word version time)
@@ -26,4 +26,4 @@ returns-in-Two-clause-err c =
     let nanos : c.subsec_nanos.result ≡ min c.args.time.nanos 999_999_999 = omega (arith, c.subsec_nanos.ensures) in
     let held = rw (c.as_bytes.ensures.value, c.format.ensures.text, secs) at c.in_ok-push.ensures.ok in
     let short = rw nanos at c.push_fraction.ensures.err in
-    rw c.in-Two.is (on_err_weaker _ (short_behind _ _ held c.in_ok-push.ensures.capacity) short)
+    rw c.in-Two.is (on_err_weaker _ (short_after _ _ held c.in_ok-push.ensures.capacity) short)

@@ -6,11 +6,11 @@ use Rattle.signctl_format.specs.Lines.{wake_words, why_words}
 use Rattle.std.proofs.lemmas.Result.{on_err_weaker}
 use Rattle.signctl_format.specs.Bytes.{space}
 use Rattle.signctl_format.specs.Words.{spaced_words}
-use Rattle.signctl_format.proofs.ShortTexts.{on_err, short_first, short_behind}
+use Rattle.signctl_format.proofs.ShortTexts.{on_err, short_first, short_after}
 use Rattle.signctl_format.proofs.print.push_reply.Goals as goal
 
-words_behind : (why : Why) (wake : Option CallId) → spaced_words (why_words why ++ wake_words wake) ≡ spaced_words (why_words why) ++ spaced_words (wake_words wake)
-words_behind why wake = flat_map-append (λ (word : List ℕ). space ∷ word) (why_words why) (wake_words wake)
+words_after : (why : Why) (wake : Option CallId) → spaced_words (why_words why ++ wake_words wake) ≡ spaced_words (why_words why) ++ spaced_words (wake_words wake)
+words_after why wake = flat_map-append (λ (word : List ℕ). space ∷ word) (why_words why) (wake_words wake)
 
 pub returns-in_err-push-in-Ask-clause-err : goal.returns-in_err-push-in-Ask-clause-err
 returns-in_err-push-in-Ask-clause-err c = rw c.in-Ask.is (on_err _ (short_first _ c.in_err-push-in-Ask.ensures.err))
@@ -18,7 +18,7 @@ returns-in_err-push-in-Ask-clause-err c = rw c.in-Ask.is (on_err _ (short_first 
 pub returns-in_ok-push-in-Ask-clause-err : goal.returns-in_ok-push-in-Ask-clause-err
 returns-in_ok-push-in-Ask-clause-err c =
     let name = c.in_ok-push-in-Ask.ensures in
-    rw (c.in-Ask.is, ← c.from.ensures) (on_err_weaker c.push_number.result (λ short. short_behind c.push-in-Ask.new.text _ name.ok name.capacity (short_first _ short)) c.push_number.ensures.err)
+    rw (c.in-Ask.is, ← c.from.ensures) (on_err_weaker c.push_number.result (λ short. short_after c.push-in-Ask.new.text _ name.ok name.capacity (short_first _ short)) c.push_number.ensures.err)
 
 pub returns-in_err-push-in-Sign-clause-err : goal.returns-in_err-push-in-Sign-clause-err
 returns-in_err-push-in-Sign-clause-err c = rw c.in-Sign.is (on_err _ (short_first _ c.in_err-push-in-Sign.ensures.err))
@@ -26,13 +26,13 @@ returns-in_err-push-in-Sign-clause-err c = rw c.in-Sign.is (on_err _ (short_firs
 pub returns-in_err-push_number-in-Sign-clause-err : goal.returns-in_err-push_number-in-Sign-clause-err
 returns-in_err-push_number-in-Sign-clause-err c =
     let name = c.in_ok-push-in-Sign.ensures in
-    rw c.in-Sign.is (on_err _ (short_behind _ _ name.ok name.capacity (short_first _ c.in_err-push_number-in-Sign.ensures.err)))
+    rw c.in-Sign.is (on_err _ (short_after _ _ name.ok name.capacity (short_first _ c.in_err-push_number-in-Sign.ensures.err)))
 
 pub returns-in_ok-push_number-in-Sign-clause-err : goal.returns-in_ok-push_number-in-Sign-clause-err
 returns-in_ok-push_number-in-Sign-clause-err c =
     let name = c.in_ok-push-in-Sign.ensures in
     let generation = c.in_ok-push_number-in-Sign.ensures in
-    rw c.in-Sign.is (on_err_weaker c.push_wake.result (λ short. short_behind c.push-in-Sign.new.text _ name.ok name.capacity (short_behind c.push_number-in-Sign.new.text _ generation.ok generation.capacity short)) c.push_wake.ensures.err)
+    rw c.in-Sign.is (on_err_weaker c.push_wake.result (λ short. short_after c.push-in-Sign.new.text _ name.ok name.capacity (short_after c.push_number-in-Sign.new.text _ generation.ok generation.capacity short)) c.push_wake.ensures.err)
 
 pub returns-in_err-push-in-Refused-clause-err : goal.returns-in_err-push-in-Refused-clause-err
 returns-in_err-push-in-Refused-clause-err c = rw c.in-Refused.is (on_err _ (short_first _ c.in_err-push-in-Refused.ensures.err))
@@ -40,13 +40,13 @@ returns-in_err-push-in-Refused-clause-err c = rw c.in-Refused.is (on_err _ (shor
 pub returns-in_err-push_why-in-Refused-clause-err : goal.returns-in_err-push_why-in-Refused-clause-err
 returns-in_err-push_why-in-Refused-clause-err c =
     let name = c.in_ok-push-in-Refused.ensures in
-    rw (c.in-Refused.is, words_behind c.in-Refused.why c.in-Refused.wake) (on_err _ (short_behind _ _ name.ok name.capacity (short_first _ c.in_err-push_why-in-Refused.ensures.err)))
+    rw (c.in-Refused.is, words_after c.in-Refused.why c.in-Refused.wake) (on_err _ (short_after _ _ name.ok name.capacity (short_first _ c.in_err-push_why-in-Refused.ensures.err)))
 
 pub returns-in_ok-push_why-in-Refused-clause-err : goal.returns-in_ok-push_why-in-Refused-clause-err
 returns-in_ok-push_why-in-Refused-clause-err c =
     let name = c.in_ok-push-in-Refused.ensures in
     let why = c.in_ok-push_why-in-Refused.ensures in
-    rw (c.in-Refused.is, words_behind c.in-Refused.why c.in-Refused.wake) (on_err_weaker c.push_wake-in-Refused.result (λ short. short_behind c.push-in-Refused.new.text _ name.ok name.capacity (short_behind c.push_why.new.text _ why.ok why.capacity short)) c.push_wake-in-Refused.ensures.err)
+    rw (c.in-Refused.is, words_after c.in-Refused.why c.in-Refused.wake) (on_err_weaker c.push_wake-in-Refused.result (λ short. short_after c.push-in-Refused.new.text _ name.ok name.capacity (short_after c.push_why.new.text _ why.ok why.capacity short)) c.push_wake-in-Refused.ensures.err)
 
 pub returns-in_err-push-in-Done-clause-err : goal.returns-in_err-push-in-Done-clause-err
 returns-in_err-push-in-Done-clause-err c = rw c.in-Done.is (on_err _ (short_first _ c.in_err-push-in-Done.ensures.err))
@@ -54,7 +54,7 @@ returns-in_err-push-in-Done-clause-err c = rw c.in-Done.is (on_err _ (short_firs
 pub returns-in_ok-push-in-Done-clause-err : goal.returns-in_ok-push-in-Done-clause-err
 returns-in_ok-push-in-Done-clause-err c =
     let name = c.in_ok-push-in-Done.ensures in
-    rw c.in-Done.is (on_err_weaker c.push_head.result (short_behind _ _ name.ok name.capacity) c.push_head.ensures.err)
+    rw c.in-Done.is (on_err_weaker c.push_head.result (short_after _ _ name.ok name.capacity) c.push_head.ensures.err)
 
 pub returns-in_err-push-in-Cancelled-clause-err : goal.returns-in_err-push-in-Cancelled-clause-err
 returns-in_err-push-in-Cancelled-clause-err c = rw c.in-Cancelled.is (on_err _ (short_first _ c.in_err-push-in-Cancelled.ensures.err))
@@ -62,4 +62,4 @@ returns-in_err-push-in-Cancelled-clause-err c = rw c.in-Cancelled.is (on_err _ (
 pub returns-in_ok-push-in-Cancelled-clause-err : goal.returns-in_ok-push-in-Cancelled-clause-err
 returns-in_ok-push-in-Cancelled-clause-err c =
     let name = c.in_ok-push-in-Cancelled.ensures in
-    rw c.in-Cancelled.is (on_err_weaker c.push_wake-in-Cancelled.result (short_behind _ _ name.ok name.capacity) c.push_wake-in-Cancelled.ensures.err)
+    rw c.in-Cancelled.is (on_err_weaker c.push_wake-in-Cancelled.result (short_after _ _ name.ok name.capacity) c.push_wake-in-Cancelled.ensures.err)

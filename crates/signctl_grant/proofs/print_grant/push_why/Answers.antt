@@ -1,5 +1,5 @@
 use Rattle.std.proofs.lemmas.Result.{on_err_weaker}
-use Rattle.signctl_format.proofs.ShortTexts.{on_err, short_first, short_behind}
+use Rattle.signctl_format.proofs.ShortTexts.{on_err, short_first, short_after}
 use Rattle.signctl_grant.proofs.print_grant.push_why.Goals as goal
 
 pub returns-in_err-push_word-in-Loader-clause-err : goal.returns-in_err-push_word-in-Loader-clause-err
@@ -8,7 +8,7 @@ returns-in_err-push_word-in-Loader-clause-err c = rw c.in-Loader.is (on_err _ (s
 pub returns-in_ok-push_word-in-Loader-clause-err : goal.returns-in_ok-push_word-in-Loader-clause-err
 returns-in_ok-push_word-in-Loader-clause-err c =
     let loader = c.in_ok-push_word-in-Loader.ensures in
-    rw c.in-Loader.is (on_err_weaker c.push_number.result (λ short. short_behind c.push_word-in-Loader.new.text _ loader.ok loader.capacity (short_first _ short)) c.push_number.ensures.err)
+    rw c.in-Loader.is (on_err_weaker c.push_number.result (λ short. short_after c.push_word-in-Loader.new.text _ loader.ok loader.capacity (short_first _ short)) c.push_number.ensures.err)
 
 pub returns-in_err-push_word-in-Service-clause-err : goal.returns-in_err-push_word-in-Service-clause-err
 returns-in_err-push_word-in-Service-clause-err c = rw c.in-Service.is (on_err _ (short_first _ c.in_err-push_word-in-Service.ensures.err))
@@ -16,4 +16,4 @@ returns-in_err-push_word-in-Service-clause-err c = rw c.in-Service.is (on_err _ 
 pub returns-in_ok-push_word-in-Service-clause-err : goal.returns-in_ok-push_word-in-Service-clause-err
 returns-in_ok-push_word-in-Service-clause-err c =
     let service = c.in_ok-push_word-in-Service.ensures in
-    rw c.in-Service.is (on_err_weaker c.push_number-in-Service.result (λ short. short_behind c.push_word-in-Service.new.text _ service.ok service.capacity (short_first _ short)) c.push_number-in-Service.ensures.err)
+    rw c.in-Service.is (on_err_weaker c.push_number-in-Service.result (λ short. short_after c.push_word-in-Service.new.text _ service.ok service.capacity (short_first _ short)) c.push_number-in-Service.ensures.err)

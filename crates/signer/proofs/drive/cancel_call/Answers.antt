@@ -3,7 +3,7 @@ use Rattle.sequential_signer.specs.Policy.{policy_of}
 use Rattle.sequential_signer.specs.declared.event.Event.TheVariants.{Cancel}
 use Rattle.sequential_signer.specs.declared.event.Reply.{Reply}
 use Rattle.sign_desk.specs.Steps.{IsStep}
-use Rattle.signer.proofs.CallSteps.{after-cancel}
+use Rattle.signer.proofs.DeskSteps.{after-cancel}
 use Rattle.signer.proofs.drive.cancel_call.Goals as goal
 
 pub returns-clause-step : goal.returns-clause-step

@@ -1,5 +1,5 @@
 use Rattle.sequential_signer.specs.Policy.{policy_of}
-use Rattle.signer.proofs.CallSteps.{after-accepted}
+use Rattle.signer.proofs.DeskSteps.{after-accepted}
 use Rattle.signer.proofs.drive.give_accepted.Goals as goal
 
 pub returns-clause-after : goal.returns-clause-after

@@ -4,7 +4,7 @@ use Rattle.sequential_signer.specs.declared.event.Event.TheVariants.{Signed}
 use Rattle.sequential_signer.specs.declared.event.Reply.{Reply}
 use Rattle.sequential_signer.specs.declared.event.Verdict.TheVariants as verdict
 use Rattle.sign_desk.specs.Steps.{IsStep}
-use Rattle.signer.proofs.CallSteps.{after-rejected}
+use Rattle.signer.proofs.DeskSteps.{after-rejected}
 use Rattle.signer.proofs.drive.give_rejected.Goals as goal
 
 pub returns-clause-step : goal.returns-clause-step

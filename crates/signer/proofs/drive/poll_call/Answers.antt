@@ -1,5 +1,5 @@
 use Rattle.sequential_signer.specs.Policy.{policy_of}
-use Rattle.signer.proofs.CallSteps.{after-poll}
+use Rattle.signer.proofs.DeskSteps.{after-poll}
 use Rattle.signer.proofs.drive.poll_call.Goals as goal
 
 pub returns-clause-after : goal.returns-clause-after

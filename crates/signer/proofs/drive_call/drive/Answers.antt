@@ -2,48 +2,48 @@ use Rattle.std.proofs.Common.{◌<◌, sym, subst, ap, ◌∙◌}
 use Rattle.desk_parts.specs.ProviderList.{loader_for}
 use Rattle.signer.proofs.PollEnds.{steps_left}
 use Rattle.sequential_signer.specs.Policy.{policy_of}
-use Rattle.signer.specs.Driving.{Driving, IsDrivenFrom}
-use Rattle.signer.specs.PollStep.{answer_by}
+use Rattle.signer.specs.PollContext.{PollContext, IsDrivenFrom}
+use Rattle.signer.specs.StepOutcome.{answer_by}
 use Rattle.signer.specs.SignerObjects.{meanings_of}
-use Rattle.signer.proofs.PollSteps.{PollPlace}
-use Rattle.signer.proofs.Underway.{Underway, PollStart, underway-start, made-here, underway-on, underway-fewer, underway-end}
+use Rattle.signer.proofs.CourseOfSteps.{PollPlace}
+use Rattle.signer.proofs.PollInvariant.{PollInvariant, PollStart, invariant-start, issued-here, invariant-on, invariant-fewer, invariant-end}
 use Rattle.signer.proofs.drive_call.drive.Goals as goal
 
 pub loop-next-init : goal.loop-next-init
 loop-next-init g c =
-    let d : Driving g.row.P.Denot g.row.S.Denot g.row.P-Credential.Denot g.row.P-Ctx.Denot g.row.P-Load.Denot g.row.S-Work.Denot = record { policy = policy_of g.P.Credential.SigningCredential.valid g.P.Credential.SigningCredential.valid_at g.S.DeadlineRule.deadline; clones_freely = g.P.Credential.SigningCredential.clones_freely; meanings = meanings_of g.P.ProvideCredential g.S.SignRequest; objects = c.args.objects.now; begun = c.args.sign.begun; now = c.args.now } in
+    let d : PollContext g.row.P.Denot g.row.S.Denot g.row.P-Credential.Denot g.row.P-Ctx.Denot g.row.P-Load.Denot g.row.S-Work.Denot = record { policy = policy_of g.P.Credential.SigningCredential.valid g.P.Credential.SigningCredential.valid_at g.S.DeadlineRule.deadline; clones_freely = g.P.Credential.SigningCredential.clones_freely; meanings = meanings_of g.P.ProvideCredential g.S.SignRequest; objects = c.args.objects.now; begun = c.args.sign.begun; now = c.args.now } in
     let start : PollStart g.row.P-Credential.Denot g.row.S.Denot g.row.P-Load.Denot g.row.S-Work.Denot = record { state = c.args.sign.state; desk = c.args.desk.now; request = c.args.req.now } in
-    underway-start d start c.requires.made
+    invariant-start d start c.requires.issued
 
-pub step-taken-requires-clause-made : goal.step-taken-requires-clause-made
-step-taken-requires-clause-made g c =
-    let d : Driving g.row.P.Denot g.row.S.Denot g.row.P-Credential.Denot g.row.P-Ctx.Denot g.row.P-Load.Denot g.row.S-Work.Denot = record { policy = policy_of g.P.Credential.SigningCredential.valid g.P.Credential.SigningCredential.valid_at g.S.DeadlineRule.deadline; clones_freely = g.P.Credential.SigningCredential.clones_freely; meanings = meanings_of g.P.ProvideCredential g.S.SignRequest; objects = c.args.objects.now; begun = c.args.sign.begun; now = c.args.now } in
+pub step-taken-requires-clause-issued : goal.step-taken-requires-clause-issued
+step-taken-requires-clause-issued g c =
+    let d : PollContext g.row.P.Denot g.row.S.Denot g.row.P-Credential.Denot g.row.P-Ctx.Denot g.row.P-Load.Denot g.row.S-Work.Denot = record { policy = policy_of g.P.Credential.SigningCredential.valid g.P.Credential.SigningCredential.valid_at g.S.DeadlineRule.deadline; clones_freely = g.P.Credential.SigningCredential.clones_freely; meanings = meanings_of g.P.ProvideCredential g.S.SignRequest; objects = c.args.objects.now; begun = c.args.sign.begun; now = c.args.now } in
     let start : PollStart g.row.P-Credential.Denot g.row.S.Denot g.row.P-Load.Denot g.row.S-Work.Denot = record { state = c.args.sign.state; desk = c.args.desk.now; request = c.args.req.now } in
     let place : PollPlace g.row.P-Credential.Denot g.row.S.Denot g.row.P-Load.Denot g.row.S-Work.Denot = record { state = c.loop-next.state; desk = c.loop-next.desk; wake = c.loop-next.wake } in
-    made-here d start place c.loop-next.req c.loop-next.invariant c.requires.there
+    issued-here d start place c.loop-next.req c.loop-next.invariant c.requires.there
 
 pub loop-next-smaller : goal.loop-next-smaller
 loop-next-smaller g c =
-    let d : Driving g.row.P.Denot g.row.S.Denot g.row.P-Credential.Denot g.row.P-Ctx.Denot g.row.P-Load.Denot g.row.S-Work.Denot = record { policy = policy_of g.P.Credential.SigningCredential.valid g.P.Credential.SigningCredential.valid_at g.S.DeadlineRule.deadline; clones_freely = g.P.Credential.SigningCredential.clones_freely; meanings = meanings_of g.P.ProvideCredential g.S.SignRequest; objects = c.args.objects.now; begun = c.args.sign.begun; now = c.args.now } in
+    let d : PollContext g.row.P.Denot g.row.S.Denot g.row.P-Credential.Denot g.row.P-Ctx.Denot g.row.P-Load.Denot g.row.S-Work.Denot = record { policy = policy_of g.P.Credential.SigningCredential.valid g.P.Credential.SigningCredential.valid_at g.S.DeadlineRule.deadline; clones_freely = g.P.Credential.SigningCredential.clones_freely; meanings = meanings_of g.P.ProvideCredential g.S.SignRequest; objects = c.args.objects.now; begun = c.args.sign.begun; now = c.args.now } in
     let start : PollStart g.row.P-Credential.Denot g.row.S.Denot g.row.P-Load.Denot g.row.S-Work.Denot = record { state = c.args.sign.state; desk = c.args.desk.now; request = c.args.req.now } in
     let place : PollPlace g.row.P-Credential.Denot g.row.S.Denot g.row.P-Load.Denot g.row.S-Work.Denot = record { state = c.loop-next.state; desk = c.loop-next.desk; wake = c.loop-next.wake } in
     subst (λ s. steps_left (loader_for c.args.objects.now.providers.now) s < steps_left (loader_for c.args.objects.now.providers.now) c.loop-next.state) (sym c.in-On.next-is)
-    (underway-fewer d start place c.loop-next.req c.loop-next.invariant c.requires.there c.step-taken.new.desk c.step-taken.new.req c.requires.loads c.step-taken.result c.in-On.next c.in-On.is c.step-taken.ensures)
+    (invariant-fewer d start place c.loop-next.req c.loop-next.invariant c.requires.there c.step-taken.new.desk c.step-taken.new.req c.requires.loads c.step-taken.result c.in-On.next c.in-On.is c.step-taken.ensures)
 
 pub loop-next-preserved : goal.loop-next-preserved
 loop-next-preserved g c =
-    let d : Driving g.row.P.Denot g.row.S.Denot g.row.P-Credential.Denot g.row.P-Ctx.Denot g.row.P-Load.Denot g.row.S-Work.Denot = record { policy = policy_of g.P.Credential.SigningCredential.valid g.P.Credential.SigningCredential.valid_at g.S.DeadlineRule.deadline; clones_freely = g.P.Credential.SigningCredential.clones_freely; meanings = meanings_of g.P.ProvideCredential g.S.SignRequest; objects = c.args.objects.now; begun = c.args.sign.begun; now = c.args.now } in
+    let d : PollContext g.row.P.Denot g.row.S.Denot g.row.P-Credential.Denot g.row.P-Ctx.Denot g.row.P-Load.Denot g.row.S-Work.Denot = record { policy = policy_of g.P.Credential.SigningCredential.valid g.P.Credential.SigningCredential.valid_at g.S.DeadlineRule.deadline; clones_freely = g.P.Credential.SigningCredential.clones_freely; meanings = meanings_of g.P.ProvideCredential g.S.SignRequest; objects = c.args.objects.now; begun = c.args.sign.begun; now = c.args.now } in
     let start : PollStart g.row.P-Credential.Denot g.row.S.Denot g.row.P-Load.Denot g.row.S-Work.Denot = record { state = c.args.sign.state; desk = c.args.desk.now; request = c.args.req.now } in
     let place : PollPlace g.row.P-Credential.Denot g.row.S.Denot g.row.P-Load.Denot g.row.S-Work.Denot = record { state = c.loop-next.state; desk = c.loop-next.desk; wake = c.loop-next.wake } in
-    subst (λ n. Underway d start (record { state = n; desk = c.step-taken.new.desk; wake = c.or-wake.result }) c.step-taken.new.req) (sym c.in-On.next-is)
-    (subst (λ w. Underway d start (record { state = c.in-On.next; desk = c.step-taken.new.desk; wake = w }) c.step-taken.new.req) (sym c.or-wake.ensures)
-    (underway-on d start place c.loop-next.req c.loop-next.invariant c.requires.there c.step-taken.new.desk c.step-taken.new.req c.step-taken.result c.in-On.next c.in-On.is c.step-taken.ensures))
+    subst (λ n. PollInvariant d start (record { state = n; desk = c.step-taken.new.desk; wake = c.or-wake.result }) c.step-taken.new.req) (sym c.in-On.next-is)
+    (subst (λ w. PollInvariant d start (record { state = c.in-On.next; desk = c.step-taken.new.desk; wake = w }) c.step-taken.new.req) (sym c.or-wake.ensures)
+    (invariant-on d start place c.loop-next.req c.loop-next.invariant c.requires.there c.step-taken.new.desk c.step-taken.new.req c.step-taken.result c.in-On.next c.in-On.is c.step-taken.ensures))
 
 pub returns-in-Over : goal.returns-in-Over
 returns-in-Over g c =
-    let d : Driving g.row.P.Denot g.row.S.Denot g.row.P-Credential.Denot g.row.P-Ctx.Denot g.row.P-Load.Denot g.row.S-Work.Denot = record { policy = policy_of g.P.Credential.SigningCredential.valid g.P.Credential.SigningCredential.valid_at g.S.DeadlineRule.deadline; clones_freely = g.P.Credential.SigningCredential.clones_freely; meanings = meanings_of g.P.ProvideCredential g.S.SignRequest; objects = c.args.objects.now; begun = c.args.sign.begun; now = c.args.now } in
+    let d : PollContext g.row.P.Denot g.row.S.Denot g.row.P-Credential.Denot g.row.P-Ctx.Denot g.row.P-Load.Denot g.row.S-Work.Denot = record { policy = policy_of g.P.Credential.SigningCredential.valid g.P.Credential.SigningCredential.valid_at g.S.DeadlineRule.deadline; clones_freely = g.P.Credential.SigningCredential.clones_freely; meanings = meanings_of g.P.ProvideCredential g.S.SignRequest; objects = c.args.objects.now; begun = c.args.sign.begun; now = c.args.now } in
     let start : PollStart g.row.P-Credential.Denot g.row.S.Denot g.row.P-Load.Denot g.row.S-Work.Denot = record { state = c.args.sign.state; desk = c.args.desk.now; request = c.args.req.now } in
     let place : PollPlace g.row.P-Credential.Denot g.row.S.Denot g.row.P-Load.Denot g.row.S-Work.Denot = record { state = c.loop-next.state; desk = c.loop-next.desk; wake = c.loop-next.wake } in
     subst (λ a. IsDrivenFrom d c.args.sign.state c.args.desk.now c.step-taken.new.desk (record { poll = record { answer = a; wake = c.or-wake.result }; before = c.args.req.now; after = c.step-taken.new.req })) (sym (c.answer_of.ensures ∙ ap (answer_by c.args.sign.begun) c.in-Over.end-is))
     (subst (λ w. IsDrivenFrom d c.args.sign.state c.args.desk.now c.step-taken.new.desk (record { poll = record { answer = answer_by c.args.sign.begun c.in-Over.end; wake = w }; before = c.args.req.now; after = c.step-taken.new.req })) (sym c.or-wake.ensures)
-    (underway-end d start place c.loop-next.req c.loop-next.invariant c.requires.there c.step-taken.new.desk c.step-taken.new.req c.step-taken.result c.in-Over.end c.in-Over.is c.step-taken.ensures))
+    (invariant-end d start place c.loop-next.req c.loop-next.invariant c.requires.there c.step-taken.new.desk c.step-taken.new.req c.step-taken.result c.in-Over.end c.in-Over.is c.step-taken.ensures))

@@ -1,12 +1,12 @@
 use Rattle.std.proofs.Common.{refl, sym, subst, Option, Some, None, IsSome, slice_get, option_and_then}
 use Rattle.sequential_signer.specs.Policy.{policy_of}
 use Rattle.desk_parts.specs.CallAt.{IsWaiting}
-use Rattle.signer.specs.Driving.{Driving, call_with, IsMadeFor}
-use Rattle.signer.specs.PollStep.{StepChange, IsTaken}
+use Rattle.signer.specs.PollContext.{PollContext, call_with, IsIssuedFor}
+use Rattle.signer.specs.StepOutcome.{StepChange, IsStepOutcome}
 use Rattle.signer.specs.SignerObjects.{meanings_of, service_of}
 use Rattle.signer.specs.declared.sign.SignState.TheVariants.{Waiting}
 use Rattle.signer.proofs.ObjectMeanings.{for-service}
-use Rattle.signer.proofs.StepsTaken.{poll-taken}
+use Rattle.signer.proofs.StepOutcomes.{poll-taken}
 use Rattle.signer.proofs.step_call.step.Goals as goal
 
 -- a handle with a service is there
@@ -19,22 +19,22 @@ poll_call-requires-clause-there g c = handle-there _ (slice_get c.args.desk.now.
 
 pub poll_call-requires-clause-waiting : goal.poll_call-requires-clause-waiting
 poll_call-requires-clause-waiting g c =
-    let d : Driving g.row.P.Denot g.row.S.Denot g.row.P-Credential.Denot g.row.P-Ctx.Denot g.row.P-Load.Denot g.row.S-Work.Denot = record { policy = policy_of g.P.Credential.SigningCredential.valid g.P.Credential.SigningCredential.valid_at g.S.DeadlineRule.deadline; clones_freely = g.P.Credential.SigningCredential.clones_freely; meanings = meanings_of g.P.ProvideCredential g.S.SignRequest; objects = c.args.objects.now; begun = c.args.begun.now; now = c.args.now } in
+    let d : PollContext g.row.P.Denot g.row.S.Denot g.row.P-Credential.Denot g.row.P-Ctx.Denot g.row.P-Load.Denot g.row.S-Work.Denot = record { policy = policy_of g.P.Credential.SigningCredential.valid g.P.Credential.SigningCredential.valid_at g.S.DeadlineRule.deadline; clones_freely = g.P.Credential.SigningCredential.clones_freely; meanings = meanings_of g.P.ProvideCredential g.S.SignRequest; objects = c.args.objects.now; begun = c.args.begun.now; now = c.args.now } in
     for-service (service_of c.args.desk.now c.args.begun.now.id.handle) (IsWaiting c.args.begun.now c.args.desk.now) c.requires.there
-    (λ service is. (subst (IsMadeFor d c.args.desk.now) c.in-Waiting.is c.requires.made service is).0)
+    (λ service is. (subst (IsIssuedFor d c.args.desk.now) c.in-Waiting.is c.requires.issued service is).0)
 
 pub returns-in-Waiting : goal.returns-in-Waiting
 returns-in-Waiting g c = λ service is.
-    let d : Driving g.row.P.Denot g.row.S.Denot g.row.P-Credential.Denot g.row.P-Ctx.Denot g.row.P-Load.Denot g.row.S-Work.Denot = record { policy = policy_of g.P.Credential.SigningCredential.valid g.P.Credential.SigningCredential.valid_at g.S.DeadlineRule.deadline; clones_freely = g.P.Credential.SigningCredential.clones_freely; meanings = meanings_of g.P.ProvideCredential g.S.SignRequest; objects = c.args.objects.now; begun = c.args.begun.now; now = c.args.now } in
+    let d : PollContext g.row.P.Denot g.row.S.Denot g.row.P-Credential.Denot g.row.P-Ctx.Denot g.row.P-Load.Denot g.row.S-Work.Denot = record { policy = policy_of g.P.Credential.SigningCredential.valid g.P.Credential.SigningCredential.valid_at g.S.DeadlineRule.deadline; clones_freely = g.P.Credential.SigningCredential.clones_freely; meanings = meanings_of g.P.ProvideCredential g.S.SignRequest; objects = c.args.objects.now; begun = c.args.begun.now; now = c.args.now } in
     let change : StepChange g.row.P-Credential.Denot g.row.S.Denot = record { old = c.args.desk.now; new = c.poll_call.new.desk; before = c.args.req.now; after = c.args.req.now } in
     let v = call_with d service in
-    let made = subst (IsMadeFor d c.args.desk.now) c.in-Waiting.is c.requires.made service is in
-    subst (λ s. IsTaken v s change c.after_poll.result) (sym c.in-Waiting.is)
-    (subst (IsTaken v (Waiting c.in-Waiting.candidate) change) (sym c.after_poll.ensures)
-    (poll-taken v change c.in-Waiting.candidate made.1 c.poll_call.result made.0 refl c.poll_call.ensures.step c.poll_call.ensures.memory c.poll_call.ensures.after c.poll_call.ensures.others))
+    let issued = subst (IsIssuedFor d c.args.desk.now) c.in-Waiting.is c.requires.issued service is in
+    subst (λ s. IsStepOutcome v s change c.after_poll.result) (sym c.in-Waiting.is)
+    (subst (IsStepOutcome v (Waiting c.in-Waiting.candidate) change) (sym c.after_poll.ensures)
+    (poll-taken v change c.in-Waiting.candidate issued.1 c.poll_call.result issued.0 refl c.poll_call.ensures.step c.poll_call.ensures.memory c.poll_call.ensures.after c.poll_call.ensures.others))
 
 pub returns-in-Loading : goal.returns-in-Loading
 returns-in-Loading g c = λ service is.
-    let d : Driving g.row.P.Denot g.row.S.Denot g.row.P-Credential.Denot g.row.P-Ctx.Denot g.row.P-Load.Denot g.row.S-Work.Denot = record { policy = policy_of g.P.Credential.SigningCredential.valid g.P.Credential.SigningCredential.valid_at g.S.DeadlineRule.deadline; clones_freely = g.P.Credential.SigningCredential.clones_freely; meanings = meanings_of g.P.ProvideCredential g.S.SignRequest; objects = c.args.objects.now; begun = c.args.begun.now; now = c.args.now } in
+    let d : PollContext g.row.P.Denot g.row.S.Denot g.row.P-Credential.Denot g.row.P-Ctx.Denot g.row.P-Load.Denot g.row.S-Work.Denot = record { policy = policy_of g.P.Credential.SigningCredential.valid g.P.Credential.SigningCredential.valid_at g.S.DeadlineRule.deadline; clones_freely = g.P.Credential.SigningCredential.clones_freely; meanings = meanings_of g.P.ProvideCredential g.S.SignRequest; objects = c.args.objects.now; begun = c.args.begun.now; now = c.args.now } in
     let change : StepChange g.row.P-Credential.Denot g.row.S.Denot = record { old = c.args.desk.now; new = c.step_loading.new.desk; before = c.args.req.now; after = c.args.req.now } in
-    subst (λ s. IsTaken (call_with d service) s change c.step_loading.result) (sym c.in-Loading.is) (c.step_loading.ensures c.args.req.now service is)
+    subst (λ s. IsStepOutcome (call_with d service) s change c.step_loading.result) (sym c.in-Loading.is) (c.step_loading.ensures c.args.req.now service is)

@@ -1,49 +1,49 @@
 use Rattle.std.proofs.Common.{◌≡◌, refl, sym, subst, ap, ◌∙◌, Some, Option}
 use Rattle.std.specs.Option.{option_copied}
 use Rattle.sequential_signer.specs.Policy.{policy_of}
-use Rattle.signer.specs.Driving.{Driving, call_with}
+use Rattle.signer.specs.PollContext.{PollContext, call_with}
 use Rattle.signer.specs.ObjectAnswer.{IsWorkAnswer}
 use Rattle.signer.specs.ObjectPoll.{service_meaning}
-use Rattle.signer.specs.PollStep.{StepChange, IsTaken}
+use Rattle.signer.specs.StepOutcome.{StepChange, IsStepOutcome}
 use Rattle.signer.specs.SignerObjects.{meanings_of, service_of}
 use Rattle.signer.specs.declared.sign.SignState.TheVariants.{Signing}
-use Rattle.signer.proofs.StepsTaken.{work-pending, work-without-memory, rejected-taken, fails-now}
+use Rattle.signer.proofs.StepOutcomes.{work-pending, work-without-memory, rejected-taken, fails-now}
 use Rattle.signer.proofs.step_call.step_signing.Goals as goal
 
 pub returns-in-Pending : goal.returns-in-Pending
 returns-in-Pending g c = λ service is.
-    let d : Driving g.row.P.Denot g.row.S.Denot g.row.P-Credential.Denot g.row.P-Ctx.Denot g.row.P-Load.Denot g.row.S-Work.Denot = record { policy = policy_of g.P.Credential.SigningCredential.valid g.P.Credential.SigningCredential.valid_at g.S.DeadlineRule.deadline; clones_freely = g.P.Credential.SigningCredential.clones_freely; meanings = meanings_of g.P.ProvideCredential g.S.SignRequest; objects = c.args.objects.now; begun = c.args.begun.now; now = c.args.now } in
+    let d : PollContext g.row.P.Denot g.row.S.Denot g.row.P-Credential.Denot g.row.P-Ctx.Denot g.row.P-Load.Denot g.row.S-Work.Denot = record { policy = policy_of g.P.Credential.SigningCredential.valid g.P.Credential.SigningCredential.valid_at g.S.DeadlineRule.deadline; clones_freely = g.P.Credential.SigningCredential.clones_freely; meanings = meanings_of g.P.ProvideCredential g.S.SignRequest; objects = c.args.objects.now; begun = c.args.begun.now; now = c.args.now } in
     let change : StepChange g.row.P-Credential.Denot g.row.S.Denot = record { old = c.args.desk.now; new = c.args.desk.now; before = c.args.req.now; after = c.args.req.now } in
     let v = call_with d service in
     let there : service_of c.args.desk.now c.args.begun.now.id.handle ≡ Some c.unwrap-service.result.now = sym c.rule_of.ensures ∙ ap option_copied c.unwrap-service.ensures in
     let one : c.unwrap-service.result.now ≡ service = let both : (let x : Option g.row.S.Denot = Some c.unwrap-service.result.now in x) ≡ Some service = sym there ∙ is in cc in
     let said = subst (λ s. IsWorkAnswer (service_meaning g.S.SignRequest s c.args.objects.now.ctx.now c.args.begun.now c.args.credential) c.args.work c.poll_service.result) one c.poll_service.ensures in
     let answered = subst (IsWorkAnswer (service_meaning g.S.SignRequest service c.args.objects.now.ctx.now c.args.begun.now c.args.credential) c.args.work) c.in-Pending.is said in
-    subst (IsTaken v (Signing c.args.credential c.args.work) change) (sym c.over.ensures)
-    (work-pending v change c.args.credential c.args.work c.in-Pending.work c.in-Pending.candidate refl refl (c.requires.made service is).0 answered.0 answered.1 answered.2)
+    subst (IsStepOutcome v (Signing c.args.credential c.args.work) change) (sym c.over.ensures)
+    (work-pending v change c.args.credential c.args.work c.in-Pending.work c.in-Pending.candidate refl refl (c.requires.issued service is).0 answered.0 answered.1 answered.2)
 
 pub returns-in-OutOfMemory : goal.returns-in-OutOfMemory
 returns-in-OutOfMemory g c = λ service is.
-    let d : Driving g.row.P.Denot g.row.S.Denot g.row.P-Credential.Denot g.row.P-Ctx.Denot g.row.P-Load.Denot g.row.S-Work.Denot = record { policy = policy_of g.P.Credential.SigningCredential.valid g.P.Credential.SigningCredential.valid_at g.S.DeadlineRule.deadline; clones_freely = g.P.Credential.SigningCredential.clones_freely; meanings = meanings_of g.P.ProvideCredential g.S.SignRequest; objects = c.args.objects.now; begun = c.args.begun.now; now = c.args.now } in
+    let d : PollContext g.row.P.Denot g.row.S.Denot g.row.P-Credential.Denot g.row.P-Ctx.Denot g.row.P-Load.Denot g.row.S-Work.Denot = record { policy = policy_of g.P.Credential.SigningCredential.valid g.P.Credential.SigningCredential.valid_at g.S.DeadlineRule.deadline; clones_freely = g.P.Credential.SigningCredential.clones_freely; meanings = meanings_of g.P.ProvideCredential g.S.SignRequest; objects = c.args.objects.now; begun = c.args.begun.now; now = c.args.now } in
     let change : StepChange g.row.P-Credential.Denot g.row.S.Denot = record { old = c.args.desk.now; new = c.args.desk.now; before = c.args.req.now; after = c.args.req.now } in
     let v = call_with d service in
     let there : service_of c.args.desk.now c.args.begun.now.id.handle ≡ Some c.unwrap-service.result.now = sym c.rule_of.ensures ∙ ap option_copied c.unwrap-service.ensures in
     let one : c.unwrap-service.result.now ≡ service = let both : (let x : Option g.row.S.Denot = Some c.unwrap-service.result.now in x) ≡ Some service = sym there ∙ is in cc in
     let said = subst (λ s. IsWorkAnswer (service_meaning g.S.SignRequest s c.args.objects.now.ctx.now c.args.begun.now c.args.credential) c.args.work c.poll_service.result) one c.poll_service.ensures in
     let answered = subst (IsWorkAnswer (service_meaning g.S.SignRequest service c.args.objects.now.ctx.now c.args.begun.now c.args.credential) c.args.work) c.in-OutOfMemory.is said in
-    subst (IsTaken v (Signing c.args.credential c.args.work) change) (sym c.over-in-OutOfMemory.ensures)
-    (work-without-memory v change c.args.credential c.args.work c.in-OutOfMemory.work refl refl (c.requires.made service is).0 answered.0 answered.1)
+    subst (IsStepOutcome v (Signing c.args.credential c.args.work) change) (sym c.over-in-OutOfMemory.ensures)
+    (work-without-memory v change c.args.credential c.args.work c.in-OutOfMemory.work refl refl (c.requires.issued service is).0 answered.0 answered.1)
 
 pub returns-in-Failed : goal.returns-in-Failed
 returns-in-Failed g c = λ service is.
-    let d : Driving g.row.P.Denot g.row.S.Denot g.row.P-Credential.Denot g.row.P-Ctx.Denot g.row.P-Load.Denot g.row.S-Work.Denot = record { policy = policy_of g.P.Credential.SigningCredential.valid g.P.Credential.SigningCredential.valid_at g.S.DeadlineRule.deadline; clones_freely = g.P.Credential.SigningCredential.clones_freely; meanings = meanings_of g.P.ProvideCredential g.S.SignRequest; objects = c.args.objects.now; begun = c.args.begun.now; now = c.args.now } in
+    let d : PollContext g.row.P.Denot g.row.S.Denot g.row.P-Credential.Denot g.row.P-Ctx.Denot g.row.P-Load.Denot g.row.S-Work.Denot = record { policy = policy_of g.P.Credential.SigningCredential.valid g.P.Credential.SigningCredential.valid_at g.S.DeadlineRule.deadline; clones_freely = g.P.Credential.SigningCredential.clones_freely; meanings = meanings_of g.P.ProvideCredential g.S.SignRequest; objects = c.args.objects.now; begun = c.args.begun.now; now = c.args.now } in
     let change : StepChange g.row.P-Credential.Denot g.row.S.Denot = record { old = c.args.desk.now; new = c.give_rejected.new.desk; before = c.args.req.now; after = c.args.req.now } in
     let v = call_with d service in
     let there : service_of c.args.desk.now c.args.begun.now.id.handle ≡ Some c.unwrap-service.result.now = sym c.rule_of.ensures ∙ ap option_copied c.unwrap-service.ensures in
     let one : c.unwrap-service.result.now ≡ service = let both : (let x : Option g.row.S.Denot = Some c.unwrap-service.result.now in x) ≡ Some service = sym there ∙ is in cc in
     let said = subst (λ s. IsWorkAnswer (service_meaning g.S.SignRequest s c.args.objects.now.ctx.now c.args.begun.now c.args.credential) c.args.work c.poll_service.result) one c.poll_service.ensures in
     let answered = subst (IsWorkAnswer (service_meaning g.S.SignRequest service c.args.objects.now.ctx.now c.args.begun.now c.args.credential) c.args.work) c.in-Failed.is said in
-    subst (IsTaken v (Signing c.args.credential c.args.work) change) (sym c.refused.ensures)
+    subst (IsStepOutcome v (Signing c.args.credential c.args.work) change) (sym c.refused.ensures)
     (rejected-taken v change c.args.credential c.args.work 0 c.in-Failed.e refl (fails-now (v.meaning.work_gives c.args.credential) c.args.work c.in-Failed.e answered.0 answered.1) c.give_rejected.ensures.step c.give_rejected.ensures.others)
 
 pub returns-in-Signed : goal.returns-in-Signed

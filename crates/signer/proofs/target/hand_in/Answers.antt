@@ -8,7 +8,7 @@ use Rattle.sequential_signer.specs.declared.event.Verdict.TheVariants.{Accepted}
 use Rattle.sign_desk.specs.DeskState.{DeskState}
 use Rattle.sign_desk.specs.Records.{BegunCall}
 use Rattle.sign_desk.specs.Steps.{IsStep}
-use Rattle.signer.specs.CallStep.{AfterAccepted}
+use Rattle.signer.specs.DeskReplies.{AfterAccepted}
 use Rattle.signer.proofs.target.hand_in.Goals as goal
 
 -- a head that is not taken met out of memory

@@ -3,14 +3,14 @@ use Rattle.sequential_signer.specs.Policy.{policy_of}
 use Rattle.desk_parts.specs.CallAt.{loader_of}
 use Rattle.desk_parts.specs.ProviderList.{loader_for}
 use Rattle.granter.specs.Course.{polled_call, IsDriven, IsGrantPoll}
-use Rattle.granter.specs.GranterCalls.{IsAnswerMadeBy}
+use Rattle.granter.specs.GranterCalls.{IsAnswerIssuedBy}
 use Rattle.granter.specs.GranterInvariant.{GranterState, IsGranter, is_above_all}
 use Rattle.granter.specs.GranterObjects.{Objects, call_meaning, meanings_of, objects_of}
-use Rattle.granter.specs.MadeBy.{IsStateMade, IsGrantMadeBy}
+use Rattle.granter.specs.IssuedBy.{IsStateIssued, IsGrantIssuedBy}
 use Rattle.granter.proofs.GranterObjectsAt.{has-objects, loads-by, serves-by, for-objects, index-is, cache-is}
-use Rattle.granter.proofs.GranterOthers.{keeps-others, answer-made}
+use Rattle.granter.proofs.GranterOthers.{keeps-others, answer-issued}
 use Rattle.granter.proofs.GranterSetup.{granter-desk}
-use Rattle.granter.proofs.PollSteps.{course-represents}
+use Rattle.granter.proofs.CourseOfSteps.{course-represents}
 use Rattle.granter.proofs.granter.Granter.poll.Goals as goal
 
 pub drive-requires-clause-loads : goal.drive-requires-clause-loads
@@ -18,9 +18,9 @@ drive-requires-clause-loads g c =
     let m = meanings_of g.P.ProvideCredential g.G.GrantCredential in
     let handle = c.args.grant.begun.id.handle in
     let s : GranterState g.row.P.Denot g.row.G.Denot g.row.P-Credential.Denot g.row.P-Ctx.Denot = record { desk = c.self.inside.desk; providers = c.self.inside.providers.items; provider_places = c.self.inside.provider_places.items; contexts = c.self.inside.contexts.items; context_places = c.self.inside.context_places.items; begun = c.self.inside.begun } in
-    for-objects (objects_of s handle) (λ o. IsStateMade (call_meaning m c.args.grant.begun o) c.args.grant.begun s.desk c.args.grant.state)
+    for-objects (objects_of s handle) (λ o. IsStateIssued (call_meaning m c.args.grant.begun o) c.args.grant.begun s.desk c.args.grant.state)
     (loader_of c.self.inside.desk handle ≡ Some (loader_for c.index.result.now))
-    (subst (λ x. IsGrantMadeBy m x c.args.grant) (sym c.self.view_is) c.requires)
+    (subst (λ x. IsGrantIssuedBy m x c.args.grant) (sym c.self.view_is) c.requires)
     (λ o is state.
     let h = has-objects s handle o is in
     let cache : c.unwrap-cache.result ≡ h.at.cache = cache-is _ h.at c.cache_of.result c.unwrap-cache.result h.handle_is c.cache_of.ensures c.unwrap-cache.ensures in
@@ -28,14 +28,14 @@ drive-requires-clause-loads g c =
     let providers : c.index.result.now ≡ o.providers = index-is c.self.inside.providers.items c.index-provider_place.result.now h.provider_place o.providers c.index.result.now c.index.result.now h.providers_is from c.index.ensures in
     subst (λ p. loader_of c.self.inside.desk handle ≡ Some (loader_for p)) (sym providers) (loads-by s handle o h c.self.invariant.loaders))
 
-pub drive-requires-clause-made : goal.drive-requires-clause-made
-drive-requires-clause-made g c = λ service found.
+pub drive-requires-clause-issued : goal.drive-requires-clause-issued
+drive-requires-clause-issued g c = λ service found.
     let m = meanings_of g.P.ProvideCredential g.G.GrantCredential in
     let handle = c.args.grant.begun.id.handle in
     let s : GranterState g.row.P.Denot g.row.G.Denot g.row.P-Credential.Denot g.row.P-Ctx.Denot = record { desk = c.self.inside.desk; providers = c.self.inside.providers.items; provider_places = c.self.inside.provider_places.items; contexts = c.self.inside.contexts.items; context_places = c.self.inside.context_places.items; begun = c.self.inside.begun } in
-    for-objects (objects_of s handle) (λ o. IsStateMade (call_meaning m c.args.grant.begun o) c.args.grant.begun s.desk c.args.grant.state)
-    (IsStateMade (call_meaning m c.args.grant.begun (let q : Objects g.row.P.Denot g.row.G.Denot g.row.P-Ctx.Denot = record { providers = c.index.result.now; ctx = c.index-2.result.now; service = service } in q)) c.args.grant.begun c.self.inside.desk c.args.grant.state)
-    (subst (λ x. IsGrantMadeBy m x c.args.grant) (sym c.self.view_is) c.requires)
+    for-objects (objects_of s handle) (λ o. IsStateIssued (call_meaning m c.args.grant.begun o) c.args.grant.begun s.desk c.args.grant.state)
+    (IsStateIssued (call_meaning m c.args.grant.begun (let q : Objects g.row.P.Denot g.row.G.Denot g.row.P-Ctx.Denot = record { providers = c.index.result.now; ctx = c.index-2.result.now; service = service } in q)) c.args.grant.begun c.self.inside.desk c.args.grant.state)
+    (subst (λ x. IsGrantIssuedBy m x c.args.grant) (sym c.self.view_is) c.requires)
     (λ o is state.
     let h = has-objects s handle o is in
     let cache : c.unwrap-cache.result ≡ h.at.cache = cache-is _ h.at c.cache_of.result c.unwrap-cache.result h.handle_is c.cache_of.ensures c.unwrap-cache.ensures in
@@ -45,18 +45,18 @@ drive-requires-clause-made g c = λ service found.
     let ctx : c.index-2.result.now ≡ o.ctx = index-is c.self.inside.contexts.items c.index-place.result.now h.place o.ctx c.index-2.result.now c.index-2.result.now h.ctx_is place c.index-2.ensures in
     let serves : (let x : Option g.row.G.Denot = Some service in x) ≡ Some o.service = sym found ∙ serves-by s handle o h in
     let same : service ≡ o.service = cc in
-    subst (λ p. IsStateMade (call_meaning m c.args.grant.begun (let q : Objects g.row.P.Denot g.row.G.Denot g.row.P-Ctx.Denot = record { providers = p; ctx = c.index-2.result.now; service = service } in q)) c.args.grant.begun c.self.inside.desk c.args.grant.state) (sym providers)
-    (subst (λ x. IsStateMade (call_meaning m c.args.grant.begun (let q : Objects g.row.P.Denot g.row.G.Denot g.row.P-Ctx.Denot = record { providers = o.providers; ctx = x; service = service } in q)) c.args.grant.begun c.self.inside.desk c.args.grant.state) (sym ctx)
-    (subst (λ r. IsStateMade (call_meaning m c.args.grant.begun (let q : Objects g.row.P.Denot g.row.G.Denot g.row.P-Ctx.Denot = record { providers = o.providers; ctx = o.ctx; service = r } in q)) c.args.grant.begun c.self.inside.desk c.args.grant.state) (sym same) state)))
+    subst (λ p. IsStateIssued (call_meaning m c.args.grant.begun (let q : Objects g.row.P.Denot g.row.G.Denot g.row.P-Ctx.Denot = record { providers = p; ctx = c.index-2.result.now; service = service } in q)) c.args.grant.begun c.self.inside.desk c.args.grant.state) (sym providers)
+    (subst (λ x. IsStateIssued (call_meaning m c.args.grant.begun (let q : Objects g.row.P.Denot g.row.G.Denot g.row.P-Ctx.Denot = record { providers = o.providers; ctx = x; service = service } in q)) c.args.grant.begun c.self.inside.desk c.args.grant.state) (sym ctx)
+    (subst (λ r. IsStateIssued (call_meaning m c.args.grant.begun (let q : Objects g.row.P.Denot g.row.G.Denot g.row.P-Ctx.Denot = record { providers = o.providers; ctx = o.ctx; service = r } in q)) c.args.grant.begun c.self.inside.desk c.args.grant.state) (sym same) state)))
 
 pub invariant_of-self : goal.invariant_of-self
 invariant_of-self g c =
     let m = meanings_of g.P.ProvideCredential g.G.GrantCredential in
     let handle = c.args.grant.begun.id.handle in
     let s : GranterState g.row.P.Denot g.row.G.Denot g.row.P-Credential.Denot g.row.P-Ctx.Denot = record { desk = c.self.inside.desk; providers = c.self.inside.providers.items; provider_places = c.self.inside.provider_places.items; contexts = c.self.inside.contexts.items; context_places = c.self.inside.context_places.items; begun = c.self.inside.begun } in
-    for-objects (objects_of s handle) (λ o. IsStateMade (call_meaning m c.args.grant.begun o) c.args.grant.begun s.desk c.args.grant.state)
+    for-objects (objects_of s handle) (λ o. IsStateIssued (call_meaning m c.args.grant.begun o) c.args.grant.begun s.desk c.args.grant.state)
     (IsGranter (let x : GranterState g.row.P.Denot g.row.G.Denot g.row.P-Credential.Denot g.row.P-Ctx.Denot = record s { desk = c.drive.new.desk } in x))
-    (subst (λ x. IsGrantMadeBy m x c.args.grant) (sym c.self.view_is) c.requires)
+    (subst (λ x. IsGrantIssuedBy m x c.args.grant) (sym c.self.view_is) c.requires)
     (λ o is state.
     let h = has-objects s handle o is in
     let l = (c.drive.ensures o.service (serves-by s handle o h)).others in
@@ -83,14 +83,14 @@ returns-clause-poll g c = λ o is.
     } in
     subst (λ (x : GranterState g.row.P.Denot g.row.G.Denot g.row.P-Credential.Denot g.row.P-Ctx.Denot). IsGrantPoll (polled_call policy g.P.Credential.SigningCredential.clones_freely m o c.args.grant.begun c.args.now) c.args.grant.state x.desk c.drive.new.desk c.drive.result) c.self.view_is poll
 
-pub returns-clause-made : goal.returns-clause-made
-returns-clause-made g c =
+pub returns-clause-issued : goal.returns-clause-issued
+returns-clause-issued g c =
     let m = meanings_of g.P.ProvideCredential g.G.GrantCredential in
     let handle = c.args.grant.begun.id.handle in
     let s : GranterState g.row.P.Denot g.row.G.Denot g.row.P-Credential.Denot g.row.P-Ctx.Denot = record { desk = c.self.inside.desk; providers = c.self.inside.providers.items; provider_places = c.self.inside.provider_places.items; contexts = c.self.inside.contexts.items; context_places = c.self.inside.context_places.items; begun = c.self.inside.begun } in
-    for-objects (objects_of s handle) (λ o. IsStateMade (call_meaning m c.args.grant.begun o) c.args.grant.begun s.desk c.args.grant.state)
-    (IsAnswerMadeBy m (record s { desk = c.drive.new.desk }) c.args.grant.begun.id c.drive.result)
-    (subst (λ x. IsGrantMadeBy m x c.args.grant) (sym c.self.view_is) c.requires)
+    for-objects (objects_of s handle) (λ o. IsStateIssued (call_meaning m c.args.grant.begun o) c.args.grant.begun s.desk c.args.grant.state)
+    (IsAnswerIssuedBy m (record s { desk = c.drive.new.desk }) c.args.grant.begun.id c.drive.result)
+    (subst (λ x. IsGrantIssuedBy m x c.args.grant) (sym c.self.view_is) c.requires)
     (λ o is state.
     let policy = policy_of g.P.Credential.SigningCredential.valid g.P.Credential.SigningCredential.valid_at g.G.DeadlineRule.deadline in
     let h = has-objects s handle o is in
@@ -102,17 +102,17 @@ returns-clause-made g c =
     let by_ctx = subst (λ x. IsDriven (polled_call policy g.P.Credential.SigningCredential.clones_freely m (let q : Objects g.row.P.Denot g.row.G.Denot g.row.P-Ctx.Denot = record { providers = c.index.result.now; ctx = x; service = o.service } in q) c.args.grant.begun c.args.now) c.args.grant.state s.desk c.drive.new.desk c.drive.result) ctx
     (c.drive.ensures o.service (serves-by s handle o h)) in
     let by_all = subst (λ p. IsDriven (polled_call policy g.P.Credential.SigningCredential.clones_freely m (let q : Objects g.row.P.Denot g.row.G.Denot g.row.P-Ctx.Denot = record { providers = p; ctx = o.ctx; service = o.service } in q) c.args.grant.begun c.args.now) c.args.grant.state s.desk c.drive.new.desk c.drive.result) providers by_ctx in
-    answer-made m s c.drive.new.desk c.args.grant.begun o by_all.others is c.drive.result by_all.made)
+    answer-issued m s c.drive.new.desk c.args.grant.begun o by_all.others is c.drive.result by_all.issued)
 
 pub returns-clause-others : goal.returns-clause-others
-returns-clause-others g c = λ other apart made.
+returns-clause-others g c = λ other apart issued.
     let m = meanings_of g.P.ProvideCredential g.G.GrantCredential in
     let handle = c.args.grant.begun.id.handle in
     let s : GranterState g.row.P.Denot g.row.G.Denot g.row.P-Credential.Denot g.row.P-Ctx.Denot = record { desk = c.self.inside.desk; providers = c.self.inside.providers.items; provider_places = c.self.inside.provider_places.items; contexts = c.self.inside.contexts.items; context_places = c.self.inside.context_places.items; begun = c.self.inside.begun } in
-    for-objects (objects_of s handle) (λ o. IsStateMade (call_meaning m c.args.grant.begun o) c.args.grant.begun s.desk c.args.grant.state)
-    (IsGrantMadeBy m (record s { desk = c.drive.new.desk }) other)
-    (subst (λ x. IsGrantMadeBy m x c.args.grant) (sym c.self.view_is) c.requires)
+    for-objects (objects_of s handle) (λ o. IsStateIssued (call_meaning m c.args.grant.begun o) c.args.grant.begun s.desk c.args.grant.state)
+    (IsGrantIssuedBy m (record s { desk = c.drive.new.desk }) other)
+    (subst (λ x. IsGrantIssuedBy m x c.args.grant) (sym c.self.view_is) c.requires)
     (λ o is state.
     let h = has-objects s handle o is in
     let l = (c.drive.ensures o.service (serves-by s handle o h)).others in
-    keeps-others m c.args.grant.begun.id s c.drive.new.desk l other apart (subst (λ x. IsGrantMadeBy m x other) (sym c.self.view_is) made))
+    keeps-others m c.args.grant.begun.id s c.drive.new.desk l other apart (subst (λ x. IsGrantIssuedBy m x other) (sym c.self.view_is) issued))

@@ -2,13 +2,13 @@ use Rattle.std.proofs.Common.{◌≡◌, Option, Some, refl, sym, ◌∙◌, ap,
 use Rattle.sequential_signer.specs.Policy.{policy_of}
 use Rattle.desk_parts.specs.CallAt.{loader_of}
 use Rattle.signer.specs.Course.{PollOutcome, polled_call, IsDriven, IsPoll}
-use Rattle.signer.specs.MadeBy.{IsStateMade, IsMadeBy}
+use Rattle.signer.specs.IssuedBy.{IsStateIssued, IsIssuedBy}
 use Rattle.signer.specs.SignerInvariant.{SignerState, IsSigner, is_above_all}
 use Rattle.desk_parts.specs.ProviderList.{loader_for}
 use Rattle.signer.specs.SignerObjects.{Objects, call_meaning, meanings_of, objects_of}
-use Rattle.signer.proofs.PollSteps.{course-represents}
-use Rattle.signer.specs.SignerCalls.{IsAnswerMadeBy}
-use Rattle.signer.proofs.SignerOthers.{keeps-others, answer-made}
+use Rattle.signer.proofs.CourseOfSteps.{course-represents}
+use Rattle.signer.specs.SignerCalls.{IsAnswerIssuedBy}
+use Rattle.signer.proofs.SignerOthers.{keeps-others, answer-issued}
 use Rattle.signer.proofs.SignerSetup.{signer-desk}
 use Rattle.signer.proofs.SignerObjectsAt.{has-objects, loads-by, serves-by, for-objects, index-is, cache-is}
 use Rattle.signer.proofs.signer.Signer.poll.Goals as goal
@@ -18,23 +18,23 @@ drive-requires-clause-loads g c =
     let m = meanings_of g.P.ProvideCredential g.S.SignRequest in
     let handle = c.args.sign.begun.id.handle in
     let s : SignerState g.row.P.Denot g.row.S.Denot g.row.P-Credential.Denot g.row.P-Ctx.Denot = record { desk = c.self.inside.desk; providers = c.self.inside.providers.items; contexts = c.self.inside.contexts.items; context_places = c.self.inside.context_places.items; begun = c.self.inside.begun; keys = c.self.inside.keys } in
-    for-objects (objects_of s handle) (λ o. IsStateMade (call_meaning m c.args.sign.begun o) c.args.sign.begun s.desk c.args.sign.state)
+    for-objects (objects_of s handle) (λ o. IsStateIssued (call_meaning m c.args.sign.begun o) c.args.sign.begun s.desk c.args.sign.state)
     (loader_of c.self.inside.desk handle ≡ Some (loader_for c.index.result.now))
-    (subst (λ x. IsMadeBy m x c.args.sign) (sym c.self.view_is) c.requires)
+    (subst (λ x. IsIssuedBy m x c.args.sign) (sym c.self.view_is) c.requires)
     (λ o is state.
     let h = has-objects s handle o is in
     let cache : c.unwrap-cache.result ≡ h.at.cache = cache-is _ h.at c.cache_of.result c.unwrap-cache.result h.handle_is c.cache_of.ensures c.unwrap-cache.ensures in
     let providers : c.index.result.now ≡ o.providers = index-is c.self.inside.providers.items c.unwrap-cache.result h.at.cache o.providers c.index.result.now c.index.result.now h.providers_is cache c.index.ensures in
     subst (λ p. loader_of c.self.inside.desk handle ≡ Some (loader_for p)) (sym providers) (loads-by s handle o h c.self.invariant.loaders))
 
-pub drive-requires-clause-made : goal.drive-requires-clause-made
-drive-requires-clause-made g c = λ service found.
+pub drive-requires-clause-issued : goal.drive-requires-clause-issued
+drive-requires-clause-issued g c = λ service found.
     let m = meanings_of g.P.ProvideCredential g.S.SignRequest in
     let handle = c.args.sign.begun.id.handle in
     let s : SignerState g.row.P.Denot g.row.S.Denot g.row.P-Credential.Denot g.row.P-Ctx.Denot = record { desk = c.self.inside.desk; providers = c.self.inside.providers.items; contexts = c.self.inside.contexts.items; context_places = c.self.inside.context_places.items; begun = c.self.inside.begun; keys = c.self.inside.keys } in
-    for-objects (objects_of s handle) (λ o. IsStateMade (call_meaning m c.args.sign.begun o) c.args.sign.begun s.desk c.args.sign.state)
-    (IsStateMade (call_meaning m c.args.sign.begun (let q : Objects g.row.P.Denot g.row.S.Denot g.row.P-Ctx.Denot = record { providers = c.index.result.now; ctx = c.index-2.result.now; service = service } in q)) c.args.sign.begun c.self.inside.desk c.args.sign.state)
-    (subst (λ x. IsMadeBy m x c.args.sign) (sym c.self.view_is) c.requires)
+    for-objects (objects_of s handle) (λ o. IsStateIssued (call_meaning m c.args.sign.begun o) c.args.sign.begun s.desk c.args.sign.state)
+    (IsStateIssued (call_meaning m c.args.sign.begun (let q : Objects g.row.P.Denot g.row.S.Denot g.row.P-Ctx.Denot = record { providers = c.index.result.now; ctx = c.index-2.result.now; service = service } in q)) c.args.sign.begun c.self.inside.desk c.args.sign.state)
+    (subst (λ x. IsIssuedBy m x c.args.sign) (sym c.self.view_is) c.requires)
     (λ o is state.
     let h = has-objects s handle o is in
     let cache : c.unwrap-cache.result ≡ h.at.cache = cache-is _ h.at c.cache_of.result c.unwrap-cache.result h.handle_is c.cache_of.ensures c.unwrap-cache.ensures in
@@ -43,18 +43,18 @@ drive-requires-clause-made g c = λ service found.
     let ctx : c.index-2.result.now ≡ o.ctx = index-is c.self.inside.contexts.items c.index-place.result.now h.place o.ctx c.index-2.result.now c.index-2.result.now h.ctx_is place c.index-2.ensures in
     let serves : (let x : Option g.row.S.Denot = Some service in x) ≡ Some o.service = sym found ∙ serves-by s handle o h in
     let same : service ≡ o.service = cc in
-    subst (λ p. IsStateMade (call_meaning m c.args.sign.begun (let q : Objects g.row.P.Denot g.row.S.Denot g.row.P-Ctx.Denot = record { providers = p; ctx = c.index-2.result.now; service = service } in q)) c.args.sign.begun c.self.inside.desk c.args.sign.state) (sym providers)
-    (subst (λ x. IsStateMade (call_meaning m c.args.sign.begun (let q : Objects g.row.P.Denot g.row.S.Denot g.row.P-Ctx.Denot = record { providers = o.providers; ctx = x; service = service } in q)) c.args.sign.begun c.self.inside.desk c.args.sign.state) (sym ctx)
-    (subst (λ r. IsStateMade (call_meaning m c.args.sign.begun (let q : Objects g.row.P.Denot g.row.S.Denot g.row.P-Ctx.Denot = record { providers = o.providers; ctx = o.ctx; service = r } in q)) c.args.sign.begun c.self.inside.desk c.args.sign.state) (sym same) state)))
+    subst (λ p. IsStateIssued (call_meaning m c.args.sign.begun (let q : Objects g.row.P.Denot g.row.S.Denot g.row.P-Ctx.Denot = record { providers = p; ctx = c.index-2.result.now; service = service } in q)) c.args.sign.begun c.self.inside.desk c.args.sign.state) (sym providers)
+    (subst (λ x. IsStateIssued (call_meaning m c.args.sign.begun (let q : Objects g.row.P.Denot g.row.S.Denot g.row.P-Ctx.Denot = record { providers = o.providers; ctx = x; service = service } in q)) c.args.sign.begun c.self.inside.desk c.args.sign.state) (sym ctx)
+    (subst (λ r. IsStateIssued (call_meaning m c.args.sign.begun (let q : Objects g.row.P.Denot g.row.S.Denot g.row.P-Ctx.Denot = record { providers = o.providers; ctx = o.ctx; service = r } in q)) c.args.sign.begun c.self.inside.desk c.args.sign.state) (sym same) state)))
 
 pub invariant_of-self : goal.invariant_of-self
 invariant_of-self g c =
     let m = meanings_of g.P.ProvideCredential g.S.SignRequest in
     let handle = c.args.sign.begun.id.handle in
     let s : SignerState g.row.P.Denot g.row.S.Denot g.row.P-Credential.Denot g.row.P-Ctx.Denot = record { desk = c.self.inside.desk; providers = c.self.inside.providers.items; contexts = c.self.inside.contexts.items; context_places = c.self.inside.context_places.items; begun = c.self.inside.begun; keys = c.self.inside.keys } in
-    for-objects (objects_of s handle) (λ o. IsStateMade (call_meaning m c.args.sign.begun o) c.args.sign.begun s.desk c.args.sign.state)
+    for-objects (objects_of s handle) (λ o. IsStateIssued (call_meaning m c.args.sign.begun o) c.args.sign.begun s.desk c.args.sign.state)
     (IsSigner (let x : SignerState g.row.P.Denot g.row.S.Denot g.row.P-Credential.Denot g.row.P-Ctx.Denot = record s { desk = c.drive.new.desk } in x))
-    (subst (λ x. IsMadeBy m x c.args.sign) (sym c.self.view_is) c.requires)
+    (subst (λ x. IsIssuedBy m x c.args.sign) (sym c.self.view_is) c.requires)
     (λ o is state.
     let h = has-objects s handle o is in
     let l = (c.drive.ensures o.service (serves-by s handle o h)).others in
@@ -81,14 +81,14 @@ returns-clause-poll g c = λ o is.
     } in
     subst (λ (x : SignerState g.row.P.Denot g.row.S.Denot g.row.P-Credential.Denot g.row.P-Ctx.Denot). IsPoll (polled_call policy g.P.Credential.SigningCredential.clones_freely m o c.args.sign.begun c.args.now) c.args.sign.state x.desk c.drive.new.desk outcome) c.self.view_is poll
 
-pub returns-clause-made : goal.returns-clause-made
-returns-clause-made g c =
+pub returns-clause-issued : goal.returns-clause-issued
+returns-clause-issued g c =
     let m = meanings_of g.P.ProvideCredential g.S.SignRequest in
     let handle = c.args.sign.begun.id.handle in
     let s : SignerState g.row.P.Denot g.row.S.Denot g.row.P-Credential.Denot g.row.P-Ctx.Denot = record { desk = c.self.inside.desk; providers = c.self.inside.providers.items; contexts = c.self.inside.contexts.items; context_places = c.self.inside.context_places.items; begun = c.self.inside.begun; keys = c.self.inside.keys } in
-    for-objects (objects_of s handle) (λ o. IsStateMade (call_meaning m c.args.sign.begun o) c.args.sign.begun s.desk c.args.sign.state)
-    (IsAnswerMadeBy m (record s { desk = c.drive.new.desk }) c.args.sign.begun.id c.drive.result.answer)
-    (subst (λ x. IsMadeBy m x c.args.sign) (sym c.self.view_is) c.requires)
+    for-objects (objects_of s handle) (λ o. IsStateIssued (call_meaning m c.args.sign.begun o) c.args.sign.begun s.desk c.args.sign.state)
+    (IsAnswerIssuedBy m (record s { desk = c.drive.new.desk }) c.args.sign.begun.id c.drive.result.answer)
+    (subst (λ x. IsIssuedBy m x c.args.sign) (sym c.self.view_is) c.requires)
     (λ o is state.
     let policy = policy_of g.P.Credential.SigningCredential.valid g.P.Credential.SigningCredential.valid_at g.S.DeadlineRule.deadline in
     let h = has-objects s handle o is in
@@ -100,17 +100,17 @@ returns-clause-made g c =
     let by_ctx = subst (λ x. IsDriven (polled_call policy g.P.Credential.SigningCredential.clones_freely m (let q : Objects g.row.P.Denot g.row.S.Denot g.row.P-Ctx.Denot = record { providers = c.index.result.now; ctx = x; service = o.service } in q) c.args.sign.begun c.args.now) c.args.sign.state s.desk c.drive.new.desk outcome) ctx
     (c.drive.ensures o.service (serves-by s handle o h)) in
     let by_all = subst (λ p. IsDriven (polled_call policy g.P.Credential.SigningCredential.clones_freely m (let q : Objects g.row.P.Denot g.row.S.Denot g.row.P-Ctx.Denot = record { providers = p; ctx = o.ctx; service = o.service } in q) c.args.sign.begun c.args.now) c.args.sign.state s.desk c.drive.new.desk outcome) providers by_ctx in
-    answer-made m s c.drive.new.desk c.args.sign.begun o by_all.others is c.drive.result.answer by_all.made)
+    answer-issued m s c.drive.new.desk c.args.sign.begun o by_all.others is c.drive.result.answer by_all.issued)
 
 pub returns-clause-others : goal.returns-clause-others
-returns-clause-others g c = λ other apart made.
+returns-clause-others g c = λ other apart issued.
     let m = meanings_of g.P.ProvideCredential g.S.SignRequest in
     let handle = c.args.sign.begun.id.handle in
     let s : SignerState g.row.P.Denot g.row.S.Denot g.row.P-Credential.Denot g.row.P-Ctx.Denot = record { desk = c.self.inside.desk; providers = c.self.inside.providers.items; contexts = c.self.inside.contexts.items; context_places = c.self.inside.context_places.items; begun = c.self.inside.begun; keys = c.self.inside.keys } in
-    for-objects (objects_of s handle) (λ o. IsStateMade (call_meaning m c.args.sign.begun o) c.args.sign.begun s.desk c.args.sign.state)
-    (IsMadeBy m (record s { desk = c.drive.new.desk }) other)
-    (subst (λ x. IsMadeBy m x c.args.sign) (sym c.self.view_is) c.requires)
+    for-objects (objects_of s handle) (λ o. IsStateIssued (call_meaning m c.args.sign.begun o) c.args.sign.begun s.desk c.args.sign.state)
+    (IsIssuedBy m (record s { desk = c.drive.new.desk }) other)
+    (subst (λ x. IsIssuedBy m x c.args.sign) (sym c.self.view_is) c.requires)
     (λ o is state.
     let h = has-objects s handle o is in
     let l = (c.drive.ensures o.service (serves-by s handle o h)).others in
-    keeps-others m c.args.sign.begun.id s c.drive.new.desk l other apart (subst (λ x. IsMadeBy m x other) (sym c.self.view_is) made))
+    keeps-others m c.args.sign.begun.id s c.drive.new.desk l other apart (subst (λ x. IsIssuedBy m x other) (sym c.self.view_is) issued))

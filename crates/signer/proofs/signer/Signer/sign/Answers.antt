@@ -4,7 +4,7 @@ use Rattle.sign_request.specs.PlainHead.{IsHeadOf}
 use Rattle.sequential_signer.specs.Policy.{policy_of}
 use Rattle.sequential_signer.specs.declared.event.Event.TheVariants.{Begin}
 use Rattle.sequential_signer.specs.declared.event.Reply.TheVariants.{Begun}
-use Rattle.signer.specs.CallStep.{IsBegun}
+use Rattle.signer.specs.DeskReplies.{IsBegun}
 use Rattle.sign_desk.specs.Steps.{IsStep}
 use Rattle.signer.specs.SignerCalls.{Begins}
 use Rattle.signer.specs.SignerInvariant.{SignerState}

@@ -10,10 +10,10 @@ use Rattle.grant_desk.specs.GrantDeskState.{GrantState, GrantRepresents}
 use Rattle.desk_parts.specs.Memory.{ClonesAreFree}
 use Rattle.grant_desk.specs.GrantSteps.{IsGrantStep, RunsOutAtBegins}
 use Rattle.granter.specs.Course.{PollEnd, PollRun, PolledCall, IsGiven, IsCourse, stops, ends, goes_on, StopsAt, EndsBy, state_after}
-use Rattle.granter.specs.MadeBy.{IsStateMade}
-use Rattle.granter.specs.PollStep.{StepChange, IsStepEnd, IsEndMade, GoesOn, Ends}
+use Rattle.granter.specs.IssuedBy.{IsStateIssued}
+use Rattle.granter.specs.StepOutcome.{StepChange, IsStepEnd, IsEndIssued, GoesOn, Ends}
 use Rattle.granter.specs.declared.grant.CallState.{CallState}
-use Rattle.granter.specs.declared.went.StepEnd.{StepEnd}
+use Rattle.granter.specs.declared.step_outcome.StepEnd.{StepEnd}
 
 module _ {K D : Type 0} where
   pub leaves-self : (call : CallId) (desk : GrantState K D) → LeavesOthers call desk desk
@@ -29,7 +29,7 @@ module _ {K D : Type 0} where
   }
 
 module _ {K D L W : Type 0} (v : PolledCall K D L W) where
-  -- a desk that represents a transcript represents it with the events of the course behind it
+  -- a desk that represents a transcript represents it with the events of the course after it
   pub course-represents : (state : CallState K L W) (old new : GrantState K D) (run : PollRun K L W) → IsCourse v state old run new
       → (entries : List (GrantEntry K)) → GrantRepresents v.policy old entries → GrantRepresents v.policy new (entries ++ run.entries)
   course-represents state old new run (stops s desk end stop) entries stood = subst (GrantRepresents v.policy desk) (sym (append-nil entries)) stood
@@ -41,24 +41,24 @@ module _ {K D L W : Type 0} (v : PolledCall K D L W) where
 
   -- a step that makes no event
   pub ends-without : (state : CallState K L W) (desk : GrantState K D) (change : StepChange K D) (end : StepEnd K L W) (by : PollEnd K L W) → change.old ≡ desk → change.new ≡ desk
-      → StopsAt v.meaning state by → IsStepEnd end by → IsEndMade v desk end → Ends v state change end
-  ends-without state desk change end by was is stop ended made = record {
+      → StopsAt v.meaning state by → IsStepEnd end by → IsEndIssued v desk end → Ends v state change end
+  ends-without state desk change end by was is stop ended issued = record {
     run = record { entries = []; end = by };
     course = subst (λ d. IsCourse v state d (record { entries = []; end = by }) change.new) (sym was) (subst (λ d. IsCourse v state desk (record { entries = []; end = by }) d) (sym is) (stops state desk by stop));
     ended = ended;
-    made = subst (λ d. IsEndMade v d end) (sym is) made;
+    issued = subst (λ d. IsEndIssued v d end) (sym is) issued;
     others = subst (λ d. LeavesOthers v.begun.id d change.new) (sym was) (subst (λ d. LeavesOthers v.begun.id desk d) (sym is) (leaves-self v.begun.id desk));
   }
 
   -- a step whose event ends the poll
   pub ends-by : (state : CallState K L W) (change : StepChange K D) (event : GrantEvent K) (answered : GrantReply K) (end : StepEnd K L W) (by : PollEnd K L W)
       → IsGiven v state event → IsGrantStep v.policy event change.old answered change.new → (ClonesAreFree v.clones_freely → RunsOutAtBegins event answered)
-      → EndsBy v.meaning state event answered by → IsStepEnd end by → IsEndMade v change.new end → LeavesOthers v.begun.id change.old change.new → Ends v state change end
-  ends-by state change event answered end by given step memory ends_so ended made others = record {
+      → EndsBy v.meaning state event answered by → IsStepEnd end by → IsEndIssued v change.new end → LeavesOthers v.begun.id change.old change.new → Ends v state change end
+  ends-by state change event answered end by given step memory ends_so ended issued others = record {
     run = record { entries = record { event = event; reply = answered } ∷ []; end = by };
     course = ends state change.old change.new event answered by given step memory ends_so;
     ended = ended;
-    made = made;
+    issued = issued;
     others = others;
   }
 
@@ -73,14 +73,14 @@ module _ {K D L W : Type 0} (v : PolledCall K D L W) where
     pub entries : List (GrantEntry K)
     pub leads : (run : PollRun K L W) (new : GrantState K D) → IsCourse v place.state place.desk run new → IsCourse v start old (record { entries = entries ++ run.entries; end = run.end }) new
     pub others : LeavesOthers v.begun.id old place.desk
-    pub made : IsStateMade v.meaning v.begun place.desk place.state
+    pub issued : IsStateIssued v.meaning v.begun place.desk place.state
 
-  pub reached-start : (start : CallState K L W) (old : GrantState K D) → IsStateMade v.meaning v.begun old start → Reached start old (record { state = start; desk = old })
-  reached-start start old made = record {
+  pub reached-start : (start : CallState K L W) (old : GrantState K D) → IsStateIssued v.meaning v.begun old start → Reached start old (record { state = start; desk = old })
+  reached-start start old issued = record {
     entries = [];
     leads = λ run new course. course;
     others = leaves-self v.begun.id old;
-    made = made;
+    issued = issued;
   }
 
   pub reached-on : (start : CallState K L W) (old : GrantState K D) (place : PollPlace K D L W) → Reached start old place → (change : StepChange K D) → change.old ≡ place.desk
@@ -95,7 +95,7 @@ module _ {K D L W : Type 0} (v : PolledCall K D L W) where
             subst (λ l. IsCourse v start old (record { entries = l; end = run.end }) new) (sym (append_assoc r.entries (e ∷ []) run.entries))
             (r.leads (record { entries = e ∷ run.entries; end = run.end }) new (goes_on place.state next place.desk change.new new g.event g.answered run g.given step g.after course));
         others = leaves-trans r.others others;
-        made = g.made;
+        issued = g.issued;
       }
 
   -- a poll that has come to its last step
@@ -103,7 +103,7 @@ module _ {K D L W : Type 0} (v : PolledCall K D L W) where
     pub run : PollRun K L W
     pub course : IsCourse v start change.old run change.new
     pub ended : IsStepEnd end run.end
-    pub made : IsEndMade v change.new end
+    pub issued : IsEndIssued v change.new end
     pub others : LeavesOthers v.begun.id change.old change.new
 
   pub reached-end : (start : CallState K L W) (old : GrantState K D) (place : PollPlace K D L W) → Reached start old place → (change : StepChange K D) → change.old ≡ place.desk
@@ -112,6 +112,6 @@ module _ {K D L W : Type 0} (v : PolledCall K D L W) where
     run = record { entries = r.entries ++ e.run.entries; end = e.run.end };
     course = r.leads e.run change.new (subst (λ d. IsCourse v place.state d e.run change.new) from e.course);
     ended = e.ended;
-    made = e.made;
+    issued = e.issued;
     others = leaves-trans r.others (subst (λ d. LeavesOthers v.begun.id d change.new) from e.others);
   }

@@ -1,4 +1,4 @@
--- The states of calls that a signer made.
+-- The states of calls that a signer issued.
 use Rattle.std.specs.Prelude.{◌≡◌, ℕ, IsSomeAnd}
 use Rattle.sign_desk.specs.DeskState.{DeskState}
 use Rattle.desk_parts.specs.CallAt.{IsWaiting, IsAsking, IsSigning}
@@ -23,14 +23,14 @@ module _ {K L W : Type 0} (m : CallMeaning K L W) where
   abbrev pub IsWorkMade : BegunCall → K → WorkState W → Type 0
   IsWorkMade begun credential w = IsWorkKept (m.work_started credential) (m.work_gives credential) begun.head w
 
-  -- the desk has the call's record with the same state, load or work were made for the call, and the candidate is the begun head
+  -- the desk has the call's record with the same state, load or work were started for the call, and the candidate is the begun head
   -- until a service works on it
-  abbrev pub IsStateMade : {D : Type 0} → BegunCall → DeskState K D → SignState K L W → Type 0
-  IsStateMade begun desk (Waiting candidate) = IsWaiting begun desk × (candidate ≡ begun.head)
-  IsStateMade begun desk (Loading candidate provider l) = IsAsking begun provider desk × IsLoadMade provider l × (candidate ≡ begun.head)
-  IsStateMade begun desk (Signing credential w) = IsSigning begun desk × IsWorkMade begun credential w
+  abbrev pub IsStateIssued : {D : Type 0} → BegunCall → DeskState K D → SignState K L W → Type 0
+  IsStateIssued begun desk (Waiting candidate) = IsWaiting begun desk × (candidate ≡ begun.head)
+  IsStateIssued begun desk (Loading candidate provider l) = IsAsking begun provider desk × IsLoadMade provider l × (candidate ≡ begun.head)
+  IsStateIssued begun desk (Signing credential w) = IsSigning begun desk × IsWorkMade begun credential w
 
--- this signer made this state
-abbrev pub IsMadeBy : {P S K C L W : Type 0} → Meanings P S K C L W → SignerState P S K C → Sign P S K C L C W K → Type 0
-IsMadeBy m signer sign =
-    IsSomeAnd (objects_of signer sign.begun.id.handle) (λ o. IsStateMade (call_meaning m sign.begun o) sign.begun signer.desk sign.state)
+-- this signer issued this state
+abbrev pub IsIssuedBy : {P S K C L W : Type 0} → Meanings P S K C L W → SignerState P S K C → Sign P S K C L C W K → Type 0
+IsIssuedBy m signer sign =
+    IsSomeAnd (objects_of signer sign.begun.id.handle) (λ o. IsStateIssued (call_meaning m sign.begun o) sign.begun signer.desk sign.state)

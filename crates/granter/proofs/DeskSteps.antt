@@ -33,7 +33,7 @@ use Rattle.desk_parts.proofs.Views.{find_view-is}
 use Rattle.grant_desk.specs.GrantAction.{GrantAction, GrantPerforms, GrantTransition, progress_action, look_action, grant_poll_action, grant_load_action, grant_provided_action, granted_action, live_grant_action}
 use Rattle.grant_desk.specs.GrantDeskState.{GrantState, GrantRecord}
 use Rattle.grant_desk.specs.GrantPlaces.{IsGrantPlaced, GrantPrecondition}
-use Rattle.granter.specs.CallStep.{IsUnpolled, AfterPoll, AfterFound, AfterNone, AfterMade, is_of_look, is_of_check}
+use Rattle.granter.specs.DeskReplies.{IsUnpolled, AfterPoll, AfterFound, AfterNone, AfterMade, is_of_look, is_of_check}
 use Rattle.granter.specs.ObjectPoll.{BegunCall}
 
 -- a desk that differs in its caches alone
@@ -124,7 +124,7 @@ module _ (K : Type 0) where
       by_test false e = inl refl
 
 -- what a step does to the call, and that it leaves the others
-pub record CallStep {K D : Type 0} (call : CallId) (old new : GrantState K D) (After : Type 0) : Type 0 where
+pub record DeskStep {K D : Type 0} (call : CallId) (old new : GrantState K D) (After : Type 0) : Type 0 where
   pub after : After
   pub others : LeavesOthers call old new
 
@@ -189,7 +189,7 @@ module _ {K D : Type 0} (old new : GrantState K D) (reply : GrantReply K) (begun
     )
 
     looked : IsUnpolled begun old → v.answers ≡ 0 → (p : Progress K) → IsLook loader p → GrantPerforms (progress_action handed old v (Some p)) begun.id old reply new
-        → CallStep begun.id old new (AfterPoll begun reply new)
+        → DeskStep begun.id old new (AfterPoll begun reply new)
     looked found none (Asking provider) look m =
         let few : v.answers < provider_count loader = subst (λ n. n < provider_count loader) (sym none) look.1 in
         let asking : IsAsking begun v.answers new = asks stage.Unpolled 0 found m.1 few in
@@ -212,7 +212,7 @@ module _ {K D : Type 0} (old new : GrantState K D) (reply : GrantReply K) (begun
     }
 
     found-load : (provider : ℕ) → IsAsking begun provider old → (p : Progress K) → IsFoundLoad p → GrantPerforms (progress_action handed old v (Some p)) begun.id old reply new
-        → CallStep begun.id old new (AfterFound begun provider reply new)
+        → DeskStep begun.id old new (AfterFound begun provider reply new)
     found-load provider asking (Asking k) load m = absurd load
     found-load provider asking (Over (HandOut c) cache) load (inl m) = record {
       after = subst (λ r. AfterFound begun provider r new) (sym m.0) (v.answers, at (handed c) (same c) stage.Loading provider asking.0 (record v { stage = stage.Signing }) named m.1);
@@ -228,7 +228,7 @@ module _ {K D : Type 0} (old new : GrantState K D) (reply : GrantReply K) (begun
     }
 
     none-load : (provider : ℕ) → IsAsking begun provider old → (refused : Why) → v.answers ≡ provider + 1 → (o : Option (Progress K)) → is_some o ≡ true → IfSome o (IsOtherLoad loader (provider + 1) refused)
-        → GrantPerforms (progress_action handed old v o) begun.id old reply new → CallStep begun.id old new (AfterNone begun provider (grant_why refused) reply new)
+        → GrantPerforms (progress_action handed old v o) begun.id old reply new → DeskStep begun.id old new (AfterNone begun provider (grant_why refused) reply new)
     none-load provider asking refused more None s load m = absurd (cc)
     none-load provider asking refused more (Some (Asking next)) s load m =
         let few : v.answers < provider_count loader = subst (λ n. n < provider_count loader) (sym more) load.1 in
@@ -261,7 +261,7 @@ module _ {K D : Type 0} (policy : Policy K D) (old new : GrantState K D) (reply 
     looks : (s : Stage) → desk_lookup policy old now (view s 0) ≡ Some (sequential_call policy cached loader (desk_look_input (view s 0) now rule))
     looks s = rw (loads, caches, ruled) refl
 
-    by_polled : IsUnpolled begun old → GrantTransition policy (Poll begun.id now) old reply new → CallStep begun.id old new (AfterPoll begun reply new)
+    by_polled : IsUnpolled begun old → GrantTransition policy (Poll begun.id now) old reply new → DeskStep begun.id old new (AfterPoll begun reply new)
     by_polled found m =
         let v = view stage.Unpolled 0 in
         let done = at_live (λ x. grant_poll_action (look_action policy old now x) x.stage) h under stage.Unpolled 0 found m in
@@ -271,7 +271,7 @@ module _ {K D : Type 0} (policy : Policy K D) (old new : GrantState K D) (reply 
     checks : (n : ℕ) (c : K) → desk_load policy old now (view stage.Loading n) (Found c) ≡ Some (found_progress (check_refreshed policy rule (option_map as_nanos begun.expires_in) c now) None)
     checks n c = rw ruled refl
 
-    by_found : (provider : ℕ) (c : K) → IsAsking begun provider old → GrantTransition policy (Provided begun.id now (Found c)) old reply new → CallStep begun.id old new (AfterFound begun provider reply new)
+    by_found : (provider : ℕ) (c : K) → IsAsking begun provider old → GrantTransition policy (Provided begun.id now (Found c)) old reply new → DeskStep begun.id old new (AfterFound begun provider reply new)
     by_found provider c asking m =
         let v = view stage.Loading provider in
         let done = at_live (λ x. grant_provided_action (grant_load_action policy old now (Found c) x) x.stage) h under stage.Loading provider asking.0 m in
@@ -281,18 +281,18 @@ module _ {K D : Type 0} (policy : Policy K D) (old new : GrantState K D) (reply 
 
     by_none : (provider : ℕ) (refused : Why) → IsAsking begun provider old
         → GrantPerforms (progress_action (λ x. with_cached x (view stage.Loading provider) old) old (with_answer (view stage.Loading provider)) (next_load (slice_get old.loaders h.cache) (provider + 1) refused)) begun.id old reply new
-        → CallStep begun.id old new (AfterNone begun provider (grant_why refused) reply new)
+        → DeskStep begun.id old new (AfterNone begun provider (grant_why refused) reply new)
     by_none provider refused asking m =
         let v = view stage.Loading provider in
         none-load old new reply begun h under loader loads (λ x. with_cached x v old) (λ x. same-cached x v) (with_answer v) refl provider asking refused refl
         (next_load (Some loader) (provider + 1) refused) (some_load K loader (provider + 1) refused) (next-other K loader (provider + 1) refused)
         (subst (λ o. GrantPerforms (progress_action (λ x. with_cached x v old) old (with_answer v) (next_load o (provider + 1) refused)) begun.id old reply new) loads m)
 
-    by_missing : (provider : ℕ) → IsAsking begun provider old → GrantTransition policy (Provided begun.id now Missing) old reply new → CallStep begun.id old new (AfterNone begun provider cause.Missing reply new)
+    by_missing : (provider : ℕ) → IsAsking begun provider old → GrantTransition policy (Provided begun.id now Missing) old reply new → DeskStep begun.id old new (AfterNone begun provider cause.Missing reply new)
     by_missing provider asking m =
         by_none provider why.Missing asking (at_live (λ x. grant_provided_action (grant_load_action policy old now Missing x) x.stage) h under stage.Loading provider asking.0 m)
 
-    by_failed : (provider e : ℕ) → IsAsking begun provider old → GrantTransition policy (Provided begun.id now (Failed e)) old reply new → CallStep begun.id old new (AfterNone begun provider (cause.Loader e) reply new)
+    by_failed : (provider e : ℕ) → IsAsking begun provider old → GrantTransition policy (Provided begun.id now (Failed e)) old reply new → DeskStep begun.id old new (AfterNone begun provider (cause.Loader e) reply new)
     by_failed provider e asking m =
         by_none provider (why.Loader e) asking (at_live (λ x. grant_provided_action (grant_load_action policy old now (Failed e) x) x.stage) h under stage.Loading provider asking.0 m)
 
@@ -315,20 +315,20 @@ module _ {K D : Type 0} (policy : Policy K D) (old new : GrantState K D) (reply 
           at_handle h under (slice_get old.loaders h.cache) refl (place-there old.loaders h.cache p.loader) (slice_get old.caches h.cache) refl (place-there old.caches h.cache p.cached)
           (slice_get old.rules h.rule) refl (place-there old.rules h.rule p.rules)
 
-  pub after-poll : (now : ℤ) → IsUnpolled begun old → GrantTransition policy (Poll begun.id now) old reply new → CallStep begun.id old new (AfterPoll begun reply new)
-  after-poll now unpolled m = by_places stage.Unpolled 0 unpolled (CallStep begun.id old new (AfterPoll begun reply new)) (λ h under l ls c cs r rs. by_polled now h under l ls c cs r rs unpolled m)
+  pub after-poll : (now : ℤ) → IsUnpolled begun old → GrantTransition policy (Poll begun.id now) old reply new → DeskStep begun.id old new (AfterPoll begun reply new)
+  after-poll now unpolled m = by_places stage.Unpolled 0 unpolled (DeskStep begun.id old new (AfterPoll begun reply new)) (λ h under l ls c cs r rs. by_polled now h under l ls c cs r rs unpolled m)
 
-  pub after-found : (now : ℤ) (provider : ℕ) (c : K) → IsAsking begun provider old → GrantTransition policy (Provided begun.id now (Found c)) old reply new → CallStep begun.id old new (AfterFound begun provider reply new)
-  after-found now provider c asking m = by_places stage.Loading provider asking.0 (CallStep begun.id old new (AfterFound begun provider reply new)) (λ h under l ls x cs r rs. by_found now h under l ls x cs r rs provider c asking m)
+  pub after-found : (now : ℤ) (provider : ℕ) (c : K) → IsAsking begun provider old → GrantTransition policy (Provided begun.id now (Found c)) old reply new → DeskStep begun.id old new (AfterFound begun provider reply new)
+  after-found now provider c asking m = by_places stage.Loading provider asking.0 (DeskStep begun.id old new (AfterFound begun provider reply new)) (λ h under l ls x cs r rs. by_found now h under l ls x cs r rs provider c asking m)
 
-  pub after-missing : (now : ℤ) (provider : ℕ) → IsAsking begun provider old → GrantTransition policy (Provided begun.id now Missing) old reply new → CallStep begun.id old new (AfterNone begun provider cause.Missing reply new)
-  after-missing now provider asking m = by_places stage.Loading provider asking.0 (CallStep begun.id old new (AfterNone begun provider cause.Missing reply new)) (λ h under l ls x cs r rs. by_missing now h under l ls x cs r rs provider asking m)
+  pub after-missing : (now : ℤ) (provider : ℕ) → IsAsking begun provider old → GrantTransition policy (Provided begun.id now Missing) old reply new → DeskStep begun.id old new (AfterNone begun provider cause.Missing reply new)
+  after-missing now provider asking m = by_places stage.Loading provider asking.0 (DeskStep begun.id old new (AfterNone begun provider cause.Missing reply new)) (λ h under l ls x cs r rs. by_missing now h under l ls x cs r rs provider asking m)
 
-  pub after-failed : (now : ℤ) (provider e : ℕ) → IsAsking begun provider old → GrantTransition policy (Provided begun.id now (Failed e)) old reply new → CallStep begun.id old new (AfterNone begun provider (cause.Loader e) reply new)
-  after-failed now provider e asking m = by_places stage.Loading provider asking.0 (CallStep begun.id old new (AfterNone begun provider (cause.Loader e) reply new)) (λ h under l ls x cs r rs. by_failed now h under l ls x cs r rs provider e asking m)
+  pub after-failed : (now : ℤ) (provider e : ℕ) → IsAsking begun provider old → GrantTransition policy (Provided begun.id now (Failed e)) old reply new → DeskStep begun.id old new (AfterNone begun provider (cause.Loader e) reply new)
+  after-failed now provider e asking m = by_places stage.Loading provider asking.0 (DeskStep begun.id old new (AfterNone begun provider (cause.Loader e) reply new)) (λ h under l ls x cs r rs. by_failed now h under l ls x cs r rs provider e asking m)
 
   made_by : (now : ℤ) (c : K) → IsSigning begun old → (valid : Bool)
-      → GrantPerforms (cond valid (let a : GrantAction K D = Allocates (end_effect old (Given c)) in a) (Does (end_effect old (Refused (cause.Stale now))))) begun.id old reply new → CallStep begun.id old new (AfterMade begun now c reply new)
+      → GrantPerforms (cond valid (let a : GrantAction K D = Allocates (end_effect old (Given c)) in a) (Does (end_effect old (Refused (cause.Stale now))))) begun.id old reply new → DeskStep begun.id old new (AfterMade begun now c reply new)
   made_by now c granting true (inl m) = record { after = subst (λ r. AfterMade begun now c r new) (sym m.0) refl; others = leaves old new reply begun old (same-self old) None m.1 }
   made_by now c granting true (inr m) = record {
     after = subst (λ r. AfterMade begun now c r new) (sym m.0) (subst (IsSigning begun) (sym m.1) granting);
@@ -336,21 +336,21 @@ module _ {K D : Type 0} (policy : Policy K D) (old new : GrantState K D) (reply 
   }
   made_by now c granting false m = record { after = subst (λ r. AfterMade begun now c r new) (sym m.0) refl; others = leaves old new reply begun old (same-self old) None m.1 }
 
-  pub after-made : (now : ℤ) (c : K) → IsSigning begun old → GrantTransition policy (Granted begun.id now (made.Made c)) old reply new → CallStep begun.id old new (AfterMade begun now c reply new)
+  pub after-made : (now : ℤ) (c : K) → IsSigning begun old → GrantTransition policy (Granted begun.id now (made.Made c)) old reply new → DeskStep begun.id old new (AfterMade begun now c reply new)
   after-made now c granting m =
-      by_places stage.Signing granting.0 granting.1 (CallStep begun.id old new (AfterMade begun now c reply new))
+      by_places stage.Signing granting.0 granting.1 (DeskStep begun.id old new (AfterMade begun now c reply new))
       (λ h under l ls x cs r rs. made_by now c granting (policy.valid_at c now now) (at_live (λ v. granted_action policy old now (made.Made c) v.stage) h under stage.Signing granting.0 granting.1 m))
 
-  pub after-unmade : (now : ℤ) (e : ℕ) → IsSigning begun old → GrantTransition policy (Granted begun.id now (made.Failed e)) old reply new → CallStep begun.id old new (reply ≡ Refused (cause.Service e))
+  pub after-unmade : (now : ℤ) (e : ℕ) → IsSigning begun old → GrantTransition policy (Granted begun.id now (made.Failed e)) old reply new → DeskStep begun.id old new (reply ≡ Refused (cause.Service e))
   after-unmade now e granting m =
-      by_places stage.Signing granting.0 granting.1 (CallStep begun.id old new (reply ≡ Refused (cause.Service e)))
+      by_places stage.Signing granting.0 granting.1 (DeskStep begun.id old new (reply ≡ Refused (cause.Service e)))
       (λ h under l ls x cs r rs.
       let done = at_live (λ v. granted_action policy old now (made.Failed e) v.stage) h under stage.Signing granting.0 granting.1 m in
       record { after = done.0; others = leaves old new reply begun old (same-self old) None done.1 })
 
-  pub after-cancel : (s : Stage) (n : ℕ) → IsAt begun s n old → GrantTransition policy (Cancel begun.id) old reply new → CallStep begun.id old new (reply ≡ Cancelled)
+  pub after-cancel : (s : Stage) (n : ℕ) → IsAt begun s n old → GrantTransition policy (Cancel begun.id) old reply new → DeskStep begun.id old new (reply ≡ Cancelled)
   after-cancel s n found m =
-      by_places s n found (CallStep begun.id old new (reply ≡ Cancelled))
+      by_places s n found (DeskStep begun.id old new (reply ≡ Cancelled))
       (λ h under l ls x cs r rs.
       let done = at_live (λ v. Does (end_effect old Cancelled)) h under s n found m in
       record { after = done.0; others = leaves old new reply begun old (same-self old) None done.1 })

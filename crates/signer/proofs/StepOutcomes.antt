@@ -19,21 +19,21 @@ use Rattle.desk_parts.specs.Memory.{ClonesAreFree}
 use Rattle.sign_desk.specs.Memory.{RunsOutAtHeads}
 use Rattle.sign_desk.specs.Steps.{IsStep}
 use Rattle.desk_parts.specs.CallAt.{IsWaiting, IsAsking, IsSigning, LeavesOthers}
-use Rattle.signer.specs.CallStep.{AfterPoll, AfterFound, AfterNone, is_of_look, is_of_check}
+use Rattle.signer.specs.DeskReplies.{AfterPoll, AfterFound, AfterNone, is_of_look, is_of_check}
 use Rattle.desk_parts.specs.LoadAnswer.{IsLoadPending, KeepsLoad, IsLoadOpen, LoadRunsOut}
 use Rattle.signer.specs.ObjectAnswer.{IsWorkPending, KeepsWork, IsWorkOpen, WorkRunsOut}
-use Rattle.signer.specs.MadeBy.{IsLoadMade, IsWorkMade}
+use Rattle.signer.specs.IssuedBy.{IsLoadMade, IsWorkMade}
 use Rattle.signer.specs.Course.{PolledCall, Pends, Finishes, Refuses, RunsOut, IsAnswerGiven, IsVerdictGiven, IsRefusal, FailsWith}
-use Rattle.signer.specs.PollStep.{StepChange, IsTaken, Ends}
-use Rattle.signer.specs.StepReply.{plain_refusal, taken_after_poll, taken_after_found, taken_after_none}
+use Rattle.signer.specs.StepOutcome.{StepChange, IsStepOutcome, Ends}
+use Rattle.signer.specs.OutcomeByReply.{plain_refusal, outcome_after_poll, outcome_after_found, outcome_after_none}
 use Rattle.signer.specs.declared.refusal.Refusal.TheVariants as refusal
 use Rattle.desk_parts.specs.declared.load_state.LoadState.{LoadState}
 use Rattle.desk_parts.specs.declared.load_state.LoadState.TheVariants as load
 use Rattle.signer.specs.declared.sign.WorkState.{WorkState}
 use Rattle.signer.specs.declared.sign.WorkState.TheVariants as work
 use Rattle.signer.specs.declared.sign.SignState.TheVariants.{Waiting, Loading, Signing}
-use Rattle.signer.specs.declared.went.StepEnd.TheVariants as end
-use Rattle.signer.proofs.PollSteps.{ends-without, ends-by}
+use Rattle.signer.specs.declared.step_outcome.StepEnd.TheVariants as end
+use Rattle.signer.proofs.CourseOfSteps.{ends-without, ends-by}
 
 module _ {K L : Type 0} (gives : Polled (Option K) → Type 0) where
   found-given : (l : LoadState K L) (found : K) → gives (polled.Ready (Some found)) → KeepsLoad l (load.Found found) → IsAnswerGiven gives l (Found found)
@@ -82,7 +82,7 @@ module _ {K D L W : Type 0} (v : PolledCall K D L W) (change : StepChange K D) (
   refuses-look (why.Service n) h = absurd (cc)
 
   pub poll-taken : (answered : Reply K) → IsWaiting v.begun change.old → change.after ≡ change.before → IsStep v.policy (Poll v.begun.id v.now) change.old answered change.new
-      → HasCause (Poll v.begun.id v.now) answered → AfterPoll v.begun answered change.new → LeavesOthers v.begun.id change.old change.new → IsTaken v (Waiting candidate) change (taken_after_poll candidate answered)
+      → HasCause (Poll v.begun.id v.now) answered → AfterPoll v.begun answered change.new → LeavesOthers v.begun.id change.old change.new → IsStepOutcome v (Waiting candidate) change (outcome_after_poll candidate answered)
   poll-taken reply.Pending waiting same step memory after others =
       ends-by v (Waiting candidate) change (Poll v.begun.id v.now) reply.Pending None (end.Pending (Waiting candidate)) (Pends (Waiting candidate)) (refl, refl) step memory tt refl tt (refl, same) (after, copied) others
   poll-taken reply.OutOfMemory waiting same step memory after others =
@@ -96,7 +96,7 @@ module _ {K D L W : Type 0} (v : PolledCall K D L W) (change : StepChange K D) (
     named = refl;
     same = same;
     later = tt;
-    made = (after.1, tt, copied);
+    issued = (after.1, tt, copied);
     others = others;
   }
   poll-taken (reply.Sign credential wake) waiting same step memory after others = record {
@@ -108,7 +108,7 @@ module _ {K D L W : Type 0} (v : PolledCall K D L W) (change : StepChange K D) (
     named = refl;
     same = same;
     later = tt;
-    made = (after, copied);
+    issued = (after, copied);
     others = others;
   }
   poll-taken (reply.Refused cause wake) waiting same step memory after others =
@@ -130,18 +130,18 @@ module _ {K D L W : Type 0} (v : PolledCall K D L W) (change : StepChange K D) (
     pub load-pending : (started : L) → change.new ≡ change.old → IsAsking v.begun provider change.old → v.meaning.load_started provider started
         → IsLoadPending (v.meaning.load_started provider) (v.meaning.load_ready provider) l
         → Ends v (Loading candidate provider l) change None (end.Pending (Loading candidate provider (load.Started started)))
-    load-pending started still asking made pending =
-        ends-without v (Loading candidate provider l) change.old change (end.Pending (Loading candidate provider (load.Started started))) (Pends (Loading candidate provider (load.Started started))) refl still (refl, pending) (refl, same) (asking, made, copied)
+    load-pending started still asking issued pending =
+        ends-without v (Loading candidate provider l) change.old change (end.Pending (Loading candidate provider (load.Started started))) (Pends (Loading candidate provider (load.Started started))) refl still (refl, pending) (refl, same) (asking, issued, copied)
 
     pub load-without-memory : (kept : LoadState K L) → change.new ≡ change.old → IsAsking v.begun provider change.old → IsLoadMade v.meaning provider kept → LoadRunsOut (v.meaning.load_gives provider) l kept
         → Ends v (Loading candidate provider l) change None (end.OutOfMemory (Loading candidate provider kept))
-    load-without-memory kept still asking made left =
-        ends-without v (Loading candidate provider l) change.old change (end.OutOfMemory (Loading candidate provider kept)) (RunsOut (Loading candidate provider kept)) refl still (refl, left) (refl, same) (asking, made, copied)
+    load-without-memory kept still asking issued left =
+        ends-without v (Loading candidate provider l) change.old change (end.OutOfMemory (Loading candidate provider kept)) (RunsOut (Loading candidate provider kept)) refl still (refl, left) (refl, same) (asking, issued, copied)
 
     pub found-taken : (found : K) (answered : Reply K) → IsAsking v.begun provider change.old → v.meaning.load_gives provider (polled.Ready (Some found)) → KeepsLoad l (load.Found found)
         → IsStep v.policy (Provided v.begun.id v.now (Found found)) change.old answered change.new
         → HasCause (Provided v.begun.id v.now (Found found)) answered → AfterFound v.begun provider answered change.new
-        → LeavesOthers v.begun.id change.old change.new → IsTaken v (Loading candidate provider l) change (taken_after_found candidate provider found answered)
+        → LeavesOthers v.begun.id change.old change.new → IsStepOutcome v (Loading candidate provider l) change (outcome_after_found candidate provider found answered)
     found-taken found (reply.Sign credential wake) asking gives keeps step memory after others = record {
       event = Provided v.begun.id v.now (Found found);
       answered = reply.Sign credential wake;
@@ -151,7 +151,7 @@ module _ {K D L W : Type 0} (v : PolledCall K D L W) (change : StepChange K D) (
       named = refl;
       same = same;
       later = tt;
-      made = (after, copied);
+      issued = (after, copied);
       others = others;
     }
     found-taken found (reply.Refused cause wake) asking gives keeps step memory after others =
@@ -169,7 +169,7 @@ module _ {K D L W : Type 0} (v : PolledCall K D L W) (change : StepChange K D) (
 
     pub missing-taken : (answered : Reply K) → v.meaning.load_gives provider (polled.Ready None) → IsLoadOpen l
         → IsStep v.policy (Provided v.begun.id v.now Missing) change.old answered change.new → AfterNone v.begun provider why.Missing answered change.new
-        → LeavesOthers v.begun.id change.old change.new → IsTaken v (Loading candidate provider l) change (taken_after_none candidate refusal.Missing answered)
+        → LeavesOthers v.begun.id change.old change.new → IsStepOutcome v (Loading candidate provider l) change (outcome_after_none candidate refusal.Missing answered)
     missing-taken (reply.Ask next) gives unanswered step after others = record {
       event = Provided v.begun.id v.now Missing;
       answered = reply.Ask next;
@@ -179,7 +179,7 @@ module _ {K D L W : Type 0} (v : PolledCall K D L W) (change : StepChange K D) (
       named = refl;
       same = same;
       later = after.0;
-      made = (after.1, tt, copied);
+      issued = (after.1, tt, copied);
       others = others;
     }
     missing-taken (reply.Refused why.Missing wake) gives unanswered step after others =
@@ -199,7 +199,7 @@ module _ {K D L W : Type 0} (v : PolledCall K D L W) (change : StepChange K D) (
 
     pub failed-taken : (n : ℕ) (e : ErrorParts) (answered : Reply K) → v.meaning.load_gives provider (polled.Failed e) → IsLoadOpen l
         → IsStep v.policy (Provided v.begun.id v.now (Failed n)) change.old answered change.new → AfterNone v.begun provider (why.Loader n) answered change.new
-        → LeavesOthers v.begun.id change.old change.new → IsTaken v (Loading candidate provider l) change (taken_after_none candidate (refusal.Loader e) answered)
+        → LeavesOthers v.begun.id change.old change.new → IsStepOutcome v (Loading candidate provider l) change (outcome_after_none candidate (refusal.Loader e) answered)
     failed-taken n e (reply.Ask next) gives unanswered step after others = record {
       event = Provided v.begun.id v.now (Failed n);
       answered = reply.Ask next;
@@ -209,7 +209,7 @@ module _ {K D L W : Type 0} (v : PolledCall K D L W) (change : StepChange K D) (
       named = refl;
       same = same;
       later = after.0;
-      made = (after.1, tt, copied);
+      issued = (after.1, tt, copied);
       others = others;
     }
     failed-taken n e (reply.Refused why.Missing wake) gives unanswered step after others =
@@ -235,15 +235,15 @@ module _ {K D L W : Type 0} (v : PolledCall K D L W) (change : StepChange K D) w
         → v.meaning.work_started credential started → IsWorkPending (v.meaning.work_started credential) v.meaning.work_ready w
         → v.meaning.work_gives credential (record { answer = polled.Pending; candidate = candidate })
         → Ends v (Signing credential w) change None (end.Pending (Signing credential (work.Started started candidate)))
-    work-pending started candidate same still signing made pending gives =
+    work-pending started candidate same still signing issued pending gives =
         ends-without v (Signing credential w) change.old change (end.Pending (Signing credential (work.Started started candidate)))
-        (Pends (Signing credential (work.Started started candidate))) refl still (refl, pending, gives) (refl, same) (signing, (made, inr (inl gives)))
+        (Pends (Signing credential (work.Started started candidate))) refl still (refl, pending, gives) (refl, same) (signing, (issued, inr (inl gives)))
 
     pub work-without-memory : (kept : WorkState W) → change.after ≡ change.before → change.new ≡ change.old → IsSigning v.begun change.old
         → IsWorkMade v.meaning v.begun credential kept → WorkRunsOut (v.meaning.work_gives credential) w kept
         → Ends v (Signing credential w) change None (end.OutOfMemory (Signing credential kept))
-    work-without-memory kept same still signing made left =
-        ends-without v (Signing credential w) change.old change (end.OutOfMemory (Signing credential kept)) (RunsOut (Signing credential kept)) refl still (refl, inl left) (refl, same) (signing, made)
+    work-without-memory kept same still signing issued left =
+        ends-without v (Signing credential w) change.old change (end.OutOfMemory (Signing credential kept)) (RunsOut (Signing credential kept)) refl still (refl, inl left) (refl, same) (signing, issued)
 
     pub rejected-taken : (n : ℕ) (e : ErrorParts) → change.after ≡ change.before → FailsWith (v.meaning.work_gives credential) w e
         → IsStep v.policy (Signed v.begun.id (verdict.Failed n)) change.old (reply.Refused (why.Service n) None) change.new → LeavesOthers v.begun.id change.old change.new

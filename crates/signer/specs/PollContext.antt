@@ -2,17 +2,17 @@
 use Rattle.std.specs.Prelude.{◌≡◌, ℤ, Some}
 use Rattle.sequential_signer.specs.Policy.{Policy}
 use Rattle.sign_desk.specs.DeskState.{DeskState}
-use Rattle.signer.specs.MadeBy.{IsStateMade}
+use Rattle.signer.specs.IssuedBy.{IsStateIssued}
 use Rattle.signer.specs.SignerObjects.{Meanings, service_of, with_service, call_meaning}
 use Rattle.signer.specs.Course.{PolledCall, polled_call, PollOutcome, IsDriven}
-use Rattle.signer.specs.PollStep.{StepChange, IsTaken}
+use Rattle.signer.specs.StepOutcome.{StepChange, IsStepOutcome}
 use Rattle.signer.specs.declared.call_objects.CallObjects.{CallObjects}
 use Rattle.sign_desk.specs.Records.{BegunCall}
 use Rattle.signer.specs.declared.sign.SignState.{SignState}
-use Rattle.signer.specs.declared.went.StepTaken.{StepTaken}
+use Rattle.signer.specs.declared.step_outcome.StepOutcome.{StepOutcome}
 
 -- what a poll of a call works with, beside the service, which is a rule of the desk
-pub record Driving (P S K C L W : Type 0) : Type 1 where
+pub record PollContext (P S K C L W : Type 0) : Type 1 where
   pub policy : Policy K S
   pub clones_freely : K → Type 0
   pub meanings : Meanings P S K C L W
@@ -20,7 +20,7 @@ pub record Driving (P S K C L W : Type 0) : Type 1 where
   pub begun : BegunCall
   pub now : ℤ
 
-module _ {P S K C L W : Type 0} (d : Driving P S K C L W) where
+module _ {P S K C L W : Type 0} (d : PollContext P S K C L W) where
   -- the call with this service
   abbrev pub call_with : S → PolledCall K S L W
   call_with service = polled_call d.policy d.clones_freely d.meanings (with_service d.objects service) d.begun d.now
@@ -29,13 +29,13 @@ module _ {P S K C L W : Type 0} (d : Driving P S K C L W) where
   abbrev pub IsService : DeskState K S → S → Type 0
   IsService desk service = service_of desk d.begun.id.handle ≡ Some service
 
-  -- the state was made for the call
-  abbrev pub IsMadeFor : DeskState K S → SignState K L W → Type 0
-  IsMadeFor desk state = (service : S) → IsService desk service → IsStateMade (call_meaning d.meanings d.begun (with_service d.objects service)) d.begun desk state
+  -- the state was issued for the call
+  abbrev pub IsIssuedFor : DeskState K S → SignState K L W → Type 0
+  IsIssuedFor desk state = (service : S) → IsService desk service → IsStateIssued (call_meaning d.meanings d.begun (with_service d.objects service)) d.begun desk state
 
   -- the step of the call in this state
-  abbrev pub IsStepTaken : SignState K L W → StepChange K S → StepTaken K L W → Type 0
-  IsStepTaken state change taken = (service : S) → IsService change.old service → IsTaken (call_with service) state change taken
+  abbrev pub IsOutcomeWith : SignState K L W → StepChange K S → StepOutcome K L W → Type 0
+  IsOutcomeWith state change taken = (service : S) → IsService change.old service → IsStepOutcome (call_with service) state change taken
 
   -- the call in this state is driven by events of the desk, and ends by them
   abbrev pub IsDrivenFrom : SignState K L W → DeskState K S → DeskState K S → PollOutcome P S K C L W → Type 0

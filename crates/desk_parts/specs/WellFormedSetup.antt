@@ -3,7 +3,7 @@ use Rattle.std.specs.Prelude.{ℕ, ◌<◌, ◌^◌, length, slice_get, IfSome}
 use Rattle.sequential_signer.specs.Setup.{Setup}
 
 -- each handle has its cache and its rule, and places are numbers of 32 bits
-pub record IsSetUp {D : Type 0} (setup : Setup D) : Type 0 where
+pub record IsWellFormedSetup {D : Type 0} (setup : Setup D) : Type 0 where
   pub caches_few : length setup.loaders < 2 ^ 32
   pub rules_few : length setup.rules < 2 ^ 32
   pub handles_few : length setup.handles < 2 ^ 32

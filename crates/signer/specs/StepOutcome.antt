@@ -8,18 +8,18 @@ use Rattle.sign_request.specs.PlainHead.{Commits, RefusesTarget}
 use Rattle.sign_desk.specs.DeskState.{DeskState}
 use Rattle.sign_desk.specs.Steps.{IsStep}
 use Rattle.desk_parts.specs.CallAt.{LeavesOthers}
-use Rattle.signer.specs.MadeBy.{IsStateMade}
+use Rattle.signer.specs.IssuedBy.{IsStateIssued}
 use Rattle.signer.specs.Course.{PollEnd, Pends, Finishes, Refuses, RunsOut, PollRun, PolledCall, IsGiven, IsCourse, candidate_of, state_after, wake_in, wakes_in}
 use Rattle.sign_desk.specs.Records.{BegunCall}
 use Rattle.signer.specs.declared.sign.SignState.{SignState}
 use Rattle.signer.specs.declared.sign.SignState.TheVariants.{Waiting, Loading, Signing}
 use Rattle.signer.specs.declared.sign_poll.SignAnswer.{SignAnswer}
 use Rattle.signer.specs.declared.sign_poll.SignAnswer.TheVariants as answer
-use Rattle.signer.specs.declared.went.StepEnd.{StepEnd}
-use Rattle.signer.specs.declared.went.StepEnd.TheVariants.{Pending, Done, Refused, OutOfMemory}
-use Rattle.signer.specs.declared.went.Went.{Went}
-use Rattle.signer.specs.declared.went.Went.TheVariants.{On, Over}
-use Rattle.signer.specs.declared.went.StepTaken.{StepTaken}
+use Rattle.signer.specs.declared.step_outcome.StepEnd.{StepEnd}
+use Rattle.signer.specs.declared.step_outcome.StepEnd.TheVariants.{Pending, Done, Refused, OutOfMemory}
+use Rattle.signer.specs.declared.step_outcome.StepFlow.{StepFlow}
+use Rattle.signer.specs.declared.step_outcome.StepFlow.TheVariants.{On, Over}
+use Rattle.signer.specs.declared.step_outcome.StepOutcome.{StepOutcome}
 
 -- the desk and the request, before and after a step
 pub record StepChange (K D : Type 0) : Type 0 where
@@ -58,12 +58,12 @@ module _ {K L W : Type 0} where
   IsStepEnd end before after other = ⊥
 
 module _ {K D L W : Type 0} (v : PolledCall K D L W) where
-  -- a state that is kept at the end was made for the call
-  abbrev pub IsEndMade : DeskState K D → StepEnd K L W → Type 0
-  IsEndMade desk (Pending state) = IsStateMade v.meaning v.begun desk state
-  IsEndMade desk (OutOfMemory state) = IsStateMade v.meaning v.begun desk state
-  IsEndMade desk Done = Unit {0}
-  IsEndMade desk (Refused refused) = Unit {0}
+  -- a state that is kept at the end was issued for the call
+  abbrev pub IsEndIssued : DeskState K D → StepEnd K L W → Type 0
+  IsEndIssued desk (Pending state) = IsStateIssued v.meaning v.begun desk state
+  IsEndIssued desk (OutOfMemory state) = IsStateIssued v.meaning v.begun desk state
+  IsEndIssued desk Done = Unit {0}
+  IsEndIssued desk (Refused refused) = Unit {0}
 
   -- the step makes an event of the desk, by whose reply the call goes on from the next state
   pub record GoesOn (state : SignState K L W) (change : StepChange K D) (wake : Option CallId) (next : SignState K L W) : Type 0 where
@@ -75,7 +75,7 @@ module _ {K D L W : Type 0} (v : PolledCall K D L W) where
     pub named : wake ≡ wake_in answered
     pub same : change.after ≡ change.before
     pub later : ComesLater state next
-    pub made : IsStateMade v.meaning v.begun change.new next
+    pub issued : IsStateIssued v.meaning v.begun change.new next
     pub others : LeavesOthers v.begun.id change.old change.new
 
   -- the step is the last of the poll
@@ -85,14 +85,14 @@ module _ {K D L W : Type 0} (v : PolledCall K D L W) where
     pub ended : IsStepEnd end change.before change.after run.end
     pub named : wakes_in run.entries ≡ option_to_list wake
     pub quiet : NamesNobody state wake
-    pub made : IsEndMade change.new end
+    pub issued : IsEndIssued change.new end
     pub others : LeavesOthers v.begun.id change.old change.new
 
   -- what the step came to
-  abbrev pub Goes : SignState K L W → StepChange K D → Option CallId → Went K L W → Type 0
+  abbrev pub Goes : SignState K L W → StepChange K D → Option CallId → StepFlow K L W → Type 0
   Goes state change wake (On next) = GoesOn state change wake next
   Goes state change wake (Over end) = Ends state change wake end
 
   -- the step of a call in this state
-  abbrev pub IsTaken : SignState K L W → StepChange K D → StepTaken K L W → Type 0
-  IsTaken state change taken = Goes state change taken.wake taken.went
+  abbrev pub IsStepOutcome : SignState K L W → StepChange K D → StepOutcome K L W → Type 0
+  IsStepOutcome state change taken = Goes state change taken.wake taken.flow

@@ -1,10 +1,10 @@
--- The states of calls that a granter made.
+-- The states of calls that a granter issued.
 use Rattle.std.specs.Prelude.{ℕ, IsSomeAnd}
 use Rattle.desk_parts.specs.CallAt.{IsAsking, IsSigning}
 use Rattle.desk_parts.specs.LoadAnswer.{IsLoadKept}
 use Rattle.desk_parts.specs.declared.load_state.LoadState.{LoadState}
 use Rattle.grant_desk.specs.GrantDeskState.{GrantState}
-use Rattle.granter.specs.CallStep.{IsUnpolled}
+use Rattle.granter.specs.DeskReplies.{IsUnpolled}
 use Rattle.granter.specs.GranterInvariant.{GranterState}
 use Rattle.granter.specs.GranterObjects.{Meanings, CallMeaning, call_meaning, objects_of}
 use Rattle.granter.specs.ObjectAnswer.{IsWorkKept}
@@ -23,13 +23,13 @@ module _ {K L W : Type 0} (m : CallMeaning K L W) where
   abbrev pub IsWorkMade : K → WorkState K W → Type 0
   IsWorkMade source w = IsWorkKept (m.work_started source) (m.work_gives source) w
 
-  -- the desk has the call's record with the same state, and load or work were made for the call
-  abbrev pub IsStateMade : {D : Type 0} → BegunCall → GrantState K D → CallState K L W → Type 0
-  IsStateMade begun desk Waiting = IsUnpolled begun desk
-  IsStateMade begun desk (Loading provider l) = IsAsking begun provider desk × IsLoadMade provider l
-  IsStateMade begun desk (Granting source w) = IsSigning begun desk × IsWorkMade source w
+  -- the desk has the call's record with the same state, and load or work were started for the call
+  abbrev pub IsStateIssued : {D : Type 0} → BegunCall → GrantState K D → CallState K L W → Type 0
+  IsStateIssued begun desk Waiting = IsUnpolled begun desk
+  IsStateIssued begun desk (Loading provider l) = IsAsking begun provider desk × IsLoadMade provider l
+  IsStateIssued begun desk (Granting source w) = IsSigning begun desk × IsWorkMade source w
 
--- this granter made this state
-abbrev pub IsGrantMadeBy : {P G K C L W : Type 0} → Meanings P G K C L W → GranterState P G K C → Grant P G K C L C W K → Type 0
-IsGrantMadeBy m granter grant =
-    IsSomeAnd (objects_of granter grant.begun.id.handle) (λ o. IsStateMade (call_meaning m grant.begun o) grant.begun granter.desk grant.state)
+-- this granter issued this state
+abbrev pub IsGrantIssuedBy : {P G K C L W : Type 0} → Meanings P G K C L W → GranterState P G K C → Grant P G K C L C W K → Type 0
+IsGrantIssuedBy m granter grant =
+    IsSomeAnd (objects_of granter grant.begun.id.handle) (λ o. IsStateIssued (call_meaning m grant.begun o) grant.begun granter.desk grant.state)

@@ -14,7 +14,7 @@ pub(crate) enum StepEnd<K, L, W> {
 
 /// What a step came to.
 #[derive(Drop)]
-pub(crate) enum Went<K, L, W> {
+pub(crate) enum StepFlow<K, L, W> {
     /// The poll goes on from here.
     On(CallState<K, L, W>),
     Over(StepEnd<K, L, W>),

@@ -32,7 +32,7 @@ use Rattle.desk_parts.specs.HoldProgress.{desk_lookup, desk_load, next_load, des
 use Rattle.sign_desk.specs.Transition.{Transition, poll_action, first_poll_action, later_poll_action, load_action, provided_action, signed_action, accept_action, cancel_action, live_action}
 use Rattle.desk_parts.specs.HoldProgress.{with_answer}
 use Rattle.desk_parts.specs.CallAt.{record_of, IsAt, IsWaiting, IsSigning, IsAsking, HasProvider, LeavesOthers}
-use Rattle.signer.specs.CallStep.{AfterPoll, AfterFound, AfterNone, AfterAccepted, is_of_look, is_of_check}
+use Rattle.signer.specs.DeskReplies.{AfterPoll, AfterFound, AfterNone, AfterAccepted, is_of_look, is_of_check}
 use Rattle.sign_desk.specs.Records.{CallRecord}
 use Rattle.desk_parts.specs.declared.call_record.Stage.{Stage}
 use Rattle.desk_parts.specs.declared.call_record.Stage.TheVariants as stage
@@ -51,9 +51,9 @@ record SameCalls {K D : Type 0} (old base : DeskState K D) : Type 0 where
 
 -- a hold whose desks differ in their caches and queues alone
 record HoldsCalls {K D : Type 0} (old : DeskState K D) (hold : Hold K D) : Type 0 where
-  asking : SameCalls old hold.asking
-  signing : (c : K) → SameCalls old (hold.signing c)
-  over : SameCalls old hold.over
+  asking_desk : SameCalls old hold.asking_desk
+  signing_desk : (c : K) → SameCalls old (hold.signing_desk c)
+  ended_desk : SameCalls old hold.ended_desk
 
 same-self : {K D : Type 0} (old : DeskState K D) → SameCalls old old
 same-self old = record { loaders = refl; rules = refl; handles = refl; greatest = refl; calls = refl }
@@ -135,7 +135,7 @@ module _ (K : Type 0) where
       by_test false e = inl refl
 
 -- what a step does to the call, and that it leaves the others
-pub record CallStep {K D : Type 0} (call : CallId) (old new : DeskState K D) (After : Type 0) : Type 0 where
+pub record DeskStep {K D : Type 0} (call : CallId) (old new : DeskState K D) (After : Type 0) : Type 0 where
   pub after : After
   pub others : LeavesOthers call old new
 
@@ -184,18 +184,18 @@ module _ {K D : Type 0} (old new : DeskState K D) (reply : Reply K) (begun : Beg
     )
 
     poll-hold : (hold : Hold K D) → HoldsCalls old hold → (s : Stage) → IsAt begun s 0 old → IsWaiting begun old → (v : LiveCallView) → v.call ≡ begun.id → v.answers ≡ 0
-        → (p : Progress K) → IsLook loader p → Performs (hold_action hold v (Some p)) begun.id old reply new → CallStep begun.id old new (AfterPoll begun reply new)
+        → (p : Progress K) → IsLook loader p → Performs (hold_action hold v (Some p)) begun.id old reply new → DeskStep begun.id old new (AfterPoll begun reply new)
     poll-hold hold same s found waiting v named none (Asking provider) look m =
         let few : v.answers < provider_count loader = subst (λ n. n < provider_count loader) (sym none) look.1 in
-        let asking : IsAsking begun v.answers new = asks hold.asking same.asking s 0 found (record v { stage = stage.Loading }) named refl m.1 few in
+        let asking : IsAsking begun v.answers new = asks hold.asking_desk same.asking_desk s 0 found (record v { stage = stage.Loading }) named refl m.1 few in
         let first : provider ≡ v.answers = look.0 ∙ sym none in
         record {
           after = subst (λ r. AfterPoll begun r new) (sym m.0) (look.0, subst (λ n. IsAsking begun n new) (sym first) asking);
-          others = leaves hold.asking same.asking (option_map (as_viewed (record v { stage = stage.Loading })) (find_call v.call hold.asking.calls)) m.1;
+          others = leaves hold.asking_desk same.asking_desk (option_map (as_viewed (record v { stage = stage.Loading })) (find_call v.call hold.asking_desk.calls)) m.1;
         }
     poll-hold hold same s found waiting v named none (Over (HandOut c) cache) look (inl m) = record {
-      after = subst (λ r. AfterPoll begun r new) (sym m.0) (v.answers, at (hold.signing c) (same.signing c) s 0 found (record v { stage = stage.Signing }) named m.1);
-      others = leaves (hold.signing c) (same.signing c) (option_map (as_viewed (record v { stage = stage.Signing })) (find_call v.call (hold.signing c).calls)) m.1;
+      after = subst (λ r. AfterPoll begun r new) (sym m.0) (v.answers, at (hold.signing_desk c) (same.signing_desk c) s 0 found (record v { stage = stage.Signing }) named m.1);
+      others = leaves (hold.signing_desk c) (same.signing_desk c) (option_map (as_viewed (record v { stage = stage.Signing })) (find_call v.call (hold.signing_desk c).calls)) m.1;
     }
     poll-hold hold same s found waiting v named none (Over (HandOut c) cache) look (inr m) = record {
       after = subst (λ r. AfterPoll begun r new) (sym m.0) (subst (IsWaiting begun) (sym m.1) waiting);
@@ -203,15 +203,15 @@ module _ {K D : Type 0} (old new : DeskState K D) (reply : Reply K) (begun : Beg
     }
     poll-hold hold same s found waiting v named none (Over (Refuse cause) cache) look m = record {
       after = subst (λ r. AfterPoll begun r new) (sym m.0) look;
-      others = leaves hold.over same.over None m.1;
+      others = leaves hold.ended_desk same.ended_desk None m.1;
     }
 
     found-hold : (hold : Hold K D) → HoldsCalls old hold → (provider : ℕ) → IsAsking begun provider old → (v : LiveCallView) → v.call ≡ begun.id
-        → (p : Progress K) → IsFoundLoad p → Performs (hold_action hold v (Some p)) begun.id old reply new → CallStep begun.id old new (AfterFound begun provider reply new)
+        → (p : Progress K) → IsFoundLoad p → Performs (hold_action hold v (Some p)) begun.id old reply new → DeskStep begun.id old new (AfterFound begun provider reply new)
     found-hold hold same provider asking v named (Asking k) load m = absurd load
     found-hold hold same provider asking v named (Over (HandOut c) cache) load (inl m) = record {
-      after = subst (λ r. AfterFound begun provider r new) (sym m.0) (v.answers, at (hold.signing c) (same.signing c) stage.Loading provider asking.0 (record v { stage = stage.Signing }) named m.1);
-      others = leaves (hold.signing c) (same.signing c) (option_map (as_viewed (record v { stage = stage.Signing })) (find_call v.call (hold.signing c).calls)) m.1;
+      after = subst (λ r. AfterFound begun provider r new) (sym m.0) (v.answers, at (hold.signing_desk c) (same.signing_desk c) stage.Loading provider asking.0 (record v { stage = stage.Signing }) named m.1);
+      others = leaves (hold.signing_desk c) (same.signing_desk c) (option_map (as_viewed (record v { stage = stage.Signing })) (find_call v.call (hold.signing_desk c).calls)) m.1;
     }
     found-hold hold same provider asking v named (Over (HandOut c) cache) load (inr m) = record {
       after = subst (λ r. AfterFound begun provider r new) (sym m.0) (subst (IsAsking begun provider) (sym m.1) asking);
@@ -219,7 +219,7 @@ module _ {K D : Type 0} (old new : DeskState K D) (reply : Reply K) (begun : Beg
     }
     found-hold hold same provider asking v named (Over (Refuse cause) cache) load m = record {
       after = subst (λ r. AfterFound begun provider r new) (sym m.0) load;
-      others = leaves hold.over same.over None m.1;
+      others = leaves hold.ended_desk same.ended_desk None m.1;
     }
 
     refuses-none : (provider : ℕ) (cause other : Why) (wake : Option CallId) → (other ≡ why.Missing) ⊎ (other ≡ cause) → AfterNone begun provider cause (let r : Reply K = Refused other wake in r) new
@@ -234,41 +234,41 @@ module _ {K D : Type 0} (old new : DeskState K D) (reply : Reply K) (begun : Beg
     refuses-none provider cause (why.Service n) wake (inr e) = e
 
     none-hold : (hold : Hold K D) → HoldsCalls old hold → (provider : ℕ) → IsAsking begun provider old → (cause : Why) → (v : LiveCallView) → v.call ≡ begun.id → v.answers ≡ provider + 1
-        → (o : Option (Progress K)) → is_some o ≡ true → IfSome o (IsOtherLoad loader (provider + 1) cause) → Performs (hold_action hold v o) begun.id old reply new → CallStep begun.id old new (AfterNone begun provider cause reply new)
+        → (o : Option (Progress K)) → is_some o ≡ true → IfSome o (IsOtherLoad loader (provider + 1) cause) → Performs (hold_action hold v o) begun.id old reply new → DeskStep begun.id old new (AfterNone begun provider cause reply new)
     none-hold hold same provider asking cause v named more None s load m = absurd (cc)
     none-hold hold same provider asking cause v named more (Some (Asking next)) s load m =
         let few : v.answers < provider_count loader = subst (λ n. n < provider_count loader) (sym more) load.1 in
-        let now_asking : IsAsking begun v.answers new = asks hold.asking same.asking stage.Loading provider asking.0 (record v { stage = stage.Loading }) named refl m.1 few in
+        let now_asking : IsAsking begun v.answers new = asks hold.asking_desk same.asking_desk stage.Loading provider asking.0 (record v { stage = stage.Loading }) named refl m.1 few in
         let at_next : next ≡ v.answers = load.0 ∙ sym more in
         record {
           after = subst (λ r. AfterNone begun provider cause r new) (sym m.0) (load.0, subst (λ n. IsAsking begun n new) (sym at_next) now_asking);
-          others = leaves hold.asking same.asking (option_map (as_viewed (record v { stage = stage.Loading })) (find_call v.call hold.asking.calls)) m.1;
+          others = leaves hold.asking_desk same.asking_desk (option_map (as_viewed (record v { stage = stage.Loading })) (find_call v.call hold.asking_desk.calls)) m.1;
         }
     none-hold hold same provider asking cause v named more (Some (Over (HandOut c) cache)) s load m = absurd load
     none-hold hold same provider asking cause v named more (Some (Over (Refuse other) cache)) s load m = record {
       after = subst (λ r. AfterNone begun provider cause r new) (sym m.0) (refuses-none provider cause other hold.wake load);
-      others = leaves hold.over same.over None m.1;
+      others = leaves hold.ended_desk same.ended_desk None m.1;
     }
 
 same-first : {K D : Type 0} (old : DeskState K D) (view : LiveCallView) → HoldsCalls old (first_hold old view)
 same-first old view = record {
-  asking = record { loaders = refl; rules = refl; handles = refl; greatest = refl; calls = refl };
-  signing = λ c. record { loaders = refl; rules = refl; handles = refl; greatest = refl; calls = refl };
-  over = record { loaders = refl; rules = refl; handles = refl; greatest = refl; calls = refl };
+  asking_desk = record { loaders = refl; rules = refl; handles = refl; greatest = refl; calls = refl };
+  signing_desk = λ c. record { loaders = refl; rules = refl; handles = refl; greatest = refl; calls = refl };
+  ended_desk = record { loaders = refl; rules = refl; handles = refl; greatest = refl; calls = refl };
 }
 
 same-waited : {K D : Type 0} (old : DeskState K D) (view : LiveCallView) → HoldsCalls old (waited_hold old view)
 same-waited old view = record {
-  asking = same-self old;
-  signing = λ c. record { loaders = refl; rules = refl; handles = refl; greatest = refl; calls = refl };
-  over = record { loaders = refl; rules = refl; handles = refl; greatest = refl; calls = refl };
+  asking_desk = same-self old;
+  signing_desk = λ c. record { loaders = refl; rules = refl; handles = refl; greatest = refl; calls = refl };
+  ended_desk = record { loaders = refl; rules = refl; handles = refl; greatest = refl; calls = refl };
 }
 
 same-loading : {K D : Type 0} (old : DeskState K D) (view : LiveCallView) → HoldsCalls old (loading_hold old view)
 same-loading old view = record {
-  asking = same-self old;
-  signing = λ c. record { loaders = refl; rules = refl; handles = refl; greatest = refl; calls = refl };
-  over = record { loaders = refl; rules = refl; handles = refl; greatest = refl; calls = refl };
+  asking_desk = same-self old;
+  signing_desk = λ c. record { loaders = refl; rules = refl; handles = refl; greatest = refl; calls = refl };
+  ended_desk = record { loaders = refl; rules = refl; handles = refl; greatest = refl; calls = refl };
 }
 
 some_load : (K : Type 0) (loader : Loader) (count : ℕ) (cause : Why) → is_some (next_load {K = K} (Some loader) count cause) ≡ true
@@ -290,36 +290,36 @@ module _ {K D : Type 0} (policy : Policy K D) (old new : DeskState K D) (reply :
     looks s = rw (loads, caches, ruled) refl
 
     polled : (s : Stage) (hold : Hold K D) → HoldsCalls old hold → IsAt begun s 0 old → IsWaiting begun old → Performs (hold_action hold (view s 0) (desk_lookup policy old now (view s 0))) begun.id old reply new
-        → CallStep begun.id old new (AfterPoll begun reply new)
+        → DeskStep begun.id old new (AfterPoll begun reply new)
     polled s hold same found waiting m =
         poll-hold old new reply begun h under loader loads hold same s found waiting (view s 0) refl refl (sequential_call policy cached loader (desk_look_input (view s 0) now rule)) (look-is policy cached loader (view s 0) now rule)
         (subst (λ o. Performs (hold_action hold (view s 0) o) begun.id old reply new) (looks s) m)
 
     first_polled : (held : Bool) → IsAt begun stage.Unpolled 0 old → Performs (first_poll_action old (view stage.Unpolled 0) held (desk_lookup policy old now (view stage.Unpolled 0))) begun.id old reply new
-        → CallStep begun.id old new (AfterPoll begun reply new)
+        → DeskStep begun.id old new (AfterPoll begun reply new)
     first_polled true found m =
-        let waits : IsAt begun stage.Queued 0 new = at old new reply begun (first_hold old (view stage.Unpolled 0)).asking (same-first old (view stage.Unpolled 0)).asking stage.Unpolled 0 found (record (view stage.Unpolled 0) { stage = stage.Queued }) refl m.1 in
+        let waits : IsAt begun stage.Queued 0 new = at old new reply begun (first_hold old (view stage.Unpolled 0)).asking_desk (same-first old (view stage.Unpolled 0)).asking_desk stage.Unpolled 0 found (record (view stage.Unpolled 0) { stage = stage.Queued }) refl m.1 in
         record {
           after = subst (λ r. AfterPoll begun r new) (sym m.0) (inr waits);
-          others = leaves old new reply begun (first_hold old (view stage.Unpolled 0)).asking (same-first old (view stage.Unpolled 0)).asking (option_map (as_viewed (record (view stage.Unpolled 0) { stage = stage.Queued })) (find_call begun.id old.calls)) m.1;
+          others = leaves old new reply begun (first_hold old (view stage.Unpolled 0)).asking_desk (same-first old (view stage.Unpolled 0)).asking_desk (option_map (as_viewed (record (view stage.Unpolled 0) { stage = stage.Queued })) (find_call begun.id old.calls)) m.1;
         }
     first_polled false found m = polled stage.Unpolled (first_hold old (view stage.Unpolled 0)) (same-first old (view stage.Unpolled 0)) found (inl found) m
 
     later_polled : (held : Bool) → IsAt begun stage.Queued 0 old → Performs (later_poll_action old (view stage.Queued 0) held (desk_lookup policy old now (view stage.Queued 0))) begun.id old reply new
-        → CallStep begun.id old new (AfterPoll begun reply new)
+        → DeskStep begun.id old new (AfterPoll begun reply new)
     later_polled true found m = polled stage.Queued (waited_hold old (view stage.Queued 0)) (same-waited old (view stage.Queued 0)) found (inr found) m
     later_polled false found m =
         let found-new : IsAt begun stage.Queued 0 new = ap (λ (d : DeskState K D). find_call begun.id d.calls) m.1 ∙ found in
         record { after = subst (λ r. AfterPoll begun r new) (sym m.0) (inr found-new); others = leaves-self old new reply begun m.1 }
 
-    by_waiting : IsWaiting begun old → Transition policy (Poll begun.id now) old reply new → CallStep begun.id old new (AfterPoll begun reply new)
+    by_waiting : IsWaiting begun old → Transition policy (Poll begun.id now) old reply new → DeskStep begun.id old new (AfterPoll begun reply new)
     by_waiting (inl found) m = first_polled (is_held_line (line_at h.cache old.queues)) found (at_live (λ v. poll_action policy old now v v.stage) h under stage.Unpolled 0 found m)
     by_waiting (inr found) m = later_polled (is_first begun.id (line_at h.cache old.queues)) found (at_live (λ v. poll_action policy old now v v.stage) h under stage.Queued 0 found m)
 
     checks : (n : ℕ) (c : K) → desk_load policy old now (view stage.Loading n) (Found c) ≡ Some (found_progress (check_refreshed policy rule (option_map as_nanos begun.expires_in) c now) None)
     checks n c = rw ruled refl
 
-    by_found : (provider : ℕ) (c : K) → IsAsking begun provider old → Transition policy (Provided begun.id now (Found c)) old reply new → CallStep begun.id old new (AfterFound begun provider reply new)
+    by_found : (provider : ℕ) (c : K) → IsAsking begun provider old → Transition policy (Provided begun.id now (Found c)) old reply new → DeskStep begun.id old new (AfterFound begun provider reply new)
     by_found provider c asking m =
         let action = λ (v : LiveCallView). provided_action (load_action policy old now (Found c) v) v.stage in
         let done = at_live action h under stage.Loading provider asking.0 m in
@@ -329,18 +329,18 @@ module _ {K D : Type 0} (policy : Policy K D) (old new : DeskState K D) (reply :
 
     by_none : (provider : ℕ) (cause : Why) → IsAsking begun provider old
         → Performs (hold_action (loading_hold old (view stage.Loading provider)) (with_answer (view stage.Loading provider)) (next_load (slice_get old.loaders h.cache) (provider + 1) cause)) begun.id old reply new
-        → CallStep begun.id old new (AfterNone begun provider cause reply new)
+        → DeskStep begun.id old new (AfterNone begun provider cause reply new)
     by_none provider cause asking m =
         none-hold old new reply begun h under loader loads (loading_hold old (view stage.Loading provider)) (same-loading old (view stage.Loading provider)) provider asking cause (with_answer (view stage.Loading provider)) refl refl
         (next_load (Some loader) (provider + 1) cause) (some_load K loader (provider + 1) cause) (next-other K loader (provider + 1) cause)
         (subst (λ o. Performs (hold_action (loading_hold old (view stage.Loading provider)) (with_answer (view stage.Loading provider)) (next_load o (provider + 1) cause)) begun.id old reply new) loads m)
 
-    by_missing : (provider : ℕ) → IsAsking begun provider old → Transition policy (Provided begun.id now Missing) old reply new → CallStep begun.id old new (AfterNone begun provider why.Missing reply new)
+    by_missing : (provider : ℕ) → IsAsking begun provider old → Transition policy (Provided begun.id now Missing) old reply new → DeskStep begun.id old new (AfterNone begun provider why.Missing reply new)
     by_missing provider asking m =
         let action = λ (v : LiveCallView). provided_action (load_action policy old now Missing v) v.stage in
         by_none provider why.Missing asking (at_live action h under stage.Loading provider asking.0 m)
 
-    by_failed : (provider e : ℕ) → IsAsking begun provider old → Transition policy (Provided begun.id now (Failed e)) old reply new → CallStep begun.id old new (AfterNone begun provider (why.Loader e) reply new)
+    by_failed : (provider e : ℕ) → IsAsking begun provider old → Transition policy (Provided begun.id now (Failed e)) old reply new → DeskStep begun.id old new (AfterNone begun provider (why.Loader e) reply new)
     by_failed provider e asking m =
         let action = λ (v : LiveCallView). provided_action (load_action policy old now (Failed e) v) v.stage in
         by_none provider (why.Loader e) asking (at_live action h under stage.Loading provider asking.0 m)
@@ -362,55 +362,55 @@ module _ {K D : Type 0} (policy : Policy K D) (old new : DeskState K D) (reply :
           at_handle h under (slice_get old.loaders h.cache) refl (place-there old.loaders h.cache p.loader) (slice_get old.caches h.cache) refl (place-there old.caches h.cache p.cached)
           (slice_get old.rules h.rule) refl (place-there old.rules h.rule p.rules)
 
-  pub after-poll : (now : ℤ) → IsWaiting begun old → Transition policy (Poll begun.id now) old reply new → CallStep begun.id old new (AfterPoll begun reply new)
-  after-poll now waiting m = by_places (CallStep begun.id old new (AfterPoll begun reply new)) (λ h under l ls c cs r rs. by_waiting now h under l ls c cs r rs waiting m)
+  pub after-poll : (now : ℤ) → IsWaiting begun old → Transition policy (Poll begun.id now) old reply new → DeskStep begun.id old new (AfterPoll begun reply new)
+  after-poll now waiting m = by_places (DeskStep begun.id old new (AfterPoll begun reply new)) (λ h under l ls c cs r rs. by_waiting now h under l ls c cs r rs waiting m)
 
-  pub after-found : (now : ℤ) (provider : ℕ) (c : K) → IsAsking begun provider old → Transition policy (Provided begun.id now (Found c)) old reply new → CallStep begun.id old new (AfterFound begun provider reply new)
-  after-found now provider c asking m = by_places (CallStep begun.id old new (AfterFound begun provider reply new)) (λ h under l ls x cs r rs. by_found now h under l ls x cs r rs provider c asking m)
+  pub after-found : (now : ℤ) (provider : ℕ) (c : K) → IsAsking begun provider old → Transition policy (Provided begun.id now (Found c)) old reply new → DeskStep begun.id old new (AfterFound begun provider reply new)
+  after-found now provider c asking m = by_places (DeskStep begun.id old new (AfterFound begun provider reply new)) (λ h under l ls x cs r rs. by_found now h under l ls x cs r rs provider c asking m)
 
-  pub after-missing : (now : ℤ) (provider : ℕ) → IsAsking begun provider old → Transition policy (Provided begun.id now Missing) old reply new → CallStep begun.id old new (AfterNone begun provider why.Missing reply new)
-  after-missing now provider asking m = by_places (CallStep begun.id old new (AfterNone begun provider why.Missing reply new)) (λ h under l ls x cs r rs. by_missing now h under l ls x cs r rs provider asking m)
+  pub after-missing : (now : ℤ) (provider : ℕ) → IsAsking begun provider old → Transition policy (Provided begun.id now Missing) old reply new → DeskStep begun.id old new (AfterNone begun provider why.Missing reply new)
+  after-missing now provider asking m = by_places (DeskStep begun.id old new (AfterNone begun provider why.Missing reply new)) (λ h under l ls x cs r rs. by_missing now h under l ls x cs r rs provider asking m)
 
-  pub after-failed : (now : ℤ) (provider e : ℕ) → IsAsking begun provider old → Transition policy (Provided begun.id now (Failed e)) old reply new → CallStep begun.id old new (AfterNone begun provider (why.Loader e) reply new)
-  after-failed now provider e asking m = by_places (CallStep begun.id old new (AfterNone begun provider (why.Loader e) reply new)) (λ h under l ls x cs r rs. by_failed now h under l ls x cs r rs provider e asking m)
+  pub after-failed : (now : ℤ) (provider e : ℕ) → IsAsking begun provider old → Transition policy (Provided begun.id now (Failed e)) old reply new → DeskStep begun.id old new (AfterNone begun provider (why.Loader e) reply new)
+  after-failed now provider e asking m = by_places (DeskStep begun.id old new (AfterNone begun provider (why.Loader e) reply new)) (λ h under l ls x cs r rs. by_failed now h under l ls x cs r rs provider e asking m)
 
   accepted : (candidate : Head) (answers : ℕ) → IsAt begun stage.Signing answers old → (h : Handle) → slice_get old.handles begun.id.handle ≡ Some h → (o : Option CallRecord) → o ≡ Some (record_of begun stage.Signing answers)
-      → Performs (accept_action old candidate o) begun.id old reply new → CallStep begun.id old new (AfterAccepted begun reply new)
+      → Performs (accept_action old candidate o) begun.id old reply new → DeskStep begun.id old new (AfterAccepted begun reply new)
   accepted candidate answers found h under None e m = absurd (cc)
   accepted candidate answers found h under (Some r) e (inl m) = record { after = subst (λ x. AfterAccepted begun x new) (sym m.0) tt; others = leaves old new reply begun old (same-self old) None m.1 }
   accepted candidate answers found h under (Some r) e (inr m) =
       let still : IsAt begun stage.Signing answers new = ap (λ (d : DeskState K D). find_call begun.id d.calls) m.1 ∙ found in
       record { after = subst (λ x. AfterAccepted begun x new) (sym m.0) (answers, still); others = leaves-self old new reply begun m.1 }
 
-  pub after-accepted : (candidate : Head) → IsSigning begun old → Transition policy (Signed begun.id (verdict.Accepted candidate)) old reply new → CallStep begun.id old new (AfterAccepted begun reply new)
+  pub after-accepted : (candidate : Head) → IsSigning begun old → Transition policy (Signed begun.id (verdict.Accepted candidate)) old reply new → DeskStep begun.id old new (AfterAccepted begun reply new)
   after-accepted candidate signing m =
       let action = λ (v : LiveCallView). signed_action old (verdict.Accepted candidate) v v.stage in
-      by_places (CallStep begun.id old new (AfterAccepted begun reply new))
+      by_places (DeskStep begun.id old new (AfterAccepted begun reply new))
       (λ h under l ls x cs r rs. accepted candidate signing.0 signing.1 h under (find_call begun.id old.calls) signing.1 (at_live action h under stage.Signing signing.0 signing.1 m))
 
-  pub after-rejected : (e : ℕ) → IsSigning begun old → Transition policy (Signed begun.id (verdict.Failed e)) old reply new → CallStep begun.id old new (reply ≡ Refused (why.Service e) None)
+  pub after-rejected : (e : ℕ) → IsSigning begun old → Transition policy (Signed begun.id (verdict.Failed e)) old reply new → DeskStep begun.id old new (reply ≡ Refused (why.Service e) None)
   after-rejected e signing m =
       let action = λ (v : LiveCallView). signed_action old (verdict.Failed e) v v.stage in
-      by_places (CallStep begun.id old new (reply ≡ Refused (why.Service e) None))
+      by_places (DeskStep begun.id old new (reply ≡ Refused (why.Service e) None))
       (λ h under l ls x cs r rs.
       let done = at_live action h under stage.Signing signing.0 signing.1 m in
       record { after = done.0; others = leaves old new reply begun old (same-self old) None done.1 })
 
   cancelled : (s : Stage) (n : ℕ) (h : Handle) → Performs (cancel_action old (stored_view begun.id h (record_of begun s n)) s) begun.id old reply new
-      → CallStep begun.id old new ((wake : Option CallId) × (reply ≡ Cancelled wake))
+      → DeskStep begun.id old new ((wake : Option CallId) × (reply ≡ Cancelled wake))
   cancelled stage.Unpolled n h m =
       let v = stored_view begun.id h (record_of begun stage.Unpolled n) in
-      record { after = (None, m.0); others = leaves old new reply begun (first_hold old v).over (same-first old v).over None m.1 }
+      record { after = (None, m.0); others = leaves old new reply begun (first_hold old v).ended_desk (same-first old v).ended_desk None m.1 }
   cancelled stage.Queued n h m =
       let v = stored_view begun.id h (record_of begun stage.Queued n) in
-      record { after = ((waited_hold old v).wake, m.0); others = leaves old new reply begun (waited_hold old v).over (same-waited old v).over None m.1 }
+      record { after = ((waited_hold old v).wake, m.0); others = leaves old new reply begun (waited_hold old v).ended_desk (same-waited old v).ended_desk None m.1 }
   cancelled stage.Loading n h m =
       let v = stored_view begun.id h (record_of begun stage.Loading n) in
-      record { after = ((waited_hold old v).wake, m.0); others = leaves old new reply begun (waited_hold old v).over (same-waited old v).over None m.1 }
+      record { after = ((waited_hold old v).wake, m.0); others = leaves old new reply begun (waited_hold old v).ended_desk (same-waited old v).ended_desk None m.1 }
   cancelled stage.Signing n h m = record { after = (None, m.0); others = leaves old new reply begun old (same-self old) None m.1 }
 
-  pub after-cancel : (s : Stage) (n : ℕ) → IsAt begun s n old → Transition policy (Cancel begun.id) old reply new → CallStep begun.id old new ((wake : Option CallId) × (reply ≡ Cancelled wake))
+  pub after-cancel : (s : Stage) (n : ℕ) → IsAt begun s n old → Transition policy (Cancel begun.id) old reply new → DeskStep begun.id old new ((wake : Option CallId) × (reply ≡ Cancelled wake))
   after-cancel s n found m =
       let action = λ (v : LiveCallView). cancel_action old v v.stage in
-      by_places (CallStep begun.id old new ((wake : Option CallId) × (reply ≡ Cancelled wake)))
+      by_places (DeskStep begun.id old new ((wake : Option CallId) × (reply ≡ Cancelled wake)))
       (λ h under l ls x cs r rs. cancelled s n h (at_live action h under s n found m))

@@ -17,18 +17,18 @@ use Rattle.desk_parts.specs.declared.load_state.LoadState.{LoadState}
 use Rattle.desk_parts.specs.declared.load_state.LoadState.TheVariants as load
 use Rattle.desk_parts.specs.Memory.{ClonesAreFree}
 use Rattle.grant_desk.specs.GrantSteps.{IsGrantStep, RunsOutAtBegins}
-use Rattle.granter.specs.CallStep.{IsUnpolled, AfterPoll, AfterFound, AfterNone, AfterMade, is_of_look, is_of_check}
+use Rattle.granter.specs.DeskReplies.{IsUnpolled, AfterPoll, AfterFound, AfterNone, AfterMade, is_of_look, is_of_check}
 use Rattle.granter.specs.Course.{PolledCall, Pends, Gives, Refuses, RunsOut, IsAnswerGiven, IsMadeGiven, IsRefusal}
-use Rattle.granter.specs.MadeBy.{IsLoadMade, IsWorkMade}
+use Rattle.granter.specs.IssuedBy.{IsLoadMade, IsWorkMade}
 use Rattle.granter.specs.ObjectAnswer.{IsWorkPending, KeepsWork, IsWorkOpen, WorkRunsOut}
-use Rattle.granter.specs.PollStep.{StepChange, IsTaken, Ends}
-use Rattle.granter.specs.StepReply.{plain_refusal, went_after_poll, went_after_found, went_after_none, went_after_made}
+use Rattle.granter.specs.StepOutcome.{StepChange, IsStepOutcome, Ends}
+use Rattle.granter.specs.OutcomeByReply.{plain_refusal, flow_after_poll, flow_after_found, flow_after_none, flow_after_made}
 use Rattle.granter.specs.declared.grant.CallState.TheVariants.{Waiting, Loading, Granting}
 use Rattle.granter.specs.declared.grant.WorkState.{WorkState}
 use Rattle.granter.specs.declared.grant.WorkState.TheVariants as work
 use Rattle.granter.specs.declared.refusal.GrantRefusal.TheVariants as refusal
-use Rattle.granter.specs.declared.went.StepEnd.TheVariants as end
-use Rattle.granter.proofs.PollSteps.{ends-without, ends-by}
+use Rattle.granter.specs.declared.step_outcome.StepEnd.TheVariants as end
+use Rattle.granter.proofs.CourseOfSteps.{ends-without, ends-by}
 
 module _ {K L : Type 0} (gives : Polled (Option K) → Type 0) where
   found-given : (l : LoadState K L) (found : K) → gives (polled.Ready (Some found)) → KeepsLoad l (load.Found found) → IsAnswerGiven gives l (Found found)
@@ -71,7 +71,7 @@ module _ {K D L W : Type 0} (v : PolledCall K D L W) (change : StepChange K D) w
   refuses-look (why.Stale moment) h = absurd (cc)
 
   pub poll-taken : (answered : GrantReply K) → IsUnpolled v.begun change.old → IsGrantStep v.policy (Poll v.begun.id v.now) change.old answered change.new
-      → HasCause (Poll v.begun.id v.now) answered → AfterPoll v.begun answered change.new → LeavesOthers v.begun.id change.old change.new → IsTaken v Waiting change (went_after_poll answered)
+      → HasCause (Poll v.begun.id v.now) answered → AfterPoll v.begun answered change.new → LeavesOthers v.begun.id change.old change.new → IsStepOutcome v Waiting change (flow_after_poll answered)
   poll-taken reply.OutOfMemory unpolled step memory after others =
       ends-by v Waiting change (Poll v.begun.id v.now) reply.OutOfMemory (end.OutOfMemory Waiting) (RunsOut Waiting) (refl, refl) step memory tt refl after others
   poll-taken (reply.Ask provider) unpolled step memory after others = record {
@@ -81,7 +81,7 @@ module _ {K D L W : Type 0} (v : PolledCall K D L W) (change : StepChange K D) w
     step = step;
     after = refl;
     later = tt;
-    made = (after.1, tt);
+    issued = (after.1, tt);
     others = others;
   }
   poll-taken (reply.Grant source) unpolled step memory after others = record {
@@ -91,7 +91,7 @@ module _ {K D L W : Type 0} (v : PolledCall K D L W) (change : StepChange K D) w
     step = step;
     after = refl;
     later = tt;
-    made = (after, tt);
+    issued = (after, tt);
     others = others;
   }
   poll-taken (reply.Refused cause) unpolled step memory after others =
@@ -115,18 +115,18 @@ module _ {K D L W : Type 0} (v : PolledCall K D L W) (change : StepChange K D) w
     pub load-pending : (started : L) → change.new ≡ change.old → IsAsking v.begun provider change.old → v.meaning.load_started provider started
         → IsLoadPending (v.meaning.load_started provider) (v.meaning.load_ready provider) l
         → Ends v (Loading provider l) change (end.Pending (Loading provider (load.Started started)))
-    load-pending started still asking made pending =
-        ends-without v (Loading provider l) change.old change (end.Pending (Loading provider (load.Started started))) (Pends (Loading provider (load.Started started))) refl still (refl, pending) refl (asking, made)
+    load-pending started still asking issued pending =
+        ends-without v (Loading provider l) change.old change (end.Pending (Loading provider (load.Started started))) (Pends (Loading provider (load.Started started))) refl still (refl, pending) refl (asking, issued)
 
     pub load-without-memory : (kept : LoadState K L) → change.new ≡ change.old → IsAsking v.begun provider change.old → IsLoadMade v.meaning provider kept → LoadRunsOut (v.meaning.load_gives provider) l kept
         → Ends v (Loading provider l) change (end.OutOfMemory (Loading provider kept))
-    load-without-memory kept still asking made left =
-        ends-without v (Loading provider l) change.old change (end.OutOfMemory (Loading provider kept)) (RunsOut (Loading provider kept)) refl still (refl, left) refl (asking, made)
+    load-without-memory kept still asking issued left =
+        ends-without v (Loading provider l) change.old change (end.OutOfMemory (Loading provider kept)) (RunsOut (Loading provider kept)) refl still (refl, left) refl (asking, issued)
 
     pub found-taken : (found : K) (answered : GrantReply K) → IsAsking v.begun provider change.old → v.meaning.load_gives provider (polled.Ready (Some found)) → KeepsLoad l (load.Found found)
         → IsGrantStep v.policy (Provided v.begun.id v.now (Found found)) change.old answered change.new
         → HasCause (Provided v.begun.id v.now (Found found)) answered → AfterFound v.begun provider answered change.new
-        → LeavesOthers v.begun.id change.old change.new → IsTaken v (Loading provider l) change (went_after_found provider found answered)
+        → LeavesOthers v.begun.id change.old change.new → IsStepOutcome v (Loading provider l) change (flow_after_found provider found answered)
     found-taken found (reply.Grant source) asking gives keeps step memory after others = record {
       event = Provided v.begun.id v.now (Found found);
       answered = reply.Grant source;
@@ -134,7 +134,7 @@ module _ {K D L W : Type 0} (v : PolledCall K D L W) (change : StepChange K D) w
       step = step;
       after = refl;
       later = tt;
-      made = (after, tt);
+      issued = (after, tt);
       others = others;
     }
     found-taken found (reply.Refused cause) asking gives keeps step memory after others =
@@ -152,7 +152,7 @@ module _ {K D L W : Type 0} (v : PolledCall K D L W) (change : StepChange K D) w
 
     pub missing-taken : (answered : GrantReply K) → v.meaning.load_gives provider (polled.Ready None) → IsLoadOpen l
         → IsGrantStep v.policy (Provided v.begun.id v.now Missing) change.old answered change.new → AfterNone v.begun provider why.Missing answered change.new
-        → LeavesOthers v.begun.id change.old change.new → IsTaken v (Loading provider l) change (went_after_none refusal.Missing answered)
+        → LeavesOthers v.begun.id change.old change.new → IsStepOutcome v (Loading provider l) change (flow_after_none refusal.Missing answered)
     missing-taken (reply.Ask next) gives unanswered step after others = record {
       event = Provided v.begun.id v.now Missing;
       answered = reply.Ask next;
@@ -160,7 +160,7 @@ module _ {K D L W : Type 0} (v : PolledCall K D L W) (change : StepChange K D) w
       step = step;
       after = refl;
       later = after.0;
-      made = (after.1, tt);
+      issued = (after.1, tt);
       others = others;
     }
     missing-taken (reply.Refused why.Missing) gives unanswered step after others =
@@ -181,7 +181,7 @@ module _ {K D L W : Type 0} (v : PolledCall K D L W) (change : StepChange K D) w
 
     pub failed-taken : (n : ℕ) (e : ErrorParts) (answered : GrantReply K) → v.meaning.load_gives provider (polled.Failed e) → IsLoadOpen l
         → IsGrantStep v.policy (Provided v.begun.id v.now (Failed n)) change.old answered change.new → AfterNone v.begun provider (why.Loader n) answered change.new
-        → LeavesOthers v.begun.id change.old change.new → IsTaken v (Loading provider l) change (went_after_none (refusal.Loader e) answered)
+        → LeavesOthers v.begun.id change.old change.new → IsStepOutcome v (Loading provider l) change (flow_after_none (refusal.Loader e) answered)
     failed-taken n e (reply.Ask next) gives unanswered step after others = record {
       event = Provided v.begun.id v.now (Failed n);
       answered = reply.Ask next;
@@ -189,7 +189,7 @@ module _ {K D L W : Type 0} (v : PolledCall K D L W) (change : StepChange K D) w
       step = step;
       after = refl;
       later = after.0;
-      made = (after.1, tt);
+      issued = (after.1, tt);
       others = others;
     }
     failed-taken n e (reply.Refused why.Missing) gives unanswered step after others =
@@ -214,13 +214,13 @@ module _ {K D L W : Type 0} (v : PolledCall K D L W) (change : StepChange K D) w
     pub work-pending : (started : W) → change.new ≡ change.old → IsSigning v.begun change.old
         → v.meaning.work_started source started → IsWorkPending (v.meaning.work_started source) v.meaning.work_ready w
         → Ends v (Granting source w) change (end.Pending (Granting source (work.Started started)))
-    work-pending started still granting made pending =
-        ends-without v (Granting source w) change.old change (end.Pending (Granting source (work.Started started))) (Pends (Granting source (work.Started started))) refl still (refl, pending) refl (granting, made)
+    work-pending started still granting issued pending =
+        ends-without v (Granting source w) change.old change (end.Pending (Granting source (work.Started started))) (Pends (Granting source (work.Started started))) refl still (refl, pending) refl (granting, issued)
 
     pub work-without-memory : (kept : WorkState K W) → change.new ≡ change.old → IsSigning v.begun change.old → IsWorkMade v.meaning source kept → WorkRunsOut (v.meaning.work_gives source) w kept
         → Ends v (Granting source w) change (end.OutOfMemory (Granting source kept))
-    work-without-memory kept still granting made left =
-        ends-without v (Granting source w) change.old change (end.OutOfMemory (Granting source kept)) (RunsOut (Granting source kept)) refl still (refl, left) refl (granting, made)
+    work-without-memory kept still granting issued left =
+        ends-without v (Granting source w) change.old change (end.OutOfMemory (Granting source kept)) (RunsOut (Granting source kept)) refl still (refl, left) refl (granting, issued)
 
     pub unmade-taken : (n : ℕ) (e : ErrorParts) → v.meaning.work_gives source (polled.Failed e) → IsWorkOpen w
         → IsGrantStep v.policy (Granted v.begun.id v.now (made.Failed n)) change.old (reply.Refused (why.Service n)) change.new → LeavesOthers v.begun.id change.old change.new
@@ -232,7 +232,7 @@ module _ {K D L W : Type 0} (v : PolledCall K D L W) (change : StepChange K D) w
     pub made-taken : (credential : K) (answered : GrantReply K) → IsSigning v.begun change.old → v.meaning.work_gives source (polled.Ready credential) → KeepsWork w (work.Made credential)
         → IsGrantStep v.policy (Granted v.begun.id v.now (made.Made credential)) change.old answered change.new
         → HasCause (Granted v.begun.id v.now (made.Made credential)) answered → AfterMade v.begun v.now credential answered change.new
-        → LeavesOthers v.begun.id change.old change.new → IsTaken v (Granting source w) change (went_after_made source credential answered)
+        → LeavesOthers v.begun.id change.old change.new → IsStepOutcome v (Granting source w) change (flow_after_made source credential answered)
     made-taken credential (reply.Given handed) granting gives keeps step memory after others =
         ends-by v (Granting source w) change (Granted v.begun.id v.now (made.Made credential)) (reply.Given handed) (end.Given handed) (Gives credential)
         (refl, refl, made-given (v.meaning.work_gives source) w credential gives keeps) step memory (after, refl) after tt others

@@ -4,16 +4,16 @@ use Rattle.sequential_signer.specs.Policy.{Policy}
 use Rattle.grant_desk.specs.GrantDeskState.{GrantState}
 use Rattle.granter.specs.Course.{PolledCall, polled_call, IsDriven}
 use Rattle.granter.specs.GranterObjects.{Meanings, service_of, with_service, call_meaning}
-use Rattle.granter.specs.MadeBy.{IsStateMade}
+use Rattle.granter.specs.IssuedBy.{IsStateIssued}
 use Rattle.granter.specs.ObjectPoll.{BegunCall}
-use Rattle.granter.specs.PollStep.{StepChange, IsTaken}
+use Rattle.granter.specs.StepOutcome.{StepChange, IsStepOutcome}
 use Rattle.granter.specs.declared.call_objects.CallObjects.{CallObjects}
 use Rattle.granter.specs.declared.grant.CallState.{CallState}
 use Rattle.granter.specs.declared.grant_poll.GrantPoll.{GrantPoll}
-use Rattle.granter.specs.declared.went.Went.{Went}
+use Rattle.granter.specs.declared.step_outcome.StepFlow.{StepFlow}
 
 -- what a poll of a call works with, beside the service, which is a rule of the desk
-pub record Driving (P G K C L W : Type 0) : Type 1 where
+pub record PollContext (P G K C L W : Type 0) : Type 1 where
   pub policy : Policy K G
   pub clones_freely : K → Type 0
   pub meanings : Meanings P G K C L W
@@ -21,7 +21,7 @@ pub record Driving (P G K C L W : Type 0) : Type 1 where
   pub begun : BegunCall
   pub now : ℤ
 
-module _ {P G K C L W : Type 0} (d : Driving P G K C L W) where
+module _ {P G K C L W : Type 0} (d : PollContext P G K C L W) where
   -- the call with this service
   abbrev pub call_with : G → PolledCall K G L W
   call_with service = polled_call d.policy d.clones_freely d.meanings (with_service d.objects service) d.begun d.now
@@ -30,13 +30,13 @@ module _ {P G K C L W : Type 0} (d : Driving P G K C L W) where
   abbrev pub IsService : GrantState K G → G → Type 0
   IsService desk service = service_of desk d.begun.id.handle ≡ Some service
 
-  -- the state was made for the call
-  abbrev pub IsMadeFor : GrantState K G → CallState K L W → Type 0
-  IsMadeFor desk state = (service : G) → IsService desk service → IsStateMade (call_meaning d.meanings d.begun (with_service d.objects service)) d.begun desk state
+  -- the state was issued for the call
+  abbrev pub IsIssuedFor : GrantState K G → CallState K L W → Type 0
+  IsIssuedFor desk state = (service : G) → IsService desk service → IsStateIssued (call_meaning d.meanings d.begun (with_service d.objects service)) d.begun desk state
 
   -- the step of the call in this state
-  abbrev pub IsStepTaken : CallState K L W → StepChange K G → Went K L W → Type 0
-  IsStepTaken state change went = (service : G) → IsService change.old service → IsTaken (call_with service) state change went
+  abbrev pub IsOutcomeWith : CallState K L W → StepChange K G → StepFlow K L W → Type 0
+  IsOutcomeWith state change flow = (service : G) → IsService change.old service → IsStepOutcome (call_with service) state change flow
 
   -- the call in this state is driven by events of the desk, and ends by them
   abbrev pub IsDrivenFrom : CallState K L W → GrantState K G → GrantState K G → GrantPoll P G K C L C W K → Type 0

@@ -8,13 +8,13 @@ use Rattle.desk_parts.specs.CallAt.{loader_of, LeavesOthers}
 use Rattle.desk_parts.specs.ProviderList.{loader_for}
 use Rattle.signer.specs.SignerObjects.{service_of}
 use Rattle.signer.specs.Course.{IsDriven}
-use Rattle.signer.specs.PollStep.{StepChange, Goes, GoesOn, Ends, answer_by}
-use Rattle.signer.specs.Driving.{Driving, call_with, IsService, IsMadeFor, IsStepTaken, IsDrivenFrom}
+use Rattle.signer.specs.StepOutcome.{StepChange, Goes, GoesOn, Ends, answer_by}
+use Rattle.signer.specs.PollContext.{PollContext, call_with, IsService, IsIssuedFor, IsOutcomeWith, IsDrivenFrom}
 use Rattle.signer.specs.declared.sign.SignState.{SignState}
-use Rattle.signer.specs.declared.went.StepEnd.{StepEnd}
-use Rattle.signer.specs.declared.went.StepTaken.{StepTaken}
-use Rattle.signer.specs.declared.went.Went.TheVariants.{On, Over}
-use Rattle.signer.proofs.PollSteps.{PollPlace, Reached, reached-start, reached-on, reached-end}
+use Rattle.signer.specs.declared.step_outcome.StepEnd.{StepEnd}
+use Rattle.signer.specs.declared.step_outcome.StepOutcome.{StepOutcome}
+use Rattle.signer.specs.declared.step_outcome.StepFlow.TheVariants.{On, Over}
+use Rattle.signer.proofs.CourseOfSteps.{PollPlace, Reached, reached-start, reached-on, reached-end}
 use Rattle.signer.proofs.PollEnds.{driven, steps_left, fewer}
 use Rattle.signer.proofs.ObjectMeanings.{for-service}
 
@@ -35,40 +35,40 @@ leaves-objects old new l handle = record {
   loader = rw (l.handles, l.loaders) refl;
 }
 
-module _ {P S K C L W : Type 0} (d : Driving P S K C L W) (start : PollStart K S L W) where
+module _ {P S K C L W : Type 0} (d : PollContext P S K C L W) (start : PollStart K S L W) where
   -- the poll has come to this place, and the request is as it was
-  pub record Underway (place : PollPlace K S L W) (request : Parts) : Type 0 where
+  pub record PollInvariant (place : PollPlace K S L W) (request : Parts) : Type 0 where
     pub reached : (service : S) → IsService d start.desk service → Reached (call_with d service) start.state start.desk place
     pub same : request ≡ start.request
     pub objects : SameObjects d.begun.id.handle start.desk place.desk
 
-  pub underway-start : IsMadeFor d start.desk start.state → Underway (record { state = start.state; desk = start.desk; wake = None }) start.request
-  underway-start made = record {
-    reached = λ service is. reached-start (call_with d service) start.state start.desk (made service is);
+  pub invariant-start : IsIssuedFor d start.desk start.state → PollInvariant (record { state = start.state; desk = start.desk; wake = None }) start.request
+  invariant-start issued = record {
+    reached = λ service is. reached-start (call_with d service) start.state start.desk (issued service is);
     same = refl;
     objects = record { service = refl; loader = refl };
   }
 
-  module _ (place : PollPlace K S L W) (request : Parts) (u : Underway place request) (there : IsSome (service_of start.desk d.begun.id.handle)) where
+  module _ (place : PollPlace K S L W) (request : Parts) (u : PollInvariant place request) (there : IsSome (service_of start.desk d.begun.id.handle)) where
     -- the service is still the call's
     still : (service : S) → IsService d start.desk service → IsService d place.desk service
     still service is = u.objects.service ∙ is
 
-    pub made-here : IsMadeFor d place.desk place.state
-    made-here service is = (u.reached service (sym u.objects.service ∙ is)).made
+    pub issued-here : IsIssuedFor d place.desk place.state
+    issued-here service is = (u.reached service (sym u.objects.service ∙ is)).issued
 
     pub there-here : IsSome (service_of place.desk d.begun.id.handle)
     there-here = subst (λ o. IsSome o) (sym u.objects.service) there
 
     module _ (new : DeskState K S) (after : Parts) where
-      pub underway-on : (taken : StepTaken K L W) (next : SignState K L W) → taken.went ≡ On next
-          → IsStepTaken d place.state (record { old = place.desk; new = new; before = request; after = after }) taken
-          → Underway (record { state = next; desk = new; wake = option_or place.wake taken.wake }) after
-      underway-on taken next went step =
+      pub invariant-on : (taken : StepOutcome K L W) (next : SignState K L W) → taken.flow ≡ On next
+          → IsOutcomeWith d place.state (record { old = place.desk; new = new; before = request; after = after }) taken
+          → PollInvariant (record { state = next; desk = new; wake = option_or place.wake taken.wake }) after
+      invariant-on taken next flow step =
           let change : StepChange K S = record { old = place.desk; new = new; before = request; after = after } in
           let goes : (service : S) → IsService d start.desk service → GoesOn (call_with d service) place.state change taken.wake next =
-          λ service is. subst (Goes (call_with d service) place.state change taken.wake) went (step service (still service is)) in
-          for-service (service_of start.desk d.begun.id.handle) (Underway (record { state = next; desk = new; wake = option_or place.wake taken.wake }) after) there
+          λ service is. subst (Goes (call_with d service) place.state change taken.wake) flow (step service (still service is)) in
+          for-service (service_of start.desk d.begun.id.handle) (PollInvariant (record { state = next; desk = new; wake = option_or place.wake taken.wake }) after) there
           (λ one is. record {
             reached = λ service is'. reached-on (call_with d service) start.state start.desk place (u.reached service is') change refl taken.wake next (goes service is');
             same = (goes one is).same ∙ u.same;
@@ -78,23 +78,23 @@ module _ {P S K C L W : Type 0} (d : Driving P S K C L W) (start : PollStart K S
           })
 
       -- and the poll has fewer steps before it
-      pub underway-fewer : loader_of start.desk d.begun.id.handle ≡ Some (loader_for d.objects.providers.now) → (taken : StepTaken K L W) (next : SignState K L W) → taken.went ≡ On next
-          → IsStepTaken d place.state (record { old = place.desk; new = new; before = request; after = after }) taken
+      pub invariant-fewer : loader_of start.desk d.begun.id.handle ≡ Some (loader_for d.objects.providers.now) → (taken : StepOutcome K L W) (next : SignState K L W) → taken.flow ≡ On next
+          → IsOutcomeWith d place.state (record { old = place.desk; new = new; before = request; after = after }) taken
           → steps_left (loader_for d.objects.providers.now) next < steps_left (loader_for d.objects.providers.now) place.state
-      underway-fewer loads taken next went step =
+      invariant-fewer loads taken next flow step =
           let change : StepChange K S = record { old = place.desk; new = new; before = request; after = after } in
           for-service (service_of start.desk d.begun.id.handle) (steps_left (loader_for d.objects.providers.now) next < steps_left (loader_for d.objects.providers.now) place.state) there
           (λ service is.
-          let goes : GoesOn (call_with d service) place.state change taken.wake next = subst (Goes (call_with d service) place.state change taken.wake) went (step service (still service is)) in
+          let goes : GoesOn (call_with d service) place.state change taken.wake next = subst (Goes (call_with d service) place.state change taken.wake) flow (step service (still service is)) in
           let o = leaves-objects place.desk new goes.others d.begun.id.handle in
-          fewer (call_with d service) new (loader_for d.objects.providers.now) (o.loader ∙ u.objects.loader ∙ loads) place.state next goes.made goes.later)
+          fewer (call_with d service) new (loader_for d.objects.providers.now) (o.loader ∙ u.objects.loader ∙ loads) place.state next goes.issued goes.later)
 
-      pub underway-end : (taken : StepTaken K L W) (end : StepEnd K L W) → taken.went ≡ Over end
-          → IsStepTaken d place.state (record { old = place.desk; new = new; before = request; after = after }) taken
+      pub invariant-end : (taken : StepOutcome K L W) (end : StepEnd K L W) → taken.flow ≡ Over end
+          → IsOutcomeWith d place.state (record { old = place.desk; new = new; before = request; after = after }) taken
           → IsDrivenFrom d start.state start.desk new (record { poll = record { answer = answer_by d.begun end; wake = option_or place.wake taken.wake }; before = start.request; after = after })
-      underway-end taken end went step service is =
+      invariant-end taken end flow step service is =
           let change : StepChange K S = record { old = place.desk; new = new; before = request; after = after } in
-          let ends : Ends (call_with d service) place.state change taken.wake end = subst (Goes (call_with d service) place.state change taken.wake) went (step service (still service is)) in
+          let ends : Ends (call_with d service) place.state change taken.wake end = subst (Goes (call_with d service) place.state change taken.wake) flow (step service (still service is)) in
           let e = reached-end (call_with d service) start.state start.desk place (u.reached service is) change refl taken.wake end ends in
           subst (λ (before : Parts). IsDriven (call_with d service) start.state start.desk new (record { poll = record { answer = answer_by {P = P} {S = S} {C = C} d.begun end; wake = option_or place.wake taken.wake }; before = before; after = after })) u.same
           (driven P S C (call_with d service) start.state (record change { old = start.desk }) (option_or place.wake taken.wake) end e)

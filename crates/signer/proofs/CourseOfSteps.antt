@@ -12,14 +12,14 @@ use Rattle.desk_parts.specs.Memory.{ClonesAreFree}
 use Rattle.sign_desk.specs.Memory.{RunsOutAtHeads}
 use Rattle.sign_desk.specs.Steps.{IsStep}
 use Rattle.desk_parts.specs.CallAt.{LeavesOthers}
-use Rattle.signer.specs.MadeBy.{IsStateMade}
+use Rattle.signer.specs.IssuedBy.{IsStateIssued}
 use Rattle.signer.specs.Course.{PollEnd, PollRun, PolledCall, IsGiven, IsCourse, stops, ends, goes_on, StopsAt, EndsBy, candidate_of, state_after, wake_in, wakes_in}
-use Rattle.signer.specs.PollStep.{StepChange, ComesLater, NamesNobody, IsStepEnd, IsEndMade, GoesOn, Ends}
+use Rattle.signer.specs.StepOutcome.{StepChange, ComesLater, NamesNobody, IsStepEnd, IsEndIssued, GoesOn, Ends}
 use Rattle.sequential_signer.specs.declared.event.Reply.TheVariants as reply
 use Rattle.signer.specs.declared.sign.SignState.{SignState}
 use Rattle.signer.specs.declared.sign.SignState.TheVariants.{Waiting, Loading, Signing}
 use Rattle.signer.specs.declared.sign.WorkState.TheVariants as work
-use Rattle.signer.specs.declared.went.StepEnd.{StepEnd}
+use Rattle.signer.specs.declared.step_outcome.StepEnd.{StepEnd}
 
 module _ {K D : Type 0} where
   pub leaves-self : (call : CallId) (desk : DeskState K D) → LeavesOthers call desk desk
@@ -40,7 +40,7 @@ module _ {K : Type 0} where
   wakes-append (x ∷ xs) ys = ap (λ l. option_to_list (wake_in x.reply) ++ l) (wakes-append xs ys) ∙ sym (append_assoc (option_to_list (wake_in x.reply)) (wakes_in xs) (wakes_in ys))
 
 module _ {K D L W : Type 0} (v : PolledCall K D L W) where
-  -- a desk that represents a transcript represents it with the events of the course behind it
+  -- a desk that represents a transcript represents it with the events of the course after it
   pub course-represents : (state : SignState K L W) (old new : DeskState K D) (run : PollRun K L W) → IsCourse v state old run new
       → (entries : List (Entry K)) → Represents v.policy old entries → Represents v.policy new (entries ++ run.entries)
   course-represents state old new run (stops s desk end stop) entries stood = subst (Represents v.policy desk) (sym (append-nil entries)) stood
@@ -52,14 +52,14 @@ module _ {K D L W : Type 0} (v : PolledCall K D L W) where
 
   -- a step that makes no event
   pub ends-without : (state : SignState K L W) (desk : DeskState K D) (change : StepChange K D) (end : StepEnd K L W) (by : PollEnd K L W) → change.old ≡ desk → change.new ≡ desk
-      → StopsAt v.meaning state by → IsStepEnd end change.before change.after by → IsEndMade v desk end → Ends v state change None end
-  ends-without state desk change end by was is stop ended made = record {
+      → StopsAt v.meaning state by → IsStepEnd end change.before change.after by → IsEndIssued v desk end → Ends v state change None end
+  ends-without state desk change end by was is stop ended issued = record {
     run = record { entries = []; end = by };
     course = subst (λ d. IsCourse v state d (record { entries = []; end = by }) change.new) (sym was) (subst (λ d. IsCourse v state desk (record { entries = []; end = by }) d) (sym is) (stops state desk by stop));
     ended = ended;
     named = refl;
     quiet = names-nobody state;
-    made = subst (λ d. IsEndMade v d end) (sym is) made;
+    issued = subst (λ d. IsEndIssued v d end) (sym is) issued;
     others = subst (λ d. LeavesOthers v.begun.id d change.new) (sym was) (subst (λ d. LeavesOthers v.begun.id desk d) (sym is) (leaves-self v.begun.id desk));
   }
     where
@@ -72,14 +72,14 @@ module _ {K D L W : Type 0} (v : PolledCall K D L W) where
   pub ends-by : (state : SignState K L W) (change : StepChange K D) (event : Event K) (answered : Reply K) (wake : Option CallId) (end : StepEnd K L W) (by : PollEnd K L W)
       → IsGiven v state event → IsStep v.policy event change.old answered change.new → (ClonesAreFree v.clones_freely → RunsOutAtHeads event answered)
       → EndsBy v.meaning state event answered by → wake ≡ wake_in answered
-      → NamesNobody state wake → IsStepEnd end change.before change.after by → IsEndMade v change.new end → LeavesOthers v.begun.id change.old change.new → Ends v state change wake end
-  ends-by state change event answered wake end by given step memory ends_so named quiet ended made others = record {
+      → NamesNobody state wake → IsStepEnd end change.before change.after by → IsEndIssued v change.new end → LeavesOthers v.begun.id change.old change.new → Ends v state change wake end
+  ends-by state change event answered wake end by given step memory ends_so named quiet ended issued others = record {
     run = record { entries = record { event = event; reply = answered } ∷ []; end = by };
     course = ends state change.old change.new event answered by given step memory ends_so;
     ended = ended;
     named = append-nil (option_to_list (wake_in answered)) ∙ ap option_to_list (sym named);
     quiet = quiet;
-    made = made;
+    issued = issued;
     others = others;
   }
 
@@ -141,16 +141,16 @@ module _ {K D L W : Type 0} (v : PolledCall K D L W) where
     pub leads : (run : PollRun K L W) (new : DeskState K D) → IsCourse v place.state place.desk run new → IsCourse v start old (record { entries = entries ++ run.entries; end = run.end }) new
     pub before : NamedBefore place.state place.wake
     pub others : LeavesOthers v.begun.id old place.desk
-    pub made : IsStateMade v.meaning v.begun place.desk place.state
+    pub issued : IsStateIssued v.meaning v.begun place.desk place.state
 
-  pub reached-start : (start : SignState K L W) (old : DeskState K D) → IsStateMade v.meaning v.begun old start → Reached start old (record { state = start; desk = old; wake = None })
-  reached-start start old made = record {
+  pub reached-start : (start : SignState K L W) (old : DeskState K D) → IsStateIssued v.meaning v.begun old start → Reached start old (record { state = start; desk = old; wake = None })
+  reached-start start old issued = record {
     entries = [];
     named = refl;
     leads = λ run new course. course;
     before = tt;
     others = leaves-self v.begun.id old;
-    made = made;
+    issued = issued;
   }
 
   pub reached-on : (start : SignState K L W) (old : DeskState K D) (place : PollPlace K D L W) → Reached start old place → (change : StepChange K D) → change.old ≡ place.desk
@@ -171,7 +171,7 @@ module _ {K D L W : Type 0} (v : PolledCall K D L W) where
             (r.leads (record { entries = e ∷ run.entries; end = run.end }) new (goes_on place.state next place.desk change.new new g.event g.answered run g.given step g.after course));
         before = subst (λ w. NamedBefore next (option_or w wake)) (sym none) (subst (NamedBefore next) (sym g.named) (named-by (candidate_of place.state) g.answered next g.after));
         others = leaves-trans r.others others;
-        made = g.made;
+        issued = g.issued;
       }
 
   -- a poll that has come to its last step
@@ -180,7 +180,7 @@ module _ {K D L W : Type 0} (v : PolledCall K D L W) where
     pub course : IsCourse v start change.old run change.new
     pub ended : IsStepEnd end change.before change.after run.end
     pub named : wakes_in run.entries ≡ option_to_list wake
-    pub made : IsEndMade v change.new end
+    pub issued : IsEndIssued v change.new end
     pub others : LeavesOthers v.begun.id change.old change.new
 
   pub reached-end : (start : SignState K L W) (old : DeskState K D) (place : PollPlace K D L W) → Reached start old place → (change : StepChange K D) → change.old ≡ place.desk
@@ -191,6 +191,6 @@ module _ {K D L W : Type 0} (v : PolledCall K D L W) where
     course = r.leads e.run change.new (subst (λ d. IsCourse v place.state d e.run change.new) from e.course);
     ended = e.ended;
     named = wakes-append r.entries e.run.entries ∙ ap (λ l. l ++ wakes_in e.run.entries) r.named ∙ ap (λ l. option_to_list place.wake ++ l) e.named ∙ named-first place.state place.wake wake r.before e.quiet;
-    made = e.made;
+    issued = e.issued;
     others = leaves-trans r.others (subst (λ d. LeavesOthers v.begun.id d change.new) from e.others);
   }

@@ -6,16 +6,16 @@ use Rattle.desk_parts.specs.CallAt.{LeavesOthers}
 use Rattle.grant_desk.specs.GrantDeskState.{GrantState}
 use Rattle.grant_desk.specs.GrantSteps.{IsGrantStep}
 use Rattle.granter.specs.Course.{PollEnd, Pends, Gives, Refuses, RunsOut, PollRun, PolledCall, IsGiven, IsCourse, state_after}
-use Rattle.granter.specs.MadeBy.{IsStateMade}
+use Rattle.granter.specs.IssuedBy.{IsStateIssued}
 use Rattle.granter.specs.ObjectPoll.{BegunCall}
 use Rattle.granter.specs.declared.grant.CallState.{CallState}
 use Rattle.granter.specs.declared.grant.CallState.TheVariants.{Waiting, Loading, Granting}
 use Rattle.granter.specs.declared.grant_poll.GrantPoll.{GrantPoll}
 use Rattle.granter.specs.declared.grant_poll.GrantPoll.TheVariants as answer
-use Rattle.granter.specs.declared.went.StepEnd.{StepEnd}
-use Rattle.granter.specs.declared.went.StepEnd.TheVariants.{Pending, Given, Refused, OutOfMemory}
-use Rattle.granter.specs.declared.went.Went.{Went}
-use Rattle.granter.specs.declared.went.Went.TheVariants.{On, Over}
+use Rattle.granter.specs.declared.step_outcome.StepEnd.{StepEnd}
+use Rattle.granter.specs.declared.step_outcome.StepEnd.TheVariants.{Pending, Given, Refused, OutOfMemory}
+use Rattle.granter.specs.declared.step_outcome.StepFlow.{StepFlow}
+use Rattle.granter.specs.declared.step_outcome.StepFlow.TheVariants.{On, Over}
 
 -- the desk before and after a step
 pub record StepChange (K D : Type 0) : Type 0 where
@@ -47,12 +47,12 @@ module _ {K L W : Type 0} where
   IsStepEnd end other = ⊥
 
 module _ {K D L W : Type 0} (v : PolledCall K D L W) where
-  -- a state that is kept at the end was made for the call
-  abbrev pub IsEndMade : GrantState K D → StepEnd K L W → Type 0
-  IsEndMade desk (Pending state) = IsStateMade v.meaning v.begun desk state
-  IsEndMade desk (OutOfMemory state) = IsStateMade v.meaning v.begun desk state
-  IsEndMade desk (Given credential) = Unit {0}
-  IsEndMade desk (Refused refused) = Unit {0}
+  -- a state that is kept at the end was issued for the call
+  abbrev pub IsEndIssued : GrantState K D → StepEnd K L W → Type 0
+  IsEndIssued desk (Pending state) = IsStateIssued v.meaning v.begun desk state
+  IsEndIssued desk (OutOfMemory state) = IsStateIssued v.meaning v.begun desk state
+  IsEndIssued desk (Given credential) = Unit {0}
+  IsEndIssued desk (Refused refused) = Unit {0}
 
   -- the step makes an event of the desk, by whose reply the call goes on from the next state
   pub record GoesOn (state : CallState K L W) (change : StepChange K D) (next : CallState K L W) : Type 0 where
@@ -62,7 +62,7 @@ module _ {K D L W : Type 0} (v : PolledCall K D L W) where
     pub step : IsGrantStep v.policy event change.old answered change.new
     pub after : state_after answered ≡ Some next
     pub later : ComesLater state next
-    pub made : IsStateMade v.meaning v.begun change.new next
+    pub issued : IsStateIssued v.meaning v.begun change.new next
     pub others : LeavesOthers v.begun.id change.old change.new
 
   -- the step is the last of the poll
@@ -70,10 +70,10 @@ module _ {K D L W : Type 0} (v : PolledCall K D L W) where
     pub run : PollRun K L W
     pub course : IsCourse v state change.old run change.new
     pub ended : IsStepEnd end run.end
-    pub made : IsEndMade change.new end
+    pub issued : IsEndIssued change.new end
     pub others : LeavesOthers v.begun.id change.old change.new
 
   -- what the step of a call in this state came to
-  abbrev pub IsTaken : CallState K L W → StepChange K D → Went K L W → Type 0
-  IsTaken state change (On next) = GoesOn state change next
-  IsTaken state change (Over end) = Ends state change end
+  abbrev pub IsStepOutcome : CallState K L W → StepChange K D → StepFlow K L W → Type 0
+  IsStepOutcome state change (On next) = GoesOn state change next
+  IsStepOutcome state change (Over end) = Ends state change end
