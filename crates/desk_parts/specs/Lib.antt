@@ -17,7 +17,3 @@ pub mod Memory
 pub mod Cause
 pub mod Caches
 pub mod StepsBy
-pub mod ProviderList
-pub mod LoadAnswer
-pub mod CallAt
-pub mod RefusalText

@@ -1,6 +1,6 @@
 //! Calls of a granter on one thread: what no clause of `Granter` says.
 ghost use Rattle.std.specs.Prelude.{◌<◌, length, IfSome, IsTrue};
-ghost use Rattle.desk_parts.specs.ProviderList.{AreFew};
+ghost use Rattle.desk_driver.specs.ProviderList.{AreFew};
 
 use crate::key::Key;
 use crate::objects::{Issuer, Source, Vault};

@@ -19,7 +19,7 @@ use Rattle.sequential_signer.specs.declared.grant_event.GrantReply.TheVariants.{
 use Rattle.sequential_signer.specs.declared.grant_event.GrantWhy.TheVariants as cause
 use Rattle.sequential_signer.specs.declared.grant_event.Made.TheVariants as made
 use Rattle.desk_parts.specs.Action.{as_viewed, Does, Allocates, end_effect}
-use Rattle.desk_parts.specs.CallAt.{record_of, IsAt, IsSigning, IsAsking, HasProvider, LeavesOthers}
+use Rattle.desk_driver.specs.CallAt.{record_of, IsAt, IsSigning, IsAsking, HasProvider, LeavesOthers}
 use Rattle.desk_parts.specs.Change.{ChangesOnlyCall, with_cached}
 use Rattle.desk_parts.specs.HoldProgress.{desk_lookup, desk_load, next_load, desk_look_input, with_answer}
 use Rattle.desk_parts.specs.LiveCallView.{stored_view, find_view}

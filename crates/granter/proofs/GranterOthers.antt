@@ -7,7 +7,7 @@ use Rattle.sequential_signer.specs.declared.event.Loader.{Loader}
 use Rattle.grant_desk.specs.GrantDeskState.{GrantState}
 use Rattle.desk_parts.specs.Tables.{find_call}
 use Rattle.desk_parts.specs.Places.{provider_count}
-use Rattle.desk_parts.specs.CallAt.{IsLive, HasProvider, loader_of, LeavesOthers}
+use Rattle.desk_driver.specs.CallAt.{IsLive, HasProvider, loader_of, LeavesOthers}
 use Rattle.granter.specs.IssuedBy.{IsStateIssued, IsGrantIssuedBy}
 use Rattle.granter.specs.GranterInvariant.{GranterState}
 use Rattle.granter.specs.GranterObjects.{Meanings, Objects, CallMeaning, call_meaning, objects_of}

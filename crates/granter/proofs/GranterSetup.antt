@@ -13,7 +13,7 @@ use Rattle.grant_desk.specs.GrantDeskState.{GrantState, GrantRepresents, with_so
 use Rattle.desk_parts.specs.Tables.{setup_of}
 use Rattle.desk_parts.specs.Adding.{with_rule, with_handle}
 use Rattle.granter.specs.GranterInvariant.{GranterState, IsGranter, is_above_all, with_context_handle, with_service_handle, with_cache_handle}
-use Rattle.desk_parts.specs.ProviderList.{loader_for, AreFew}
+use Rattle.desk_driver.specs.ProviderList.{loader_for, AreFew}
 use Rattle.granter.specs.GranterObjects.{Objects, objects_of}
 use Rattle.granter.proofs.GranterObjectsAt.{index-is}
 use Rattle.desk_parts.proofs.IsWellFormedSetup.{longer, each-more, each-by, set_up-cache, set_up-rule, set_up-handle}

@@ -1,12 +1,12 @@
 -- What the objects of a call mean, by the one that is asked.
 use Rattle.std.proofs.Common.{◌≡◌, ℕ, Option, Some, None, IsSome, IsSomeAnd, refl, sym, subst}
 use Rattle.credentials.specs.declared.polled.Polled.{Polled}
-use Rattle.desk_parts.specs.LoadAnswer.{IsLoadKept, IsLoadPending, LoadRunsOut}
+use Rattle.desk_driver.specs.LoadAnswer.{IsLoadKept, IsLoadPending, LoadRunsOut}
 use Rattle.granter.specs.IssuedBy.{IsLoadMade}
 use Rattle.granter.specs.GranterObjects.{Meanings, Objects, call_meaning}
-use Rattle.desk_parts.specs.ProviderList.{provider_at}
+use Rattle.desk_driver.specs.ProviderList.{provider_at}
 use Rattle.granter.specs.ObjectPoll.{BegunCall}
-use Rattle.desk_parts.specs.declared.load_state.LoadState.{LoadState}
+use Rattle.desk_driver.specs.declared.load_state.LoadState.{LoadState}
 
 module _ {P G K C L W : Type 0} (m : Meanings P G K C L W) (o : Objects P G C) (begun : BegunCall) (place : ℕ) (p : P) (there : provider_at o.providers place ≡ Some p) where
   pub load-pends : (l : LoadState K L) → IsLoadPending (m.load_started p o.ctx) (m.load_ready p o.ctx) l

@@ -3,9 +3,9 @@ use Rattle.std.proofs.Common.{◌≡◌, ℕ, ◌<◌, ◌-◌, zero, suc, Some,
 use Rattle.credentials.specs.declared.providers.Providers.{Providers}
 use Rattle.credentials.specs.declared.providers.Providers.TheVariants as providers
 use Rattle.sequential_signer.specs.declared.event.Loader.{Loader}
-use Rattle.desk_parts.specs.CallAt.{HasProvider, loader_of}
+use Rattle.desk_driver.specs.CallAt.{HasProvider, loader_of}
 use Rattle.desk_parts.specs.Places.{provider_count}
-use Rattle.desk_parts.specs.ProviderList.{loader_for, provider_at}
+use Rattle.desk_driver.specs.ProviderList.{loader_for, provider_at}
 use Rattle.desk_parts.proofs.ListPlaces.{place-there}
 use Rattle.grant_desk.specs.GrantDeskState.{GrantState}
 use Rattle.granter.specs.Course.{PollEnd, Pends, Gives, Refuses, RunsOut, PolledCall, IsDriven, IsEnd, IsAnswerIssued}

@@ -1,8 +1,8 @@
 -- A poll that is under way: from its beginning to each of its steps, and to its end.
 use Rattle.std.proofs.Common.{◌≡◌, ℕ, ◌<◌, Some, IsSome, refl, sym, ◌∙◌, subst}
 use Rattle.wake_lock.specs.declared.CallId.{CallId}
-use Rattle.desk_parts.specs.CallAt.{loader_of, LeavesOthers}
-use Rattle.desk_parts.specs.ProviderList.{loader_for}
+use Rattle.desk_driver.specs.CallAt.{loader_of, LeavesOthers}
+use Rattle.desk_driver.specs.ProviderList.{loader_for}
 use Rattle.grant_desk.specs.GrantDeskState.{GrantState}
 use Rattle.granter.specs.PollContext.{PollContext, call_with, IsService, IsIssuedFor, IsOutcomeWith, IsDrivenFrom}
 use Rattle.granter.specs.GranterObjects.{service_of}

@@ -11,10 +11,10 @@ use Rattle.sequential_signer.specs.declared.grant_event.GrantReply.TheVariants a
 use Rattle.sequential_signer.specs.declared.grant_event.GrantWhy.{GrantWhy}
 use Rattle.sequential_signer.specs.declared.grant_event.GrantWhy.TheVariants as why
 use Rattle.sequential_signer.specs.declared.grant_event.Made.TheVariants as made
-use Rattle.desk_parts.specs.CallAt.{IsAsking, IsSigning, LeavesOthers}
-use Rattle.desk_parts.specs.LoadAnswer.{IsLoadPending, KeepsLoad, IsLoadOpen, LoadRunsOut}
-use Rattle.desk_parts.specs.declared.load_state.LoadState.{LoadState}
-use Rattle.desk_parts.specs.declared.load_state.LoadState.TheVariants as load
+use Rattle.desk_driver.specs.CallAt.{IsAsking, IsSigning, LeavesOthers}
+use Rattle.desk_driver.specs.LoadAnswer.{IsLoadPending, KeepsLoad, IsLoadOpen, LoadRunsOut}
+use Rattle.desk_driver.specs.declared.load_state.LoadState.{LoadState}
+use Rattle.desk_driver.specs.declared.load_state.LoadState.TheVariants as load
 use Rattle.desk_parts.specs.Memory.{ClonesAreFree}
 use Rattle.grant_desk.specs.GrantSteps.{IsGrantStep, RunsOutAtBegins}
 use Rattle.granter.specs.DeskReplies.{IsUnpolled, AfterPoll, AfterFound, AfterNone, AfterMade, is_of_look, is_of_check}

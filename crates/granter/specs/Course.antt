@@ -15,10 +15,10 @@ use Rattle.sequential_signer.specs.declared.grant_event.GrantWhy.{GrantWhy}
 use Rattle.sequential_signer.specs.declared.grant_event.GrantWhy.TheVariants as why
 use Rattle.sequential_signer.specs.declared.grant_event.Made.{Made}
 use Rattle.sequential_signer.specs.declared.grant_event.Made.TheVariants as made
-use Rattle.desk_parts.specs.CallAt.{LeavesOthers}
-use Rattle.desk_parts.specs.LoadAnswer.{IsLoadPending, LoadRunsOut}
-use Rattle.desk_parts.specs.declared.load_state.LoadState.{LoadState}
-use Rattle.desk_parts.specs.declared.load_state.LoadState.TheVariants as load
+use Rattle.desk_driver.specs.CallAt.{LeavesOthers}
+use Rattle.desk_driver.specs.LoadAnswer.{IsLoadPending, LoadRunsOut}
+use Rattle.desk_driver.specs.declared.load_state.LoadState.{LoadState}
+use Rattle.desk_driver.specs.declared.load_state.LoadState.TheVariants as load
 use Rattle.grant_desk.specs.GrantDeskState.{GrantState, GrantRepresents}
 use Rattle.desk_parts.specs.Memory.{ClonesAreFree}
 use Rattle.grant_desk.specs.GrantSteps.{IsGrantStep, RunsOutAtBegins}

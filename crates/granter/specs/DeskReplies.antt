@@ -11,7 +11,7 @@ use Rattle.sequential_signer.specs.declared.grant_event.GrantWhy.{GrantWhy}
 use Rattle.sequential_signer.specs.declared.grant_event.GrantWhy.TheVariants.{Missing, Short, Range, Stale}
 use Rattle.sequential_signer.specs.declared.grant_event.Made.TheVariants as made
 use Rattle.desk_parts.specs.Tables.{find_call}
-use Rattle.desk_parts.specs.CallAt.{IsAt, IsSigning, IsAsking}
+use Rattle.desk_driver.specs.CallAt.{IsAt, IsSigning, IsAsking}
 use Rattle.desk_parts.specs.declared.call_record.Stage.TheVariants.{Unpolled}
 use Rattle.grant_desk.specs.GrantDeskState.{GrantState}
 use Rattle.granter.specs.ObjectPoll.{BegunCall}

@@ -6,7 +6,7 @@ use Rattle.sequential_signer.specs.Setup.{Handle}
 use Rattle.sequential_signer.specs.declared.event.Loader.{Loader}
 use Rattle.sequential_signer.specs.Policy.{Policy}
 use Rattle.desk_parts.specs.Adding.{with_rule, with_handle}
-use Rattle.desk_parts.specs.ProviderList.{loader_for, AreFew}
+use Rattle.desk_driver.specs.ProviderList.{loader_for, AreFew}
 use Rattle.desk_parts.specs.WellFormedSetup.{IsWellFormedSetup}
 use Rattle.desk_parts.specs.Tables.{setup_of}
 use Rattle.grant_desk.specs.GrantDeskState.{GrantState, GrantRepresents, with_source}

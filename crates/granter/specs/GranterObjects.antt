@@ -5,7 +5,7 @@ use Rattle.credentials.specs.declared.polled.Polled.{Polled}
 use Rattle.credentials.specs.declared.provide.ProvideCredential as ProvideCredential
 use Rattle.credentials.specs.declared.providers.Providers.{Providers}
 use Rattle.credentials.specs.Operation.{Operation}
-use Rattle.desk_parts.specs.ProviderList.{provider_at}
+use Rattle.desk_driver.specs.ProviderList.{provider_at}
 use Rattle.grant_desk.specs.GrantDeskState.{GrantState}
 use Rattle.granter.specs.GranterInvariant.{GranterState, providers_of}
 use Rattle.granter.specs.ObjectPoll.{BegunCall, operation_of}

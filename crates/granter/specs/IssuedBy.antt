@@ -1,8 +1,8 @@
 -- The states of calls that a granter issued.
 use Rattle.std.specs.Prelude.{ℕ, IsSomeAnd}
-use Rattle.desk_parts.specs.CallAt.{IsAsking, IsSigning}
-use Rattle.desk_parts.specs.LoadAnswer.{IsLoadKept}
-use Rattle.desk_parts.specs.declared.load_state.LoadState.{LoadState}
+use Rattle.desk_driver.specs.CallAt.{IsAsking, IsSigning}
+use Rattle.desk_driver.specs.LoadAnswer.{IsLoadKept}
+use Rattle.desk_driver.specs.declared.load_state.LoadState.{LoadState}
 use Rattle.grant_desk.specs.GrantDeskState.{GrantState}
 use Rattle.granter.specs.DeskReplies.{IsUnpolled}
 use Rattle.granter.specs.GranterInvariant.{GranterState}

@@ -3,7 +3,7 @@ use Rattle.std.specs.Prelude.{option_map}
 use Rattle.std.specs.Duration.{as_nanos}
 use Rattle.credentials.specs.declared.grant.GrantCredential as GrantCredential
 use Rattle.credentials.specs.Operation.{Operation}
-use Rattle.desk_parts.specs.declared.begun_call.BegunCall.{BegunCall as Begun}
+use Rattle.desk_driver.specs.declared.begun_call.BegunCall.{BegunCall as Begun}
 use Rattle.granter.specs.ObjectAnswer.{ServiceMeaning}
 
 -- a call that a granter began, which names no head

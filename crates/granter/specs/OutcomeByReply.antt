@@ -4,7 +4,7 @@ use Rattle.sequential_signer.specs.declared.grant_event.GrantReply.{GrantReply}
 use Rattle.sequential_signer.specs.declared.grant_event.GrantReply.TheVariants as reply
 use Rattle.sequential_signer.specs.declared.grant_event.GrantWhy.{GrantWhy}
 use Rattle.sequential_signer.specs.declared.grant_event.GrantWhy.TheVariants as why
-use Rattle.desk_parts.specs.declared.load_state.LoadState.TheVariants as load
+use Rattle.desk_driver.specs.declared.load_state.LoadState.TheVariants as load
 use Rattle.granter.specs.declared.grant.CallState.TheVariants.{Waiting, Loading, Granting}
 use Rattle.granter.specs.declared.grant.WorkState.TheVariants as work
 use Rattle.granter.specs.declared.refusal.GrantRefusal.{GrantRefusal}

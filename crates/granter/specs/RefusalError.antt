@@ -1,7 +1,7 @@
 -- A refusal as an error.
 use Rattle.std.specs.Prelude.{ℕ, List}
 use Rattle.sign_base.specs.Error.{ErrorParts}
-use Rattle.desk_parts.specs.RefusalText.{range_error}
+use Rattle.desk_driver.specs.RefusalText.{range_error}
 use Rattle.granter.specs.RefusalText.{missing_error, short_error, stale_error}
 use Rattle.granter.specs.declared.refusal.GrantRefusal.{GrantRefusal}
 use Rattle.granter.specs.declared.refusal.GrantRefusal.TheVariants.{Missing, Short, Range, Loader, Service, Stale}

@@ -2,7 +2,7 @@
 use Rattle.std.specs.Prelude.{◌≡◌, ◌+◌, Some}
 use Rattle.sequential_signer.specs.declared.grant_event.GrantEvent.{GrantEvent}
 use Rattle.sequential_signer.specs.declared.grant_event.GrantReply.{GrantReply}
-use Rattle.desk_parts.specs.CallAt.{LeavesOthers}
+use Rattle.desk_driver.specs.CallAt.{LeavesOthers}
 use Rattle.grant_desk.specs.GrantDeskState.{GrantState}
 use Rattle.grant_desk.specs.GrantSteps.{IsGrantStep}
 use Rattle.granter.specs.Course.{PollEnd, Pends, Gives, Refuses, RunsOut, PollRun, PolledCall, IsGiven, IsCourse, state_after}

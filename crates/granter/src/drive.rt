@@ -9,11 +9,11 @@ ghost use Rattle.sequential_signer.specs.declared.grant_event.GrantWhy.TheVarian
 ghost use Rattle.sequential_signer.specs.declared.grant_event.Made.TheVariants as made;
 ghost use Rattle.desk_parts.specs.Memory.{ClonesAreFree};
 ghost use Rattle.grant_desk.specs.GrantSteps.{IsGrantStep, RunsOutAtBegins};
-ghost use Rattle.desk_parts.specs.CallAt.{IsLive, IsAsking, IsSigning, LeavesOthers};
+ghost use Rattle.desk_driver.specs.CallAt.{IsLive, IsAsking, IsSigning, LeavesOthers};
 ghost use Rattle.granter.specs.DeskReplies.{IsUnpolled, IsBegun, AfterPoll, AfterFound, AfterNone, AfterMade, found_in_event, made_in_event};
 
 use credentials::{DeadlineRule, SigningCredential};
-use desk_parts::BegunCall;
+use desk_driver::BegunCall;
 use grant_desk::GrantDesk;
 use sequential_signer::{Answer, GrantEvent, GrantReply, Made};
 use sign_base::{NoMemory, Timestamp};

@@ -1,8 +1,8 @@
 //! One poll of a call: steps, one after another, as far as its objects answer now.
 ghost use Rattle.std.specs.Prelude.{◌≡◌, Some, IsSome};
 ghost use Rattle.sequential_signer.specs.Policy.{policy_of};
-ghost use Rattle.desk_parts.specs.CallAt.{loader_of};
-ghost use Rattle.desk_parts.specs.ProviderList.{loader_for};
+ghost use Rattle.desk_driver.specs.CallAt.{loader_of};
+ghost use Rattle.desk_driver.specs.ProviderList.{loader_for};
 ghost use Rattle.granter.specs.PollContext.{IsIssuedFor, IsDrivenFrom};
 ghost use Rattle.granter.specs.GranterObjects.{meanings_of, service_of};
 ghost use Rattle.granter.specs.StepOutcome.{answer_by};
@@ -13,7 +13,7 @@ use crate::grant_poll::GrantPoll;
 use crate::step_call::step;
 use crate::step_outcome::{StepEnd, StepFlow};
 use credentials::{GrantCredential, ProvideCredential, SigningCredential};
-use desk_parts::BegunCall;
+use desk_driver::BegunCall;
 use grant_desk::GrantDesk;
 use sign_base::Timestamp;
 

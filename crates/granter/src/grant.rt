@@ -1,7 +1,7 @@
 //! What a granter keeps of a call between its polls. Its caller holds it, and hands it in at each poll.
 
 use credentials::{GrantCredential, ProvideCredential};
-use desk_parts::{BegunCall, LoadState};
+use desk_driver::{BegunCall, LoadState};
 use std::fmt;
 
 /// The work of the granting service.

@@ -6,7 +6,7 @@ ghost use Rattle.granter.specs.declared.grant.WorkState.TheVariants as work_stat
 use crate::grant::WorkState;
 use crate::object_answer::WorkAnswer;
 use credentials::{GrantCredential, Polled};
-use desk_parts::BegunCall;
+use desk_driver::BegunCall;
 use std::alloc::Global;
 
 /// Polls a work. It is started first where it is not yet.

@@ -2,7 +2,7 @@
 ghost use Rattle.std.specs.Prelude.{◌≡◌, IfOk, IfErr};
 ghost use Rattle.granter.specs.RefusalError.{error_of};
 
-use desk_parts::{credential_refused, credential_refused_at, range_refused};
+use desk_driver::{credential_refused, credential_refused_at, range_refused};
 use sign_base::{Error, NoMemory, Timestamp};
 use std::alloc::Global;
 

@@ -1,7 +1,7 @@
 //! One step of a call: the desk is polled, or the object that was asked, whose answer goes to the desk.
 ghost use Rattle.std.specs.Prelude.{◌≡◌, Some, IsSome};
-ghost use Rattle.desk_parts.specs.CallAt.{loader_of};
-ghost use Rattle.desk_parts.specs.ProviderList.{loader_for};
+ghost use Rattle.desk_driver.specs.CallAt.{loader_of};
+ghost use Rattle.desk_driver.specs.ProviderList.{loader_for};
 ghost use Rattle.sequential_signer.specs.Policy.{policy_of};
 ghost use Rattle.granter.specs.PollContext.{IsIssuedFor, IsOutcomeWith};
 ghost use Rattle.granter.specs.GranterObjects.{meanings_of, service_of};
@@ -16,7 +16,7 @@ use crate::refusal::GrantRefusal;
 use crate::step_outcome::{StepEnd, StepFlow};
 use crate::step_reply::{after_found, after_made, after_none, after_poll};
 use credentials::{GrantCredential, ProvideCredential, SigningCredential};
-use desk_parts::{BegunCall, LoadAnswer, LoadState, poll_provider, provider_at};
+use desk_driver::{BegunCall, LoadAnswer, LoadState, poll_provider, provider_at};
 use grant_desk::GrantDesk;
 use sign_base::Timestamp;
 

@@ -5,7 +5,7 @@ ghost use Rattle.granter.specs.OutcomeByReply.{plain_refusal, flow_after_poll, f
 use crate::grant::{CallState, WorkState};
 use crate::refusal::GrantRefusal;
 use crate::step_outcome::{StepEnd, StepFlow};
-use desk_parts::LoadState;
+use desk_driver::LoadState;
 use sequential_signer::{GrantReply, GrantWhy};
 
 /// A poll of a call that has not looked at its cache yet. The desk replies out of memory where it replies

@@ -11,7 +11,7 @@ use Rattle.sign_desk.specs.DeskState.{DeskState, Represents}
 use Rattle.desk_parts.specs.Memory.{ClonesAreFree}
 use Rattle.sign_desk.specs.Memory.{RunsOutAtHeads}
 use Rattle.sign_desk.specs.Steps.{IsStep}
-use Rattle.desk_parts.specs.CallAt.{LeavesOthers}
+use Rattle.desk_driver.specs.CallAt.{LeavesOthers}
 use Rattle.signer.specs.IssuedBy.{IsStateIssued}
 use Rattle.signer.specs.Course.{PollEnd, PollRun, PolledCall, IsGiven, IsCourse, stops, ends, goes_on, StopsAt, EndsBy, candidate_of, state_after, wake_in, wakes_in}
 use Rattle.signer.specs.StepOutcome.{StepChange, ComesLater, NamesNobody, IsStepEnd, IsEndIssued, GoesOn, Ends}

@@ -31,12 +31,12 @@ use Rattle.sign_desk.specs.HoldAction.{Hold, first_hold, waited_hold, loading_ho
 use Rattle.desk_parts.specs.HoldProgress.{desk_lookup, desk_load, next_load, desk_look_input}
 use Rattle.sign_desk.specs.Transition.{Transition, poll_action, first_poll_action, later_poll_action, load_action, provided_action, signed_action, accept_action, cancel_action, live_action}
 use Rattle.desk_parts.specs.HoldProgress.{with_answer}
-use Rattle.desk_parts.specs.CallAt.{record_of, IsAt, IsWaiting, IsSigning, IsAsking, HasProvider, LeavesOthers}
+use Rattle.desk_driver.specs.CallAt.{record_of, IsAt, IsWaiting, IsSigning, IsAsking, HasProvider, LeavesOthers}
 use Rattle.signer.specs.DeskReplies.{AfterPoll, AfterFound, AfterNone, AfterAccepted, is_of_look, is_of_check}
 use Rattle.sign_desk.specs.Records.{CallRecord}
 use Rattle.desk_parts.specs.declared.call_record.Stage.{Stage}
 use Rattle.desk_parts.specs.declared.call_record.Stage.TheVariants as stage
-use Rattle.sign_desk.specs.Records.{BegunCall}
+use Rattle.signer.specs.BegunCall.{BegunCall}
 use Rattle.desk_parts.specs.declared.tables.LiveCallView.{LiveCallView}
 use Rattle.desk_parts.proofs.ListPlaces.{place-there}
 use Rattle.desk_parts.proofs.Views.{find_view-is}

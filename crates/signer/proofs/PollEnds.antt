@@ -7,13 +7,13 @@ use Rattle.credentials.specs.declared.providers.Providers.TheVariants as provide
 use Rattle.sequential_signer.specs.declared.event.Loader.{Loader}
 use Rattle.sign_desk.specs.DeskState.{DeskState}
 use Rattle.desk_parts.specs.Places.{provider_count}
-use Rattle.desk_parts.specs.CallAt.{HasProvider, loader_of}
+use Rattle.desk_driver.specs.CallAt.{HasProvider, loader_of}
 use Rattle.signer.specs.IssuedBy.{IsStateIssued}
-use Rattle.desk_parts.specs.ProviderList.{loader_for}
-use Rattle.desk_parts.specs.ProviderList.{provider_at}
+use Rattle.desk_driver.specs.ProviderList.{loader_for}
+use Rattle.desk_driver.specs.ProviderList.{provider_at}
 use Rattle.signer.specs.Course.{PollEnd, Pends, Finishes, Refuses, RunsOut, PolledCall, IsDriven, IsEnd, IsAnswerIssued}
 use Rattle.signer.specs.StepOutcome.{StepChange, ComesLater, IsStepEnd, IsEndIssued, answer_by}
-use Rattle.sign_desk.specs.Records.{BegunCall}
+use Rattle.signer.specs.BegunCall.{BegunCall}
 use Rattle.signer.specs.declared.sign.SignState.{SignState}
 use Rattle.signer.specs.declared.sign.SignState.TheVariants.{Waiting, Loading, Signing}
 use Rattle.signer.specs.declared.step_outcome.StepEnd.{StepEnd}

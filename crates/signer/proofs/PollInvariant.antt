@@ -4,8 +4,8 @@ use Rattle.std.specs.Option.{option_or}
 use Rattle.http.specs.declared.request.Parts.{Parts}
 use Rattle.wake_lock.specs.declared.CallId.{CallId}
 use Rattle.sign_desk.specs.DeskState.{DeskState}
-use Rattle.desk_parts.specs.CallAt.{loader_of, LeavesOthers}
-use Rattle.desk_parts.specs.ProviderList.{loader_for}
+use Rattle.desk_driver.specs.CallAt.{loader_of, LeavesOthers}
+use Rattle.desk_driver.specs.ProviderList.{loader_for}
 use Rattle.signer.specs.SignerObjects.{service_of}
 use Rattle.signer.specs.Course.{IsDriven}
 use Rattle.signer.specs.StepOutcome.{StepChange, Goes, GoesOn, Ends, answer_by}

@@ -14,7 +14,7 @@ use Rattle.signer.specs.IssuedBy.{IsStateIssued, IsIssuedBy}
 use Rattle.signer.specs.SignerCalls.{Begins}
 use Rattle.signer.specs.SignerInvariant.{SignerState, IsSigner}
 use Rattle.signer.specs.SignerObjects.{Meanings, Objects, call_meaning, objects_of}
-use Rattle.sign_desk.specs.Records.{BegunCall}
+use Rattle.signer.specs.BegunCall.{BegunCall}
 use Rattle.signer.specs.declared.sign.Sign.{Sign}
 use Rattle.signer.specs.declared.sign.SignState.TheVariants.{Waiting}
 use Rattle.signer.proofs.SignerOthers.{KeepsCall, differs, keeps-issued}

@@ -4,9 +4,9 @@ use Rattle.std.specs.List.{slice_index_or}
 use Rattle.std.proofs.lemmas.Option.{slice_get-map, get_or_from_slice_get}
 use Rattle.credentials.specs.declared.providers.Providers.{Providers}
 use Rattle.sequential_signer.specs.Setup.{Handle}
-use Rattle.desk_parts.specs.CallAt.{loader_of}
+use Rattle.desk_driver.specs.CallAt.{loader_of}
 use Rattle.signer.specs.SignerInvariant.{SignerState}
-use Rattle.desk_parts.specs.ProviderList.{loader_for}
+use Rattle.desk_driver.specs.ProviderList.{loader_for}
 use Rattle.signer.specs.SignerObjects.{Objects, objects_by, objects_of, service_of}
 
 module _ {P S K C : Type 0} (s : SignerState P S K C) (handle : ℕ) where

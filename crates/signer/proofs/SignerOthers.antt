@@ -7,7 +7,7 @@ use Rattle.sequential_signer.specs.declared.event.Loader.{Loader}
 use Rattle.sign_desk.specs.DeskState.{DeskState}
 use Rattle.desk_parts.specs.Tables.{find_call}
 use Rattle.desk_parts.specs.Places.{provider_count}
-use Rattle.desk_parts.specs.CallAt.{IsAt, IsLive, IsWaiting, HasProvider, loader_of, LeavesOthers}
+use Rattle.desk_driver.specs.CallAt.{IsAt, IsLive, IsWaiting, HasProvider, loader_of, LeavesOthers}
 use Rattle.signer.specs.IssuedBy.{IsStateIssued, IsIssuedBy}
 use Rattle.signer.specs.SignerInvariant.{SignerState}
 use Rattle.signer.specs.SignerObjects.{Meanings, Objects, CallMeaning, call_meaning, objects_of}
@@ -17,7 +17,7 @@ use Rattle.signer.specs.declared.sign_poll.SignAnswer.{SignAnswer}
 use Rattle.signer.specs.declared.sign_poll.SignAnswer.TheVariants as answer
 use Rattle.desk_parts.specs.declared.call_record.Stage.{Stage}
 use Rattle.desk_parts.specs.declared.call_record.Stage.TheVariants as stage
-use Rattle.sign_desk.specs.Records.{BegunCall}
+use Rattle.signer.specs.BegunCall.{BegunCall}
 use Rattle.signer.specs.declared.sign.Sign.{Sign}
 use Rattle.signer.specs.declared.sign.SignState.{SignState}
 use Rattle.signer.specs.declared.sign.SignState.TheVariants.{Waiting, Loading, Signing}

@@ -14,7 +14,7 @@ use Rattle.desk_parts.specs.Tables.{setup_of}
 use Rattle.sign_desk.specs.DeskState.{with_cache}
 use Rattle.desk_parts.specs.Adding.{with_rule, with_handle}
 use Rattle.signer.specs.SignerInvariant.{SignerState, IsSigner, is_above_all, with_context_handle, with_service_handle, with_cache_handle}
-use Rattle.desk_parts.specs.ProviderList.{loader_for}
+use Rattle.desk_driver.specs.ProviderList.{loader_for}
 use Rattle.signer.specs.SignerObjects.{Objects, objects_of}
 use Rattle.signer.proofs.SignerObjectsAt.{index-is}
 use Rattle.desk_parts.proofs.IsWellFormedSetup.{longer, each-more, each-by, set_up-cache, set_up-rule, set_up-handle}

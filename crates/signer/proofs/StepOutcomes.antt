@@ -18,17 +18,17 @@ use Rattle.sign_request.specs.Refusal.{RefusedAs}
 use Rattle.desk_parts.specs.Memory.{ClonesAreFree}
 use Rattle.sign_desk.specs.Memory.{RunsOutAtHeads}
 use Rattle.sign_desk.specs.Steps.{IsStep}
-use Rattle.desk_parts.specs.CallAt.{IsWaiting, IsAsking, IsSigning, LeavesOthers}
+use Rattle.desk_driver.specs.CallAt.{IsWaiting, IsAsking, IsSigning, LeavesOthers}
 use Rattle.signer.specs.DeskReplies.{AfterPoll, AfterFound, AfterNone, is_of_look, is_of_check}
-use Rattle.desk_parts.specs.LoadAnswer.{IsLoadPending, KeepsLoad, IsLoadOpen, LoadRunsOut}
+use Rattle.desk_driver.specs.LoadAnswer.{IsLoadPending, KeepsLoad, IsLoadOpen, LoadRunsOut}
 use Rattle.signer.specs.ObjectAnswer.{IsWorkPending, KeepsWork, IsWorkOpen, WorkRunsOut}
 use Rattle.signer.specs.IssuedBy.{IsLoadMade, IsWorkMade}
 use Rattle.signer.specs.Course.{PolledCall, Pends, Finishes, Refuses, RunsOut, IsAnswerGiven, IsVerdictGiven, IsRefusal, FailsWith}
 use Rattle.signer.specs.StepOutcome.{StepChange, IsStepOutcome, Ends}
 use Rattle.signer.specs.OutcomeByReply.{plain_refusal, outcome_after_poll, outcome_after_found, outcome_after_none}
 use Rattle.signer.specs.declared.refusal.Refusal.TheVariants as refusal
-use Rattle.desk_parts.specs.declared.load_state.LoadState.{LoadState}
-use Rattle.desk_parts.specs.declared.load_state.LoadState.TheVariants as load
+use Rattle.desk_driver.specs.declared.load_state.LoadState.{LoadState}
+use Rattle.desk_driver.specs.declared.load_state.LoadState.TheVariants as load
 use Rattle.signer.specs.declared.sign.WorkState.{WorkState}
 use Rattle.signer.specs.declared.sign.WorkState.TheVariants as work
 use Rattle.signer.specs.declared.sign.SignState.TheVariants.{Waiting, Loading, Signing}

@@ -25,16 +25,16 @@ use Rattle.sign_desk.specs.DeskState.{DeskState, Represents}
 use Rattle.desk_parts.specs.Memory.{ClonesAreFree}
 use Rattle.sign_desk.specs.Memory.{RunsOutAtHeads}
 use Rattle.sign_desk.specs.Steps.{IsStep}
-use Rattle.desk_parts.specs.LoadAnswer.{IsLoadPending, LoadRunsOut}
+use Rattle.desk_driver.specs.LoadAnswer.{IsLoadPending, LoadRunsOut}
 use Rattle.signer.specs.ObjectAnswer.{IsWorkPending, WorkRunsOut}
-use Rattle.desk_parts.specs.CallAt.{LeavesOthers}
+use Rattle.desk_driver.specs.CallAt.{LeavesOthers}
 use Rattle.signer.specs.IssuedBy.{IsStateIssued}
 use Rattle.signer.specs.SignerObjects.{Meanings, Objects, CallMeaning, call_meaning}
 use Rattle.signer.specs.declared.refusal.Refusal.{Refusal}
 use Rattle.signer.specs.declared.refusal.Refusal.TheVariants as refusal
-use Rattle.sign_desk.specs.Records.{BegunCall}
-use Rattle.desk_parts.specs.declared.load_state.LoadState.{LoadState}
-use Rattle.desk_parts.specs.declared.load_state.LoadState.TheVariants as load
+use Rattle.signer.specs.BegunCall.{BegunCall}
+use Rattle.desk_driver.specs.declared.load_state.LoadState.{LoadState}
+use Rattle.desk_driver.specs.declared.load_state.LoadState.TheVariants as load
 use Rattle.signer.specs.declared.sign.WorkState.{WorkState}
 use Rattle.signer.specs.declared.sign.WorkState.TheVariants as work
 use Rattle.signer.specs.declared.sign.SignState.{SignState}

@@ -13,9 +13,9 @@ use Rattle.sequential_signer.specs.declared.event.Why.TheVariants.{Missing, Shor
 use Rattle.sign_base.specs.declared.head.Head.{Head}
 use Rattle.sign_desk.specs.DeskState.{DeskState}
 use Rattle.desk_parts.specs.Tables.{find_call}
-use Rattle.desk_parts.specs.CallAt.{IsAt, IsWaiting, IsSigning, IsAsking}
+use Rattle.desk_driver.specs.CallAt.{IsAt, IsWaiting, IsSigning, IsAsking}
 use Rattle.desk_parts.specs.declared.call_record.Stage.TheVariants.{Unpolled}
-use Rattle.sign_desk.specs.Records.{BegunCall}
+use Rattle.signer.specs.BegunCall.{BegunCall}
 
 -- whether a look can refuse for this cause
 abbrev pub is_of_look : Why → Bool

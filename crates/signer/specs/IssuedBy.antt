@@ -1,13 +1,13 @@
 -- The states of calls that a signer issued.
 use Rattle.std.specs.Prelude.{◌≡◌, ℕ, IsSomeAnd}
 use Rattle.sign_desk.specs.DeskState.{DeskState}
-use Rattle.desk_parts.specs.CallAt.{IsWaiting, IsAsking, IsSigning}
-use Rattle.desk_parts.specs.LoadAnswer.{IsLoadKept}
+use Rattle.desk_driver.specs.CallAt.{IsWaiting, IsAsking, IsSigning}
+use Rattle.desk_driver.specs.LoadAnswer.{IsLoadKept}
 use Rattle.signer.specs.ObjectAnswer.{IsWorkKept}
 use Rattle.signer.specs.SignerInvariant.{SignerState}
 use Rattle.signer.specs.SignerObjects.{Meanings, CallMeaning, call_meaning, objects_of}
-use Rattle.sign_desk.specs.Records.{BegunCall}
-use Rattle.desk_parts.specs.declared.load_state.LoadState.{LoadState}
+use Rattle.signer.specs.BegunCall.{BegunCall}
+use Rattle.desk_driver.specs.declared.load_state.LoadState.{LoadState}
 use Rattle.signer.specs.declared.sign.WorkState.{WorkState}
 use Rattle.signer.specs.declared.sign.SignState.{SignState}
 use Rattle.signer.specs.declared.sign.SignState.TheVariants.{Waiting, Loading, Signing}

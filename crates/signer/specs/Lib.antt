@@ -1,3 +1,4 @@
+pub mod BegunCall
 pub mod DeskReplies
 pub mod SignerInvariant
 pub mod ObjectAnswer

@@ -4,7 +4,7 @@ use Rattle.std.specs.Duration.{as_nanos}
 use Rattle.credentials.specs.declared.sign.SignRequest as SignRequest
 use Rattle.credentials.specs.Operation.{Operation}
 use Rattle.signer.specs.ObjectAnswer.{ServiceMeaning}
-use Rattle.sign_desk.specs.Records.{BegunCall}
+use Rattle.signer.specs.BegunCall.{BegunCall}
 
 -- what a service is asked for with this credential
 abbrev pub operation_of : {K : Type 0} → BegunCall → K → Operation K

@@ -7,7 +7,7 @@ use Rattle.sequential_signer.specs.declared.event.Why.{Why}
 use Rattle.sequential_signer.specs.declared.event.Why.TheVariants as why
 use Rattle.signer.specs.declared.refusal.Refusal.{Refusal}
 use Rattle.signer.specs.declared.refusal.Refusal.TheVariants as refusal
-use Rattle.desk_parts.specs.declared.load_state.LoadState.TheVariants as load
+use Rattle.desk_driver.specs.declared.load_state.LoadState.TheVariants as load
 use Rattle.signer.specs.declared.sign.WorkState.TheVariants as work
 use Rattle.signer.specs.declared.sign.SignState.TheVariants.{Waiting, Loading, Signing}
 use Rattle.signer.specs.declared.step_outcome.StepEnd.TheVariants as end

@@ -7,7 +7,7 @@ use Rattle.signer.specs.SignerObjects.{Meanings, service_of, with_service, call_
 use Rattle.signer.specs.Course.{PolledCall, polled_call, PollOutcome, IsDriven}
 use Rattle.signer.specs.StepOutcome.{StepChange, IsStepOutcome}
 use Rattle.signer.specs.declared.call_objects.CallObjects.{CallObjects}
-use Rattle.sign_desk.specs.Records.{BegunCall}
+use Rattle.signer.specs.BegunCall.{BegunCall}
 use Rattle.signer.specs.declared.sign.SignState.{SignState}
 use Rattle.signer.specs.declared.step_outcome.StepOutcome.{StepOutcome}
 

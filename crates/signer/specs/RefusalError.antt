@@ -1,7 +1,7 @@
 -- A refusal as an error.
 use Rattle.std.specs.Prelude.{ℕ, List}
 use Rattle.sign_base.specs.Error.{ErrorParts}
-use Rattle.desk_parts.specs.RefusalText.{range_error}
+use Rattle.desk_driver.specs.RefusalText.{range_error}
 use Rattle.signer.specs.RefusalText.{missing_error, short_error}
 use Rattle.signer.specs.declared.refusal.Refusal.{Refusal}
 use Rattle.signer.specs.declared.refusal.Refusal.TheVariants.{Missing, Short, Range, Loader, Service}

@@ -1,7 +1,7 @@
 -- The errors of a signer's refusals.
 use Rattle.std.specs.Prelude.{ℕ, ℤ, List, codes}
 use Rattle.sign_base.specs.Error.{ErrorParts}
-use Rattle.desk_parts.specs.RefusalText.{credential_error, credential_error_with, moment_line}
+use Rattle.desk_driver.specs.RefusalText.{credential_error, credential_error_with, moment_line}
 
 -- no provider has a credential
 abbrev pub missing_error : List ℕ → ErrorParts

@@ -10,7 +10,7 @@ use Rattle.sign_desk.specs.DeskState.{DeskState, Represents}
 use Rattle.desk_parts.specs.Tables.{setup_of}
 use Rattle.sign_desk.specs.DeskState.{with_cache}
 use Rattle.desk_parts.specs.Adding.{with_rule, with_handle}
-use Rattle.desk_parts.specs.ProviderList.{loader_for}
+use Rattle.desk_driver.specs.ProviderList.{loader_for}
 use Rattle.desk_parts.specs.WellFormedSetup.{IsWellFormedSetup}
 
 -- the desk, the providers of each cache, the contexts, the place of each handle's context, the number of calls begun, and the keys of

@@ -6,10 +6,10 @@ use Rattle.credentials.specs.declared.provide.ProvideCredential as ProvideCreden
 use Rattle.credentials.specs.declared.providers.Providers.{Providers}
 use Rattle.credentials.specs.declared.sign.SignRequest as SignRequest
 use Rattle.credentials.specs.Operation.{Operation, SignOutcome}
-use Rattle.desk_parts.specs.ProviderList.{provider_at}
+use Rattle.desk_driver.specs.ProviderList.{provider_at}
 use Rattle.sign_desk.specs.DeskState.{DeskState}
 use Rattle.signer.specs.ObjectPoll.{operation_of}
-use Rattle.sign_desk.specs.Records.{BegunCall}
+use Rattle.signer.specs.BegunCall.{BegunCall}
 use Rattle.signer.specs.declared.call_objects.CallObjects.{CallObjects}
 use Rattle.signer.specs.SignerInvariant.{SignerState}
 

@@ -7,10 +7,10 @@ use Rattle.sequential_signer.specs.declared.event.Reply.{Reply}
 use Rattle.sign_request.specs.PlainHead.{Commits, RefusesTarget}
 use Rattle.sign_desk.specs.DeskState.{DeskState}
 use Rattle.sign_desk.specs.Steps.{IsStep}
-use Rattle.desk_parts.specs.CallAt.{LeavesOthers}
+use Rattle.desk_driver.specs.CallAt.{LeavesOthers}
 use Rattle.signer.specs.IssuedBy.{IsStateIssued}
 use Rattle.signer.specs.Course.{PollEnd, Pends, Finishes, Refuses, RunsOut, PollRun, PolledCall, IsGiven, IsCourse, candidate_of, state_after, wake_in, wakes_in}
-use Rattle.sign_desk.specs.Records.{BegunCall}
+use Rattle.signer.specs.BegunCall.{BegunCall}
 use Rattle.signer.specs.declared.sign.SignState.{SignState}
 use Rattle.signer.specs.declared.sign.SignState.TheVariants.{Waiting, Loading, Signing}
 use Rattle.signer.specs.declared.sign_poll.SignAnswer.{SignAnswer}

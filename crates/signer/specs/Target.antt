@@ -9,8 +9,8 @@ use Rattle.sequential_signer.specs.declared.event.Event.TheVariants.{Signed}
 use Rattle.sequential_signer.specs.declared.event.Reply.TheVariants.{Done, OutOfMemory}
 use Rattle.sequential_signer.specs.declared.event.Verdict.TheVariants.{Accepted}
 use Rattle.sign_request.specs.PlainHead.{Commits, header_map}
-use Rattle.desk_parts.specs.CallAt.{IsSigning}
-use Rattle.sign_desk.specs.Records.{BegunCall}
+use Rattle.desk_driver.specs.CallAt.{IsSigning}
+use Rattle.signer.specs.BegunCall.{BegunCall}
 use Rattle.sign_desk.specs.Steps.{IsStep}
 use Rattle.signer.specs.StepOutcome.{StepChange}
 

@@ -9,12 +9,12 @@ ghost use Rattle.sequential_signer.specs.declared.event.Why.TheVariants as why;
 ghost use Rattle.sign_desk.specs.Steps.{IsStep};
 ghost use Rattle.desk_parts.specs.Memory.{ClonesAreFree};
 ghost use Rattle.sign_desk.specs.Memory.{RunsOutAtHeads};
-ghost use Rattle.desk_parts.specs.CallAt.{IsLive, IsWaiting, IsAsking, IsSigning, LeavesOthers};
+ghost use Rattle.desk_driver.specs.CallAt.{IsLive, IsWaiting, IsAsking, IsSigning, LeavesOthers};
 ghost use Rattle.signer.specs.DeskReplies.{IsBegun, AfterPoll, AfterFound, AfterNone, AfterAccepted, begun_in_event, found_in_event, accepted_in_event};
 ghost use Rattle.sequential_signer.specs.LiveCall.{is_above};
 
 use credentials::{DeadlineRule, SigningCredential};
-use desk_parts::BegunCall;
+use desk_driver::BegunCall;
 use sequential_signer::{Answer, Event, Reply, Verdict};
 use sign_base::{Head, NoMemory, Timestamp};
 use sign_desk::Desk;

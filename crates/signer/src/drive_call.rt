@@ -1,10 +1,10 @@
 //! One poll of a call: steps, one after another, as far as its objects answer now.
 ghost use Rattle.std.specs.Prelude.{◌≡◌, Some, IsSome};
 ghost use Rattle.sequential_signer.specs.Policy.{policy_of};
-ghost use Rattle.desk_parts.specs.CallAt.{loader_of};
+ghost use Rattle.desk_driver.specs.CallAt.{loader_of};
 ghost use Rattle.signer.specs.PollContext.{IsIssuedFor, IsDrivenFrom};
 ghost use Rattle.signer.specs.StepOutcome.{answer_by};
-ghost use Rattle.desk_parts.specs.ProviderList.{loader_for};
+ghost use Rattle.desk_driver.specs.ProviderList.{loader_for};
 ghost use Rattle.signer.specs.SignerObjects.{meanings_of, service_of};
 
 use crate::call_objects::CallObjects;
@@ -13,7 +13,7 @@ use crate::sign_poll::{SignAnswer, SignPoll};
 use crate::step_call::step;
 use crate::step_outcome::{StepEnd, StepFlow};
 use credentials::{ProvideCredential, SignRequest, SigningCredential};
-use desk_parts::BegunCall;
+use desk_driver::BegunCall;
 use http::request::Parts;
 use sign_base::{Head, Timestamp};
 use sign_desk::Desk;

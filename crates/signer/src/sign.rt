@@ -1,7 +1,7 @@
 //! What a signer keeps of a call between its polls. Its caller holds it, and hands it in at each poll.
 
 use credentials::{ProvideCredential, SignRequest};
-use desk_parts::{BegunCall, LoadState};
+use desk_driver::{BegunCall, LoadState};
 use sign_base::Head;
 use std::fmt;
 

@@ -8,7 +8,7 @@ ghost use Rattle.signer.specs.declared.sign.WorkState.TheVariants as work_state;
 use crate::object_answer::WorkAnswer;
 use crate::sign::WorkState;
 use credentials::{Polled, SignRequest};
-use desk_parts::BegunCall;
+use desk_driver::BegunCall;
 use sign_base::Head;
 use std::alloc::Global;
 

@@ -1,13 +1,13 @@
 //! One step of a call: the desk is polled, or the object that was asked, whose answer goes to the desk.
 ghost use Rattle.std.specs.Prelude.{◌≡◌, None, Some, IsSome};
-ghost use Rattle.desk_parts.specs.CallAt.{loader_of};
-ghost use Rattle.desk_parts.specs.ProviderList.{loader_for};
+ghost use Rattle.desk_driver.specs.CallAt.{loader_of};
+ghost use Rattle.desk_driver.specs.ProviderList.{loader_for};
 ghost use Rattle.http.specs.declared.request.Parts.{Parts};
 ghost use Rattle.sequential_signer.specs.Policy.{policy_of};
 ghost use Rattle.signer.specs.PollContext.{IsIssuedFor, IsOutcomeWith};
 ghost use Rattle.signer.specs.ObjectAnswer.{KeepsWork};
 ghost use Rattle.signer.specs.SignerObjects.{meanings_of, service_of};
-ghost use Rattle.desk_parts.specs.ProviderList.{provider_at};
+ghost use Rattle.desk_driver.specs.ProviderList.{provider_at};
 ghost use Rattle.signer.specs.declared.sign.SignState.TheVariants.{Loading, Signing};
 ghost use Rattle.signer.specs.declared.sign.WorkState.{WorkState};
 ghost use Rattle.signer.specs.declared.sign.WorkState.TheVariants as work_state;
@@ -24,7 +24,7 @@ use crate::step_outcome::{StepEnd, StepOutcome};
 use crate::step_reply::{after_found, after_none, after_poll};
 use crate::target::{hand_in, target_of};
 use credentials::{ProvideCredential, SignRequest, SigningCredential};
-use desk_parts::{BegunCall, LoadAnswer, LoadState, poll_provider, provider_at};
+use desk_driver::{BegunCall, LoadAnswer, LoadState, poll_provider, provider_at};
 use http::request::Parts;
 use sign_base::{ErrorKind, Head, Timestamp};
 use sign_desk::Desk;

@@ -5,7 +5,7 @@ ghost use Rattle.signer.specs.OutcomeByReply.{plain_refusal, outcome_after_poll,
 use crate::refusal::Refusal;
 use crate::sign::{SignState, WorkState};
 use crate::step_outcome::{StepEnd, StepOutcome};
-use desk_parts::LoadState;
+use desk_driver::LoadState;
 use sequential_signer::{Reply, Why};
 use sign_base::Head;
 

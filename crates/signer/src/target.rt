@@ -3,12 +3,12 @@ ghost use Rattle.std.specs.Prelude.{◌≡◌, ◌⊎◌, None, Some, OnOk, IfOk
 ghost use Rattle.sequential_signer.specs.Policy.{policy_of};
 ghost use Rattle.sign_request.specs.PlainHead.{RefusesTarget};
 ghost use Rattle.sign_request.specs.Refusal.{IsOutOfMemory, RefusedAs};
-ghost use Rattle.desk_parts.specs.CallAt.{IsSigning, LeavesOthers};
+ghost use Rattle.desk_driver.specs.CallAt.{IsSigning, LeavesOthers};
 ghost use Rattle.signer.specs.Target.{IsTargetOf, IsHandedIn, IsKept};
 
 use crate::drive::give_accepted;
 use credentials::{DeadlineRule, SigningCredential};
-use desk_parts::BegunCall;
+use desk_driver::BegunCall;
 use http::request::Parts;
 use sequential_signer::Reply;
 use sign_base::{Error, Head};

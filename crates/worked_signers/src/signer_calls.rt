@@ -3,7 +3,7 @@
 //! Two things are not tried, since no caller can bring them about. The state of a call that was cancelled
 //! cannot be polled: `cancel` takes it. And call numbers are used up after 2^64 - 1 calls only.
 ghost use Rattle.std.specs.Prelude.{◌≡◌, ◌<◌, length, IfSome, IsTrue};
-ghost use Rattle.desk_parts.specs.ProviderList.{AreFew};
+ghost use Rattle.desk_driver.specs.ProviderList.{AreFew};
 
 use crate::calls::{CallAnswer, CallPoll, Calls, signed};
 use credentials::{

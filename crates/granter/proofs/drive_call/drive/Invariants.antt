@@ -1,5 +1,5 @@
 use Rattle.sequential_signer.specs.Policy.{policy_of}
-use Rattle.desk_parts.specs.ProviderList.{loader_for}
+use Rattle.desk_driver.specs.ProviderList.{loader_for}
 use Rattle.granter.specs.PollContext.{PollContext}
 use Rattle.granter.specs.GranterObjects.{meanings_of}
 use Rattle.granter.proofs.PollEnds.{steps_left}

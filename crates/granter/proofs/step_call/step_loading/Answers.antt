@@ -1,8 +1,8 @@
 use Rattle.std.proofs.Common.{◌≡◌, refl, sym, subst, ap, ◌∙◌, Some}
 use Rattle.std.specs.Option.{option_copied}
 use Rattle.sequential_signer.specs.Policy.{policy_of}
-use Rattle.desk_parts.specs.LoadAnswer.{IsLoadAnswer, provider_meaning}
-use Rattle.desk_parts.specs.ProviderList.{provider_at}
+use Rattle.desk_driver.specs.LoadAnswer.{IsLoadAnswer, provider_meaning}
+use Rattle.desk_driver.specs.ProviderList.{provider_at}
 use Rattle.granter.specs.PollContext.{PollContext, call_with}
 use Rattle.granter.specs.GranterObjects.{meanings_of, with_service}
 use Rattle.granter.specs.StepOutcome.{StepChange, IsStepOutcome}

@@ -1,5 +1,5 @@
 use Rattle.std.proofs.Common.{◌<◌, sym, subst, ap, ◌∙◌}
-use Rattle.desk_parts.specs.ProviderList.{loader_for}
+use Rattle.desk_driver.specs.ProviderList.{loader_for}
 use Rattle.signer.proofs.PollEnds.{steps_left}
 use Rattle.sequential_signer.specs.Policy.{policy_of}
 use Rattle.signer.specs.PollContext.{PollContext, IsDrivenFrom}

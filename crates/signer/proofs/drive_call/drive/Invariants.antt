@@ -1,6 +1,6 @@
 use Rattle.sequential_signer.specs.Policy.{policy_of}
 use Rattle.signer.specs.PollContext.{PollContext}
-use Rattle.desk_parts.specs.ProviderList.{loader_for}
+use Rattle.desk_driver.specs.ProviderList.{loader_for}
 use Rattle.signer.specs.SignerObjects.{meanings_of}
 use Rattle.signer.proofs.PollEnds.{steps_left}
 use Rattle.signer.proofs.PollInvariant.{PollInvariant}

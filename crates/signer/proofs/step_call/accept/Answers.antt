@@ -4,7 +4,7 @@ use Rattle.sign_base.specs.Error.{ErrorParts}
 use Rattle.sign_base.specs.declared.error_kind.ErrorKind.TheVariants as kind
 use Rattle.sign_base.specs.declared.head.Head.{Head}
 use Rattle.sign_request.specs.Refusal.{IsOutOfMemory}
-use Rattle.desk_parts.specs.CallAt.{IsSigning}
+use Rattle.desk_driver.specs.CallAt.{IsSigning}
 use Rattle.signer.specs.PollContext.{PollContext, call_with}
 use Rattle.signer.specs.StepOutcome.{StepChange, IsStepOutcome}
 use Rattle.signer.specs.SignerObjects.{meanings_of, service_of}

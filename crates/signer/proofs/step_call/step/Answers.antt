@@ -1,6 +1,6 @@
 use Rattle.std.proofs.Common.{refl, sym, subst, Option, Some, None, IsSome, slice_get, option_and_then}
 use Rattle.sequential_signer.specs.Policy.{policy_of}
-use Rattle.desk_parts.specs.CallAt.{IsWaiting}
+use Rattle.desk_driver.specs.CallAt.{IsWaiting}
 use Rattle.signer.specs.PollContext.{PollContext, call_with, IsIssuedFor}
 use Rattle.signer.specs.StepOutcome.{StepChange, IsStepOutcome}
 use Rattle.signer.specs.SignerObjects.{meanings_of, service_of}

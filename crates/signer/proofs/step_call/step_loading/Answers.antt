@@ -2,11 +2,11 @@ use Rattle.std.proofs.Common.{◌≡◌, refl, sym, subst, ap, ◌∙◌, Some}
 use Rattle.std.specs.Option.{option_copied}
 use Rattle.sequential_signer.specs.Policy.{policy_of}
 use Rattle.signer.specs.PollContext.{PollContext, call_with}
-use Rattle.desk_parts.specs.LoadAnswer.{IsLoadAnswer}
-use Rattle.desk_parts.specs.LoadAnswer.{provider_meaning}
+use Rattle.desk_driver.specs.LoadAnswer.{IsLoadAnswer}
+use Rattle.desk_driver.specs.LoadAnswer.{provider_meaning}
 use Rattle.signer.specs.StepOutcome.{StepChange, IsStepOutcome}
 use Rattle.signer.specs.SignerObjects.{meanings_of, with_service}
-use Rattle.desk_parts.specs.ProviderList.{provider_at}
+use Rattle.desk_driver.specs.ProviderList.{provider_at}
 use Rattle.signer.specs.OutcomeByReply.{outcome_after_found}
 use Rattle.signer.specs.declared.sign.SignState.TheVariants.{Loading}
 use Rattle.signer.proofs.ObjectMeanings.{load-started, load-pends, load-left, load-made, load-gives}

@@ -6,7 +6,7 @@ use Rattle.sequential_signer.specs.declared.event.Reply.{Reply}
 use Rattle.sequential_signer.specs.declared.event.Reply.TheVariants as reply
 use Rattle.sequential_signer.specs.declared.event.Verdict.TheVariants.{Accepted}
 use Rattle.sign_desk.specs.DeskState.{DeskState}
-use Rattle.sign_desk.specs.Records.{BegunCall}
+use Rattle.signer.specs.BegunCall.{BegunCall}
 use Rattle.sign_desk.specs.Steps.{IsStep}
 use Rattle.signer.specs.DeskReplies.{AfterAccepted}
 use Rattle.signer.proofs.target.hand_in.Goals as goal

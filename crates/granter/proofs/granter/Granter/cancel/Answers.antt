@@ -1,5 +1,5 @@
 use Rattle.std.proofs.Common.{IsSome, slice_get, refl, sym, ◌∙◌, ap, subst}
-use Rattle.desk_parts.specs.CallAt.{IsLive}
+use Rattle.desk_driver.specs.CallAt.{IsLive}
 use Rattle.granter.specs.GranterInvariant.{GranterState, is_above_all}
 use Rattle.granter.specs.GranterObjects.{call_meaning, meanings_of, objects_of}
 use Rattle.granter.specs.IssuedBy.{IsStateIssued, IsGrantIssuedBy}

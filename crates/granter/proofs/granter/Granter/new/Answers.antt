@@ -1,7 +1,7 @@
 use Rattle.std.proofs.Common.{◌≡◌, ◌∷◌, [], ◌∙◌, ap}
 use Rattle.sequential_signer.specs.Policy.{policy_of}
 use Rattle.sequential_signer.specs.Setup.{Setup}
-use Rattle.desk_parts.specs.ProviderList.{loader_for}
+use Rattle.desk_driver.specs.ProviderList.{loader_for}
 use Rattle.desk_parts.specs.Tables.{setup_of}
 use Rattle.granter.proofs.GranterSetup.{granter-new}
 use Rattle.granter.proofs.granter.Granter.new.Goals as goal

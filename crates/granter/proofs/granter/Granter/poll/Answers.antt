@@ -1,7 +1,7 @@
 use Rattle.std.proofs.Common.{◌≡◌, Option, Some, refl, sym, ◌∙◌, ap, subst}
 use Rattle.sequential_signer.specs.Policy.{policy_of}
-use Rattle.desk_parts.specs.CallAt.{loader_of}
-use Rattle.desk_parts.specs.ProviderList.{loader_for}
+use Rattle.desk_driver.specs.CallAt.{loader_of}
+use Rattle.desk_driver.specs.ProviderList.{loader_for}
 use Rattle.granter.specs.Course.{polled_call, IsDriven, IsGrantPoll}
 use Rattle.granter.specs.GranterCalls.{IsAnswerIssuedBy}
 use Rattle.granter.specs.GranterInvariant.{GranterState, IsGranter, is_above_all}

@@ -1,5 +1,5 @@
 use Rattle.std.proofs.Common.{IsSome, slice_get, refl, sym, ◌∙◌, ap, subst}
-use Rattle.desk_parts.specs.CallAt.{IsLive}
+use Rattle.desk_driver.specs.CallAt.{IsLive}
 use Rattle.signer.specs.IssuedBy.{IsStateIssued, IsIssuedBy}
 use Rattle.signer.specs.SignerInvariant.{SignerState, is_above_all}
 use Rattle.signer.specs.SignerObjects.{call_meaning, meanings_of, objects_of}

@@ -2,7 +2,7 @@ use Rattle.std.proofs.Common.{◌≡◌, ◌∷◌, [], ◌∙◌, ap}
 use Rattle.sequential_signer.specs.Policy.{policy_of}
 use Rattle.sequential_signer.specs.Setup.{Setup}
 use Rattle.desk_parts.specs.Tables.{setup_of}
-use Rattle.desk_parts.specs.ProviderList.{loader_for}
+use Rattle.desk_driver.specs.ProviderList.{loader_for}
 use Rattle.signer.proofs.SignerSetup.{signer-new}
 use Rattle.signer.proofs.signer.Signer.new.Goals as goal
 

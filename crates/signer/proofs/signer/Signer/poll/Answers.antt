@@ -1,10 +1,10 @@
 use Rattle.std.proofs.Common.{◌≡◌, Option, Some, refl, sym, ◌∙◌, ap, subst}
 use Rattle.sequential_signer.specs.Policy.{policy_of}
-use Rattle.desk_parts.specs.CallAt.{loader_of}
+use Rattle.desk_driver.specs.CallAt.{loader_of}
 use Rattle.signer.specs.Course.{PollOutcome, polled_call, IsDriven, IsPoll}
 use Rattle.signer.specs.IssuedBy.{IsStateIssued, IsIssuedBy}
 use Rattle.signer.specs.SignerInvariant.{SignerState, IsSigner, is_above_all}
-use Rattle.desk_parts.specs.ProviderList.{loader_for}
+use Rattle.desk_driver.specs.ProviderList.{loader_for}
 use Rattle.signer.specs.SignerObjects.{Objects, call_meaning, meanings_of, objects_of}
 use Rattle.signer.proofs.CourseOfSteps.{course-represents}
 use Rattle.signer.specs.SignerCalls.{IsAnswerIssuedBy}

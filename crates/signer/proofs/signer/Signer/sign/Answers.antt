@@ -9,7 +9,7 @@ use Rattle.sign_desk.specs.Steps.{IsStep}
 use Rattle.signer.specs.SignerCalls.{Begins}
 use Rattle.signer.specs.SignerInvariant.{SignerState}
 use Rattle.signer.specs.SignerObjects.{meanings_of}
-use Rattle.sign_desk.specs.Records.{BegunCall}
+use Rattle.signer.specs.BegunCall.{BegunCall}
 use Rattle.signer.specs.declared.sign.SignState.TheVariants.{Waiting}
 use Rattle.signer.proofs.SignerSetup.{above-at}
 use Rattle.signer.proofs.SignerBegins.{signer-begun, begins}

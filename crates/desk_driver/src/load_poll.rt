@@ -1,6 +1,6 @@
 //! The polls of a provider's load. What there was no memory for is kept.
-ghost use Rattle.desk_parts.specs.LoadAnswer.{IsLoadKept, IsLoadAnswer, provider_meaning};
-ghost use Rattle.desk_parts.specs.declared.load_state.LoadState.TheVariants as load_state;
+ghost use Rattle.desk_driver.specs.LoadAnswer.{IsLoadKept, IsLoadAnswer, provider_meaning};
+ghost use Rattle.desk_driver.specs.declared.load_state.LoadState.TheVariants as load_state;
 
 use crate::load_state::{LoadAnswer, LoadState};
 use credentials::{Polled, ProvideCredential};

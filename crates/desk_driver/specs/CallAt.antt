@@ -5,7 +5,7 @@ use Rattle.wake_lock.specs.Calls.{same_call}
 use Rattle.sequential_signer.specs.declared.event.Loader.{Loader}
 use Rattle.desk_parts.specs.Tables.{DeskTables, find_call}
 use Rattle.desk_parts.specs.Places.{provider_count}
-use Rattle.desk_parts.specs.declared.begun_call.BegunCall.{BegunCall}
+use Rattle.desk_driver.specs.declared.begun_call.BegunCall.{BegunCall}
 use Rattle.desk_parts.specs.declared.call_record.CallRecord.{CallRecord}
 use Rattle.desk_parts.specs.declared.call_record.Stage.{Stage}
 use Rattle.desk_parts.specs.declared.call_record.Stage.TheVariants.{Unpolled, Queued, Loading, Signing}

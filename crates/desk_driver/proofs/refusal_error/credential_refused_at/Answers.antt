@@ -1,7 +1,7 @@
 use Rattle.std.proofs.Common.{◌≡◌, ◌∙◌, ◌++◌, ◌∷◌, [], List, ℕ, IfOk, subst}
 use Rattle.sign_base.specs.Error.{ErrorParts}
-use Rattle.desk_parts.specs.RefusalText.{credential_error, moment_line, type_line}
-use Rattle.desk_parts.proofs.refusal_error.credential_refused_at.Goals as goal
+use Rattle.desk_driver.specs.RefusalText.{credential_error, moment_line, type_line}
+use Rattle.desk_driver.proofs.refusal_error.credential_refused_at.Goals as goal
 
 pub returns : goal.returns
 returns c =

@@ -1,7 +1,7 @@
 use Rattle.std.proofs.Common.{◌≡◌, ◌∙◌, ◌++◌, ◌∷◌, [], List, ℕ, IfOk, subst}
 use Rattle.sign_base.specs.Error.{ErrorParts}
-use Rattle.desk_parts.specs.RefusalText.{type_line}
-use Rattle.desk_parts.proofs.refusal_error.with_type.Goals as goal
+use Rattle.desk_driver.specs.RefusalText.{type_line}
+use Rattle.desk_driver.proofs.refusal_error.with_type.Goals as goal
 
 pub returns : goal.returns
 returns c =

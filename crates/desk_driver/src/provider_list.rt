@@ -1,6 +1,6 @@
 //! The providers of a cache, by their numbers.
 ghost use Rattle.std.specs.Prelude.{◌≡◌, option_copied};
-ghost use Rattle.desk_parts.specs.ProviderList.{AreFew, loader_for, provider_at};
+ghost use Rattle.desk_driver.specs.ProviderList.{AreFew, loader_for, provider_at};
 
 use credentials::Providers;
 use sequential_signer::Loader;

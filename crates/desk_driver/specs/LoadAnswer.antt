@@ -3,10 +3,10 @@ use Rattle.std.specs.Prelude.{◌≡◌, Option, Some, None}
 use Rattle.credentials.specs.declared.polled.Polled.{Polled}
 use Rattle.credentials.specs.declared.polled.Polled.TheVariants as polled
 use Rattle.credentials.specs.declared.provide.ProvideCredential as ProvideCredential
-use Rattle.desk_parts.specs.declared.load_state.LoadAnswer.{LoadAnswer}
-use Rattle.desk_parts.specs.declared.load_state.LoadAnswer.TheVariants.{Pending, OutOfMemory, Found, Missing, Failed}
-use Rattle.desk_parts.specs.declared.load_state.LoadState.{LoadState}
-use Rattle.desk_parts.specs.declared.load_state.LoadState.TheVariants as load_state
+use Rattle.desk_driver.specs.declared.load_state.LoadAnswer.{LoadAnswer}
+use Rattle.desk_driver.specs.declared.load_state.LoadAnswer.TheVariants.{Pending, OutOfMemory, Found, Missing, Failed}
+use Rattle.desk_driver.specs.declared.load_state.LoadState.{LoadState}
+use Rattle.desk_driver.specs.declared.load_state.LoadState.TheVariants as load_state
 
 module _ {K L : Type 0} where
   -- the load was started by the provider, or what is kept is an answer that it gives

@@ -1,0 +1,4 @@
+pub mod ProviderList
+pub mod LoadAnswer
+pub mod CallAt
+pub mod RefusalText
