@@ -7,10 +7,10 @@ use Rattle.jiff_core.proofs.CalendarLemmas.{day_count-next_year, day_count-later
 use Rattle.sign_base.specs.Calendar.{count_years, count_months}
 
 -- the days before a year, counted from the year -10000
-abbrev days_before : ℕ → ℕ
+abbrev pub days_before : ℕ → ℕ
 days_before year = day_count (pos year) 1 1
 
-days_before-next : (year : ℕ) → days_before (year + 1) ≡ days_before year + days_in_year (pos year)
+pub days_before-next : (year : ℕ) → days_before (year + 1) ≡ days_before year + days_in_year (pos year)
 days_before-next year = day_count-next_year (pos year) (pos (year + 1)) (omega (arith, signed_arith)) (omega (arith, signed_arith))
 
 days_before-later : (year k : ℕ) → days_before (year + 1) ≤ days_before (year + suc k)
@@ -18,12 +18,12 @@ days_before-later year k =
     let later = day_count-later_year (pos year) (pos (year + suc k)) (omega (arith, signed_arith)) (omega (arith, signed_arith)) in
     omega (arith, later, days_before-next year)
 
-counts_here : (most year days : ℕ) → days < days_in_year (pos year) → count_years most year days ≡ (year, days)
+pub counts_here : (most year days : ℕ) → days < days_in_year (pos year) → count_years most year days ≡ (year, days)
 unfolding count_years
 counts_here zero year days h = refl
 counts_here (suc most) year days h = let t : nat_lt days (days_in_year (pos year)) ≡ true = grind (arith, nat_tests, h) in rw t refl
 
-counts_on : (most year days : ℕ) → days_in_year (pos year) ≤ days → count_years (suc most) year days ≡ count_years most (year + 1) (days - days_in_year (pos year))
+pub counts_on : (most year days : ℕ) → days_in_year (pos year) ≤ days → count_years (suc most) year days ≡ count_years most (year + 1) (days - days_in_year (pos year))
 unfolding count_years
 counts_on most year days h = let t : nat_lt days (days_in_year (pos year)) ≡ false = grind (arith, nat_tests, h) in rw t refl
 
@@ -41,20 +41,20 @@ count_years-found (suc k) (suc most) year days rest h e small =
     counts_on most year days whole
     ∙ rw next (count_years-found k most (year + 1) (days - days_in_year (pos year)) rest (omega arith) left (rw next at small))
 
-months_here : (year most month days : ℕ) → days < days_in_month (pos year) month → count_months year most month days ≡ (month, days)
+pub months_here : (year most month days : ℕ) → days < days_in_month (pos year) month → count_months year most month days ≡ (month, days)
 unfolding count_months
 months_here year zero month days h = refl
 months_here year (suc most) month days h = let t : nat_lt days (days_in_month (pos year) month) ≡ true = grind (arith, nat_tests, h) in rw t refl
 
-months_on : (year most month days : ℕ) → days_in_month (pos year) month ≤ days → count_months year (suc most) month days ≡ count_months year most (month + 1) (days - days_in_month (pos year) month)
+pub months_on : (year most month days : ℕ) → days_in_month (pos year) month ≤ days → count_months year (suc most) month days ≡ count_months year most (month + 1) (days - days_in_month (pos year) month)
 unfolding count_months
 months_on year most month days h = let t : nat_lt days (days_in_month (pos year) month) ≡ false = grind (arith, nat_tests, h) in rw t refl
 
 -- the days of the year before a month
-abbrev days_before_month : ℕ → ℕ → ℕ
+abbrev pub days_before_month : ℕ → ℕ → ℕ
 days_before_month year month = days_of_months (pos year) (month - 1)
 
-days_before_month-next : (year month : ℕ) → 1 ≤ month → days_before_month year (month + 1) ≡ days_before_month year month + days_in_month (pos year) month
+pub days_before_month-next : (year month : ℕ) → 1 ≤ month → days_before_month year (month + 1) ≡ days_before_month year month + days_in_month (pos year) month
 days_before_month-next year month h =
     let back : month + 1 - 1 ≡ month = omega arith in
     rw back (days_of_months_more (pos year) month h)

@@ -5,4 +5,7 @@ pub mod TakingLemmas
 pub mod WindowLemmas
 pub mod CountingOff
 pub mod CivilTime
+pub mod DaysCounted
+pub mod MomentReadBack
+pub mod WholeSecond
 pub mod CivilRead

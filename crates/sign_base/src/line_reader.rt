@@ -31,6 +31,11 @@ pub enum Next<'a> {
 }
 
 impl fmt::Debug for Next<'_> {
+    ghost use Rattle.std.specs.Prelude.{Some};
+    ghost use Rattle.sign_base.specs.NextShown.{next_text};
+
+    ghost debug_output = { λ next. Some (next_text next) };
+
     fn fmt<W: fmt::Write>(&self, f: &mut fmt::Formatter<W>) -> fmt::Result {
         match self {
             Next::Line(line) => write!(f, "Line({} bytes)", line.len()),

@@ -1,6 +1,6 @@
 //! Where bytes come from. A source gives them in pieces of any size, may let contracts observe what is
 //! still to come, and counts its faults, so that a failed read has a cause that a caller can see.
-ghost use Rattle.std.specs.Prelude.{◌≡◌, ℕ, Option, Some, None, Ok, List, length, take, drop, ◌++◌, min, ◌<◌, is_ok, is_err, codes, if◌then◌else◌};
+ghost use Rattle.std.specs.Prelude.{◌≡◌, ℕ, Option, Some, None, Ok, List, length, take, drop, ◌++◌, min, ◌<◌, is_ok, is_err, codes, decimal, if◌then◌else◌};
 ghost use Rattle.std.specs.Io.KnownBytes.{ReadConsumes};
 ghost use Rattle.std.specs.Io.{ReadsAtMost};
 ghost use Rattle.sign_base.specs.Faults.{CountsFault, one_more};
@@ -67,6 +67,8 @@ impl MemorySource {
 }
 
 impl fmt::Debug for MemorySource {
+    ghost debug_output = { λ s. Some (codes "MemorySource(" ++ decimal (length s) ++ codes " bytes)") };
+
     fn fmt<W: fmt::Write>(&self, f: &mut fmt::Formatter<W>) -> fmt::Result {
         write!(f, "MemorySource({} bytes)", self.bytes.len() - self.at)
     }
