@@ -5,6 +5,7 @@ pub mod OptionValid
 pub mod Deadline
 pub mod Unsupported
 pub mod Env
+pub mod EnvShown
 pub mod Home
 pub mod Context
 pub mod Law

@@ -1,5 +1,5 @@
 //! How a chain asks its providers.
-ghost use Rattle.std.specs.Prelude.{◌≡◌, ◌≢◌, ◌+◌, ◌^◌, ◌<◌, ◌⊎◌, length, [], IfOk, IsOk, IfSome, IfNone, None, OnErr, MatchOption};
+ghost use Rattle.std.specs.Prelude.{◌≡◌, ◌≢◌, ◌+◌, ◌^◌, ◌<◌, ◌⊎◌, length, [], IfOk, IsOk, IfSome, IsSome, IfNone, None, Some, OnErr, MatchOption};
 ghost use Rattle.credentials.specs.Chain.{ChainStarted, ChainReady, ChainGives, is_passed_over};
 ghost use Rattle.credentials.specs.Polled.{CanBePolledAgain};
 
@@ -48,7 +48,7 @@ impl<P: ProvideCredential> ProvideCredential for ProvideCredentialChain<P> {
 
     ghost gives = { λ chain ctx answer. ChainGives (λ p a. P.gives p ctx a) chain answer };
 
-    /// Starts the load of the first provider. A chain of none takes no memory.
+    /// Starts the load of the first provider, which is open then. A chain of none takes no memory.
     fn provide_credential(
         &self,
         alloc: Global,
@@ -56,6 +56,7 @@ impl<P: ProvideCredential> ProvideCredential for ProvideCredentialChain<P> {
     ) -> Result<ChainLoad<P::Load>, NoMemory<()>>
         ensures started { IfOk result (λ load.
             ChainStarted (λ p a. P.gives p ctx.now a) (λ p l. P.started p ctx.now l) self.now load) }
+        ensures opened { IfOk result (λ load. self.now ≢ [] → IsSome load.open_load) }
         ensures memory { OnErr result (ChainGives (λ p a. P.gives p ctx.now a) self.now Polled.OutOfMemory) }
         ensures empty { self.now ≡ [] → IsOk result }
     {
@@ -70,7 +71,8 @@ impl<P: ProvideCredential> ProvideCredential for ProvideCredentialChain<P> {
     }
 
     /// Polls the open load, and goes on to the next provider for as long as they answer that there is
-    /// none, or fail. A chain of none answers at once that there is none.
+    /// none, or fail. A load that is pending stays open. A chain of none answers at once that there is
+    /// none.
     fn poll_load(
         &self,
         alloc: Global,
@@ -82,6 +84,7 @@ impl<P: ProvideCredential> ProvideCredential for ProvideCredentialChain<P> {
             → ChainStarted (λ p a. P.gives p ctx.now a) (λ p l. P.started p ctx.now l) self.now load.new }
         ensures ready { ChainReady (λ p l. P.started p ctx.now l) (λ p l. P.ready p ctx.now l) self.now load.old
             → result ≢ Polled.Pending }
+        ensures pending { result ≡ Polled.Pending → IsSome load.new.open_load }
         ensures gives { ChainStarted (λ p a. P.gives p ctx.now a) (λ p l. P.started p ctx.now l) self.now load.old
             → ChainGives (λ p a. P.gives p ctx.now a) self.now result }
         ensures empty { self.now ≡ [] → result ≡ Polled.Ready None }
@@ -119,6 +122,7 @@ fn poll_next<P: ProvideCredential>(
         → MatchOption result
         (ChainReady (λ p l. P.started p ctx.now l) (λ p l. P.ready p ctx.now l) chain.now load.new)
         (λ answer. answer ≢ Polled.Pending) }
+    ensures pending { result ≡ Some Polled.Pending → IsSome load.new.open_load }
 {
     let provider = &chain.providers[load.place];
     let answer = poll_provider(provider, alloc, ctx, &mut load.open_load);
@@ -153,6 +157,7 @@ fn poll_provider<P: ProvideCredential>(
         → result ≢ Polled.Pending }
     ensures gives { IfSome open_load.old (λ l. P.started provider.now ctx.now l)
         → (result ≡ Polled.OutOfMemory) ⊎ P.gives provider.now ctx.now result }
+    ensures pending { result ≡ Polled.Pending → IsSome open_load.new }
 {
     let mut load = match open_load.take() {
         Some(load) => load,

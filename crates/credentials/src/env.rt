@@ -6,6 +6,7 @@ ghost use Rattle.credentials.specs.Env.{HasVariables, map_variables, no_variable
 use sign_base::NoMemory;
 use std::alloc::Global;
 use std::collections::HashMap;
+use std::fmt;
 
 /// An environment. Names and values are text.
 pub trait Env: Drop {
@@ -59,8 +60,9 @@ impl Env for NoopEnv {
     }
 }
 
-/// An environment that is written down, for tests and for settings of one's own.
-#[derive(Debug, Drop)]
+/// An environment that is written down, for tests and for settings of one's own. `Debug` shows the names of its
+/// variables alone, in any order, since a value may be a secret.
+#[derive(Drop)]
 pub struct StaticEnv {
     /// The path of the home folder.
     pub home_dir: Option<String>,
@@ -91,6 +93,12 @@ impl Env for StaticEnv {
         ensures absent { self.now.home_dir ≡ None → IsOk result }
     {
         copy_of(alloc, self.home_dir.as_ref())
+    }
+}
+
+impl fmt::Debug for StaticEnv {
+    fn fmt<W: fmt::Write>(&self, f: &mut fmt::Formatter<W>) -> fmt::Result {
+        write!(f, "StaticEnv: {:?}", self.envs.keys())
     }
 }
 

@@ -1,20 +1,23 @@
 //! The environment that a program hands in.
-ghost use Rattle.std.specs.Prelude.{◌≡◌, map, IfOk, IsOk, IsOkAnd, None, option_map};
+ghost use Rattle.std.specs.Prelude.{◌≡◌, map, IfOk, IsOk, IsOkAnd, None, Some, option_map};
 ghost use Rattle.std.specs.String.{string_bytes};
 ghost use Rattle.credentials.specs.Env.{no_variables, set_variables, variable_of, HasVariables};
+ghost use Rattle.credentials.specs.EnvShown.{os_env_text};
 
 use crate::Env;
 use crate::env::copy_of;
 use sign_base::NoMemory;
 use std::alloc::Global;
 use std::collections::HashMap;
+use std::fmt;
 use std::marker::Model;
 
 /// What `from_list` hands back.
 type Handed = (Option<String>, Vec<(String, String)>);
 
-/// The environment of a process, as its program read it. Nothing is read again.
-#[derive(Debug, Drop)]
+/// The environment of a process, as its program read it. Nothing is read again. `Debug` shows the names of its
+/// variables alone, since a value may be a secret.
+#[derive(Drop)]
 pub struct OsEnv {
     home: Option<String>,
     variables: Vec<(String, String)>,
@@ -94,5 +97,18 @@ impl Env for OsEnv {
         ensures absent { self.now.home ≡ None → IsOk result }
     {
         copy_of(alloc, self.home.as_ref())
+    }
+}
+
+impl fmt::Debug for OsEnv {
+    ghost debug_output = { λ env. Some (os_env_text env.variables) };
+
+    fn fmt<W: fmt::Write>(&self, f: &mut fmt::Formatter<W>) -> fmt::Result {
+        f.write_str("OsEnv:")?;
+        for (name, _) in &self.variables {
+            f.write_str(" ")?;
+            f.write_str(name.as_str())?;
+        }
+        Ok(())
     }
 }
