@@ -5,6 +5,7 @@ ghost use Rattle.std.specs.Prelude.{◌≡◌, ◌<◌, [], false, length, optio
 use crate::call_record::{CallRecord, Stage};
 use credentials::{DeadlineRule, SigningCredential};
 use sequential_signer::Loader;
+use sign_base::EqualByValue;
 use std::alloc::{AllocError, Global};
 use std::collections::BTreeMap;
 use std::marker::Model;
@@ -12,10 +13,16 @@ use std::time::Duration;
 use wake_lock::CallId;
 
 /// A handle: its cache and its rule, by their places.
-#[derive(Clone, Copy, Debug)]
+#[derive(Clone, Copy, Debug, PartialEq, Eq)]
 pub struct HandleRecord {
     pub cache: u32,
     pub rule: u32,
+}
+
+impl EqualByValue for HandleRecord {
+    ghost use Rattle.std.proofs.Common.{rules};
+
+    ghost by_value = { Prim.search rules };
 }
 
 /// A live call, as an event finds it: its places, and what is kept of it beside its head.

@@ -22,7 +22,7 @@ use std::marker::Model;
 /// The core of the signer: what is set up, what each cache holds, and the live calls.
 #[derive(Drop)]
 pub struct Desk<K: SigningCredential, D: DeadlineRule<Credential = K>> {
-    state: State<K, D>,
+    pub(crate) state: State<K, D>,
 }
 
 impl<K: SigningCredential, D: DeadlineRule<Credential = K>> Model for Desk<K, D> {

@@ -7,6 +7,7 @@ mod load;
 mod poll;
 mod preview;
 mod replies;
+mod same_setup;
 mod state;
 mod step;
 mod step_owned;
