@@ -1,0 +1,9 @@
+pub mod FreshBook
+pub mod OpenBegins
+pub mod ReceiptRoom
+pub mod Applying
+pub mod Owners
+pub mod Passes
+pub mod Distinct
+pub mod Receipts
+pub mod Marks
