@@ -1,4 +1,4 @@
-pub mod FreshBook
-pub mod OpenBegins
-pub mod ReceiptRoom
-pub mod Applying
+pub mod Courses
+pub mod Tallies
+pub mod Servings
+pub mod SlotLemmas

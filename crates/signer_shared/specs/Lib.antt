@@ -1,2 +1,5 @@
-pub mod OpenBegins
-pub mod BookState
+pub mod Counting
+pub mod Gates
+pub mod Pools
+pub mod Serving
+pub mod Slots

@@ -1,12 +1,19 @@
-//! A signer that threads share: a desk beside its journal, and passes with the receipts of their steps.
+//! A signer that threads share: a book behind one lock, and beside it the plan. Workers serve lists
+//! of jobs at it.
 #![tactic(auto)]
 
-mod book;
-mod pass;
-mod room;
+mod gate;
+mod job;
+mod next;
+mod pool;
+mod serve;
 mod shared;
+mod slots;
+mod worker;
 
-pub use book::Book;
-pub use pass::{Pass, Receipt};
-pub use sequential_signer::Entry;
+pub use gate::{Gate, GateLoad};
+pub use job::{Job, Served};
+pub use pool::{PoolRefused, Pooled, serve_all};
+pub use serve::serve_jobs;
 pub use shared::SharedSigner;
+pub use signer_book::{Book, CloseError, CloseRefused, Entry, Pass, Receipt, Settled};

@@ -1,14 +1,14 @@
 //! A book that threads share.
-ghost use Rattle.std.specs.Prelude.{◌≡◌, ◌≢◌, ◌++◌, ◌∷◌, [], ℕ, IfOk, IsTrue};
+ghost use Rattle.std.specs.Prelude.{◌≡◌, ◌≢◌, ◌++◌, ◌∷◌, [], ◌<◌, ℕ, IfOk, IfErr, IsTrue, length};
 ghost use Rattle.sequential_signer.specs.declared.event.Reply.TheVariants.{OutOfMemory};
 ghost use Rattle.sign_desk.specs.ReplyKinds.{is_reply_to};
 
-use crate::book::Book;
-use crate::pass::Pass;
 use credentials::{DeadlineRule, SigningCredential};
 use sequential_signer::{Event, Reply};
-use sign_base::NoMemory;
+use sign_base::{EqualByValue, NoMemory};
 use sign_desk::Desk;
+use signer_book::{Book, CloseRefused, Pass, Settled};
+use std::alloc::Global;
 use std::marker::Model;
 use std::sync::{Mutex, Wait};
 
@@ -64,5 +64,46 @@ impl<K: SigningCredential, D: DeadlineRule<Credential = K>> SharedSigner<K, D> {
         let mut book = self.book.lock(rt);
         let reply = book.apply(pass, event);
         reply
+    }
+}
+
+impl<K: SigningCredential, D: DeadlineRule<Credential = K>> SharedSigner<K, D> {
+    /// Where the plan takes its memory.
+    pub(crate) fn alloc(&self) -> Global {
+        self.plan.alloc()
+    }
+}
+
+impl<K, D> SharedSigner<K, D>
+where
+    K: SigningCredential + EqualByValue,
+    D: DeadlineRule<Credential = K> + EqualByValue,
+{
+    ghost use Rattle.desk_parts.specs.Tables.{setup_of};
+    ghost use Rattle.sequential_signer.specs.Policy.{policy_of};
+    ghost use Rattle.sign_desk.specs.DeskState.{Represents};
+    ghost use Rattle.signer_book.specs.Settled.{IsSettled};
+    ghost use Rattle.signer_book.specs.Close.{IsCloseCause};
+
+    /// Takes the book out of its lock and closes it with the passes of its steps: the journal is then one
+    /// legal history of a signer that serves one call at a time, and is those steps and no others. It waits
+    /// for nobody, takes no memory, and a time linear in the journal and the receipts.
+    ///
+    /// Errors: the first of `CloseError` that holds, with book, plan and passes handed back.
+    pub fn close(self, passes: Vec<Pass<K>>) -> Result<Settled<K, D>, CloseRefused<K, D>>
+        requires { length passes.items < 4294967295 }
+        ensures settled { IfOk result (λ s. IsSettled s.journal.items s.passes.items) }
+        ensures desk { IfOk result (λ s. (setup_of s.desk ≡ setup_of self)
+            × Represents (policy_of K.valid K.valid_at D.deadline) s.desk s.journal.items) }
+        ensures passes { IfOk result (λ s. s.passes.items ≡ passes.items) }
+        ensures back { IfErr result (λ r. (r.plan ≡ self) × (r.passes.items ≡ passes.items)
+            × Represents (policy_of K.valid K.valid_at D.deadline) r.book.desk r.book.journal) }
+        ensures why { IfErr result (λ r. IsCloseCause self r.book r.passes.items r.why) }
+    {
+        let SharedSigner { book, plan } = self;
+        match book.into_inner().close(plan, passes) {
+            Ok(settled) => Ok(settled),
+            Err(refused) => Err(refused),
+        }
     }
 }

@@ -1,0 +1,143 @@
+//! The workers' slots: a pass and the counts of each list, and the room that these are handed out
+//! in.
+ghost use Rattle.std.specs.Prelude.{◌≡◌, ◌<◌, [], map, length, slice_index_or, IfOk};
+ghost use Rattle.std.specs.Global.{Vec};
+ghost use Rattle.signer_shared.specs.Serving.{IsServing};
+ghost use Rattle.signer_shared.specs.declared.job.Job.{Job};
+ghost use Rattle.signer_shared.specs.Slots.{HasResultRoom, AreEmptySlots, ServesSlots};
+
+use crate::gate::Gate;
+use crate::job::{Job, Served};
+use crate::serve::serve_jobs;
+use crate::shared::SharedSigner;
+use credentials::{DeadlineRule, SigningCredential};
+use sign_base::NoMemory;
+use signer_book::Pass;
+use std::sync::Wait;
+use std::thread;
+use std::thread::Threads;
+
+/// What one worker writes.
+#[derive(Drop)]
+pub(crate) struct Slot<K> {
+    pass: Pass<K>,
+    served: Served,
+}
+
+/// A slot for each worker, and room for what is in them.
+#[derive(Drop)]
+pub(crate) struct Slots<K> {
+    slots: Vec<Slot<K>>,
+    passes: Vec<Pass<K>>,
+    served: Vec<Served>,
+}
+
+impl<K: SigningCredential> Slots<K> {
+    /// So many slots, whose passes are empty.
+    pub(crate) fn new<D: DeadlineRule<Credential = K>>(
+        shared: &SharedSigner<K, D>,
+        count: usize,
+    ) -> Result<Slots<K>, NoMemory<()>>
+        ensures slots { IfOk result (λ s. AreEmptySlots count s.slots.items) }
+        ensures room { IfOk result HasResultRoom }
+    {
+        let alloc = shared.alloc();
+        let mut slots = Vec::with_capacity(alloc, count)?;
+        for _slot in 0..count {
+            let pass = shared.pass()?;
+            slots.push_reserved(Slot {
+                pass,
+                served: Served::new(),
+            });
+        }
+        Ok(Slots {
+            slots,
+            passes: Vec::with_capacity(alloc, count)?,
+            served: Vec::with_capacity(alloc, count)?,
+        })
+    }
+
+    /// The passes and the counts, in order.
+    pub(crate) fn into_results(self) -> (Vec<Pass<K>>, Vec<Served>)
+        requires { HasResultRoom self }
+        ensures passes { result.0.items ≡ map (λ s. s.pass) self.slots.items }
+        ensures served { result.1.items ≡ map (λ s. s.served) self.slots.items }
+    {
+        let Slots {
+            slots,
+            mut passes,
+            mut served,
+        } = self;
+        for slot in slots {
+            passes.push_reserved(slot.pass);
+            served.push_reserved(slot.served);
+        }
+        (passes, served)
+    }
+}
+
+impl<K: SigningCredential + Send + Sync> Slots<K> {
+    /// A worker for each list, which writes into its slot. All are joined.
+    pub(crate) fn serve<
+        D: DeadlineRule<Credential = K> + Send + Sync,
+        G: Gate<K> + Sync,
+        R: Threads + Wait + Sync,
+    >(&mut self, rt: &R, shared: &SharedSigner<K, D>, work: &[Vec<Job>], gate: &G, turns: u64)
+        requires count { length self.old.slots.items ≡ length work.now }
+        requires room { HasResultRoom self.old }
+        ensures each { ServesSlots (G.meaning gate.now) turns work.now
+            self.old.slots.items self.new.slots.items }
+        ensures count { length self.new.slots.items ≡ length work.now }
+        ensures room { HasResultRoom self.new }
+    {
+        serve_slots(rt, shared, work, gate, turns, self.slots.as_mut_slice());
+    }
+}
+
+fn serve_slots<
+    K: SigningCredential + Send + Sync,
+    D: DeadlineRule<Credential = K> + Send + Sync,
+    G: Gate<K> + Sync,
+    R: Threads + Wait + Sync,
+>(
+    rt: &R,
+    shared: &SharedSigner<K, D>,
+    work: &[Vec<Job>],
+    gate: &G,
+    turns: u64,
+    slots: &mut [Slot<K>],
+)
+    requires { length slots.old ≡ length work.now }
+    ensures { ServesSlots (G.meaning gate.now) turns work.now slots.old slots.new }
+{
+    if slots.is_empty() {
+        return;
+    }
+    let threads = slots.len();
+    let worker = move |i: usize, slot: &mut Slot<K>|
+        requires { i < length work.now }
+        ensures { (e : Vec Job) → slot.old.pass ≡ []
+            → IsServing (G.meaning gate.entry.now) turns (slice_index_or work.entry.now i e).items
+            slot.new.pass slot.new.served }
+    { serve_slot(rt, shared, work, i, gate, turns, slot) };
+    thread::for_each_mut(rt, slots, threads, &worker);
+}
+
+/// Serves list `i`.
+fn serve_slot<K: SigningCredential, D: DeadlineRule<Credential = K>, G: Gate<K>, R: Wait>(
+    rt: &R,
+    shared: &SharedSigner<K, D>,
+    work: &[Vec<Job>],
+    i: usize,
+    gate: &G,
+    turns: u64,
+    slot: &mut Slot<K>,
+)
+    requires { i < length work.now }
+    ensures { (e : Vec Job) → slot.old.pass ≡ []
+        → IsServing (G.meaning gate.now) turns (slice_index_or work.now i e).items
+        slot.new.pass slot.new.served }
+{
+    let jobs = work[i].as_slice();
+    slot.served = serve_jobs(rt, shared, &mut slot.pass, jobs, gate, turns);
+}
