@@ -4,14 +4,16 @@ use Rattle.credentials.specs.Operation.{SignOutcome}
 use Rattle.credentials.specs.declared.polled.Polled.{Polled}
 use Rattle.credentials.specs.declared.polled.Polled.TheVariants.{Ready, Failed, OutOfMemory}
 use Rattle.sign_base.specs.declared.head.Head.{Head}
+use Rattle.sign_request.specs.declared.header_keys.HeaderKeys.{HeaderKeys}
 use Rattle.sigv4_core.specs.Refused.{error_of}
 use Rattle.sigv4_core.specs.Scope.{Scope}
 use Rattle.sigv4_core.specs.declared.sig_error.SigError.{SigError}
 
--- what a service signs for, and the word for the payload
+-- what a service signs for, the word for the payload, and the keys of its header maps
 pub record ServiceView : Type 0 where
   pub scope : Scope
   pub payload : List ℕ
+  pub keys : HeaderKeys
 
 -- what a poll leaves of an answer and a candidate
 abbrev pub left_by : Polled (Unit {0}) → Head → SignOutcome

@@ -1,6 +1,7 @@
 //! Signature Version 4 as a service of a signer.
 ghost use Rattle.std.specs.Prelude.{◌≡◌, ◌⊎◌, ⊤, IfOk};
 ghost use Rattle.credentials.specs.Deadline.{operation_end};
+ghost use Rattle.sign_request.specs.Keys.{no_keys};
 ghost use Rattle.sigv4_core.specs.Refused.{error_of};
 ghost use Rattle.sigv4_core.specs.Service.{GivesSigned};
 ghost use Rattle.sigv4_core.specs.SignedHead.{signing_of};
@@ -23,18 +24,18 @@ pub struct SigService<X> {
     context: PhantomData<X>,
 }
 
-/// Contracts see what is signed for. The keys change no answer.
+/// Contracts see what is signed for, and the keys, which change no answer.
 impl<X> Model for SigService<X> {
     ghost use Rattle.sigv4_core.specs.Service.{ServiceView};
 
     ghost Value = { ServiceView };
 
-    ghost view = { λ s. record { scope = s.scope; payload = s.payload } };
+    ghost view = { λ s. record { scope = s.scope; payload = s.payload; keys = s.keys } };
 }
 
 impl<X> SigService<X> {
     pub fn new(scope: SigScope, payload: Payload) -> SigService<X>
-        ensures { result ≡ record { scope = scope; payload = payload } }
+        ensures { result ≡ record { scope = scope; payload = payload; keys = no_keys } }
     {
         SigService {
             scope,
@@ -47,7 +48,7 @@ impl<X> SigService<X> {
     /// The service with these keys for the header maps that it makes, where the names of headers come
     /// from outside.
     pub fn with_header_keys(self, keys: HeaderKeys) -> SigService<X>
-        ensures { result ≡ self }
+        ensures { result ≡ record self { keys = keys } }
     {
         SigService { keys, ..self }
     }
