@@ -1,0 +1,57 @@
+-- What a query claims is read of its pieces.
+use Rattle.std.proofs.Common.{◌≡◌, ℕ, true, false, inl, inr, List, codes, Option, Some, None, refl, sym, ap, ◌∙◌}
+use Rattle.std.specs.Prelude.{string_bytes}
+use Rattle.std.proofs.lemmas.Bool.{and_left, and_right}
+use Rattle.sign_request.specs.Query.{Pair}
+use Rattle.sigv4_core.specs.Signature.{algorithm}
+use Rattle.sigv4_presign.specs.LinkPairs.{algorithm_name, credential_name, date_name, expires_name, headers_name, signature_name}
+use Rattle.sigv4_presign.specs.CheckedLink.{value_of}
+use Rattle.sigv4_presign.specs.LinkDate.{moment_of_text, expires_of_text}
+use Rattle.sigv4_presign.specs.LinkPieces.{keyed_pieces, ArePiecesOf, value_in, is_value, are_shaped, unsigned_text}
+use Rattle.sigv4_presign.specs.LinkClaim.{GivesAll, GivesValues, IsClaimOf, IsNoClaim}
+use Rattle.sigv4_presign.specs.declared.link_claim.LinkClaim.{LinkClaim}
+use Rattle.sigv4_presign.specs.declared.link_claim.LinkValues.{LinkValues}
+use Rattle.sigv4_presign.specs.declared.link_query.Piece.{Piece}
+use Rattle.sigv4_presign.proofs.PiecesRead.{value_in-of, unsigned_text-of}
+use Rattle.sigv4_presign.proofs.LinkShape.{are_shaped-of, value_of-only}
+
+module _ (pieces : List Pair) where
+  -- algorithm and headers are those of a link, and the four texts are these
+  pub values_given : (values : Option LinkValues)
+      → is_value algorithm (value_in algorithm_name pieces) ≡ true → is_value (codes "host") (value_in headers_name pieces) ≡ true
+      → GivesAll (value_in credential_name pieces) (value_in date_name pieces) (value_in expires_name pieces) (value_in signature_name pieces) values
+      → GivesValues pieces values
+  values_given None first host some = rw (first, host) some
+  values_given (Some values) first host are = (rw (first, host, are.0, are.1, are.2, are.3) refl, are)
+
+  pub other_algorithm : is_value algorithm (value_in algorithm_name pieces) ≡ false → are_shaped pieces ≡ false
+  other_algorithm other = and_left _ _ other
+
+  pub other_headers : is_value (codes "host") (value_in headers_name pieces) ≡ false → are_shaped pieces ≡ false
+  other_headers other = and_right _ _ (and_left _ _ other)
+
+module _ (query : List ℕ) (pieces : List Piece) (are : ArePiecesOf query pieces) where
+  pub no_values : are_shaped (keyed_pieces pieces) ≡ false → IsNoClaim query
+  no_values other = inl (sym (are_shaped-of query pieces are) ∙ other)
+
+  found : (name text : List ℕ) → value_in name (keyed_pieces pieces) ≡ Some text → value_of query name ≡ text
+  found name text e = value_of-only query name text (sym (value_in-of query name pieces are) ∙ e)
+
+  module _ (values : LinkValues) (given : GivesValues (keyed_pieces pieces) (Some values)) where
+    pub no_date : moment_of_text (string_bytes values.date) ≡ None → IsNoClaim query
+    no_date none = inr (inl (ap moment_of_text (found date_name (string_bytes values.date) given.1.1) ∙ none))
+
+    pub no_expires : expires_of_text (string_bytes values.expires) ≡ None → IsNoClaim query
+    no_expires none = inr (inr (ap expires_of_text (found expires_name (string_bytes values.expires) given.1.2) ∙ none))
+
+    pub claimed : (claim : LinkClaim) → claim.credential ≡ values.credential → claim.signature ≡ values.signature
+        → moment_of_text (string_bytes values.date) ≡ Some claim.date → expires_of_text (string_bytes values.expires) ≡ Some claim.expires
+        → claim.unsigned.items ≡ unsigned_text (keyed_pieces pieces) → IsClaimOf query claim
+    claimed claim credential signature date expires unsigned = record {
+      shaped = sym (are_shaped-of query pieces are) ∙ given.0;
+      credential = ap string_bytes credential ∙ sym (found credential_name (string_bytes values.credential) given.1.0);
+      date = ap moment_of_text (found date_name (string_bytes values.date) given.1.1) ∙ date;
+      expires = ap expires_of_text (found expires_name (string_bytes values.expires) given.1.2) ∙ expires;
+      signature = ap string_bytes signature ∙ sym (found signature_name (string_bytes values.signature) given.1.3);
+      unsigned = unsigned ∙ unsigned_text-of query pieces are;
+    }

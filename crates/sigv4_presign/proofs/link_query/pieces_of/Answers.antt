@@ -1,0 +1,12 @@
+use Rattle.std.proofs.Common.{lit<, rules}
+use Rattle.std.proofs.lemmas.Iterator.Consumers.{YieldsList-end}
+use Rattle.std.proofs.lemmas.Iterator.Splits.{YieldsList-from_str_split}
+use Rattle.sign_base.specs.Bytes.{ampersand}
+use Rattle.sigv4_presign.proofs.link_query.pieces_of.Goals as goal
+
+-- the pieces that were yielded are all pieces
+pub returns : goal.returns
+returns c =
+    let all = YieldsList-end (YieldsList-from_str_split {s = c.into_iter-text-iterator.result} ampersand c.args.query.now (lit< tt) (search rules) (search rules) (search rules))
+    c.loop-text.yielded c.loop-text.text-iterator c.loop-text.yielded_by c.next.result c.next.new.self c.in-None.is c.next.ensures.steps in
+    rw (← all.0) c.loop-text.invariant

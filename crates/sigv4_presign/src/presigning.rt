@@ -1,0 +1,108 @@
+//! A request head whose URI is a presigned link.
+ghost use Rattle.std.specs.Prelude.{◌≡◌, ◌⊎◌, Ok, Err, IfOk, IfErr, is_some};
+ghost use Rattle.sign_request.specs.PlainTarget.{target_of};
+ghost use Rattle.sigv4_presign.specs.LinkPairs.{has_link_name};
+ghost use Rattle.sigv4_presign.specs.PresignedLink.{presigning_of};
+
+use crate::PresignError;
+use crate::link_date::is_expiry;
+use crate::link_parts::presigned_link;
+use crate::link_query::{has_link_name, pieces_of};
+use crate::link_target::query_of;
+use http_uri::{Uri, UriError};
+use sign_base::{Head, NoMemory, Octets, Timestamp};
+use sign_request::HeaderKeys;
+use sigv4_core::{SigCredential, SigScope, is_before_year_0, target_to_sign};
+use std::alloc::Global;
+
+/// The head with a presigned link as its URI: who has the link may send this request, for so many
+/// seconds from the whole second at or before `now` on. Method, version and headers stay.
+///
+/// The signature covers the method, the path, the query and, of the headers, the host alone, whose
+/// value is the URI's authority. Where the names of the headers come from outside, `presign_keyed` is
+/// the call to use.
+pub fn presign(
+    alloc: Global,
+    head: &Head,
+    credential: &SigCredential,
+    scope: &SigScope,
+    expires: u32,
+    now: Timestamp,
+) -> Result<Head, PresignError>
+    ensures ok { IfOk result (λ h. presigning_of credential.now scope.now expires now head.now ≡ Ok h) }
+    ensures err { IfErr result (λ why. (why ≡ PresignError.OutOfMemory)
+        ⊎ (presigning_of credential.now scope.now expires now head.now ≡ Err why)) }
+{
+    presign_keyed(
+        alloc,
+        head,
+        credential,
+        scope,
+        expires,
+        now,
+        HeaderKeys::default(),
+    )
+}
+
+/// Answers what `presign` does, whatever the keys.
+#[tactic(auto, unfolding(crate::specs::PresignedLink::presigning_of))]
+pub fn presign_keyed(
+    alloc: Global,
+    head: &Head,
+    credential: &SigCredential,
+    scope: &SigScope,
+    expires: u32,
+    now: Timestamp,
+    keys: HeaderKeys,
+) -> Result<Head, PresignError>
+    ensures ok { IfOk result (λ h. presigning_of credential.now scope.now expires now head.now ≡ Ok h) }
+    ensures err { IfErr result (λ why. (why ≡ PresignError.OutOfMemory)
+        ⊎ (presigning_of credential.now scope.now expires now head.now ≡ Err why)) }
+{
+    let uri = target_to_sign(alloc, head, scope, keys)?;
+    if is_before_year_0(now) {
+        return Err(PresignError::Moment);
+    }
+    if is_presigned(alloc, query_of(&uri))? {
+        return Err(PresignError::Already);
+    }
+    if !is_expiry(expires) {
+        return Err(PresignError::Expires);
+    }
+    let link = presigned_link(alloc, head, &uri, credential, scope, expires, now)?;
+    if !is_target(alloc, link.as_slice())? {
+        return Err(PresignError::Link);
+    }
+    Ok(with_uri(alloc, head, link)?)
+}
+
+/// Whether a key of the query is the name of a link's pair.
+fn is_presigned(alloc: Global, query: &str) -> Result<bool, NoMemory<()>>
+    ensures { IfOk result (λ is. is ≡ has_link_name query.now) }
+{
+    let pieces = pieces_of(alloc, query)?;
+    Ok(has_link_name(pieces.as_slice()))
+}
+
+/// Whether `http` reads this text as a target.
+fn is_target(alloc: Global, text: &[u8]) -> Result<bool, NoMemory<()>>
+    ensures { IfOk result (λ is. is ≡ is_some (target_of text.now)) }
+{
+    match Uri::from_bytes(alloc, text) {
+        Ok(_) => Ok(true),
+        Err(UriError::OutOfMemory) => Err(NoMemory { back: () }),
+        Err(UriError::Invalid(_)) => Ok(false),
+    }
+}
+
+/// The head with this URI.
+fn with_uri(alloc: Global, head: &Head, uri: Vec<u8>) -> Result<Head, NoMemory<()>>
+    ensures { IfOk result (λ h. h ≡ record head.now { uri = uri.items }) }
+{
+    Ok(Head {
+        method: head.method.try_clone(alloc)?,
+        uri: Octets::from_vec(uri),
+        version: head.version,
+        headers: head.headers.try_clone(alloc)?,
+    })
+}
