@@ -3,6 +3,7 @@ pub mod ReadLines
 pub mod Pieces
 pub mod Truncation
 pub mod LineSteps
+pub mod Refusing
 pub mod Progress
 pub mod RunState
 pub mod Closes

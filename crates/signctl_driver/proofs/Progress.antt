@@ -5,7 +5,7 @@ use Rattle.std.proofs.Math.Seq.{take-append-add}
 use Rattle.std.proofs.lemmas.Bool.Decides.{nat_tests}
 use Rattle.sign_base.specs.Bytes.{newline}
 use Rattle.sign_base.specs.Lines.{input_limit, line_limit, HasNoNewline}
-use Rattle.signctl_driver.specs.Command.{Command, answers_to}
+use Rattle.signctl_driver.specs.Command.{Command, BadLine, answers_to}
 use Rattle.signctl_driver.specs.Lines.{Ending, End, Fault, lines_of}
 use Rattle.signctl_driver.specs.LinesRead.{LinesRead, reading_of, read_from, lines_read}
 use Rattle.signctl_driver.specs.Output.{bad_line, too_much_line, closing_at, output_of, output}
@@ -61,13 +61,13 @@ module _ {Item Cause : Type 0} (command : Command Item Cause) where
       ∙ ap (λ (s : LinesRead Item). output_of command (closing_at command ending) s) reads
 
   -- the output to an input with a bad line, within the limit
-  pub output-bad : (items : List Item) (taken : List ℕ) (ending : Ending) (why : List ℕ) → length taken ≤ input_limit → lines_read command taken ending ≡ record { items = items; bad = Some why } → output command taken ending ≡ answers_to command items ++ bad_line (length items + 1) why
-  output-bad items taken ending why within reads =
+  pub output-bad : (items : List Item) (taken : List ℕ) (ending : Ending) (bad : BadLine) → length taken ≤ input_limit → lines_read command taken ending ≡ record { items = items; bad = Some bad } → output command taken ending ≡ answers_to command items ++ bad_line bad
+  output-bad items taken ending bad within reads =
       output-within command taken ending within
       ∙ ap (λ (s : LinesRead Item). output_of command (closing_at command ending) s) reads
 
   -- the output to too many bytes, by the lines of those that are looked at
-  pub output-many : (items : List Item) (bad : Option (List ℕ)) (taken seen : List ℕ) (ending : Ending) → input_limit < length taken → take input_limit taken ≡ seen → lines_read command seen Fault ≡ record { items = items; bad = bad } → output command taken ending ≡ output_of command (λ items. too_much_line) (record { items = items; bad = bad })
+  pub output-many : (items : List Item) (bad : Option BadLine) (taken seen : List ℕ) (ending : Ending) → input_limit < length taken → take input_limit taken ≡ seen → lines_read command seen Fault ≡ record { items = items; bad = bad } → output command taken ending ≡ output_of command (λ items. too_much_line) (record { items = items; bad = bad })
   output-many items bad taken seen ending past looked reads =
       output-past command taken ending past
       ∙ ap (λ (s : LinesRead Item). output_of command (λ items. too_much_line) s) (ap (λ v. lines_read command v Fault) looked ∙ reads)

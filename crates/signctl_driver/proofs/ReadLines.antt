@@ -1,10 +1,10 @@
 -- Lines read one after another, and the output to them.
-use Rattle.std.proofs.Common.{◌≡◌, ℕ, ◌+◌, List, [], ◌∷◌, ◌++◌, length, Some, None, Result, Ok, Err, refl, sym, ap, ◌∙◌, subst, append_assoc, append-nil}
+use Rattle.std.proofs.Common.{◌≡◌, ℕ, List, [], ◌∷◌, ◌++◌, Some, None, Result, Ok, Err, refl, sym, ap, ◌∙◌, subst, append_assoc, append-nil}
 use Rattle.std.specs.List.{flat_map}
 use Rattle.std.specs.Io.{StartsWith}
 use Rattle.std.proofs.lemmas.Grind.{flat_map-append}
 use Rattle.sign_base.specs.EachAfter.{each_after}
-use Rattle.signctl_driver.specs.Command.{Command, answers_to}
+use Rattle.signctl_driver.specs.Command.{Command, BadLine, answers_to}
 use Rattle.signctl_driver.specs.LinesRead.{LinesRead, reading_of, read_on, read_from}
 use Rattle.signctl_driver.specs.Output.{bad_line, output_of}
 use Rattle.signctl_driver.proofs.Starts.{starts-append, starts-same, starts-trans}
@@ -40,13 +40,13 @@ module _ {Item Cause : Type 0} (command : Command Item Cause) where
   pub read-good : (before : List Item) (line : List ℕ) (rest : List (List ℕ)) (x : Item) → reading_of command before line ≡ Ok x → read_from command before (line ∷ rest) ≡ read_from command (before ++ x ∷ []) rest
   unfolding read_from
   read-good before line rest x h =
-      ap (λ (r : Result Item (List ℕ)). read_on before (λ items. read_from command items rest) r) h
+      ap (λ (r : Result Item BadLine). read_on before (λ items. read_from command items rest) r) h
 
   -- no line is read after a bad one
-  pub read-bad : (before : List Item) (line : List ℕ) (rest : List (List ℕ)) (why : List ℕ) → reading_of command before line ≡ Err why → read_from command before (line ∷ rest) ≡ record { items = before; bad = Some why }
+  pub read-bad : (before : List Item) (line : List ℕ) (rest : List (List ℕ)) (bad : BadLine) → reading_of command before line ≡ Err bad → read_from command before (line ∷ rest) ≡ record { items = before; bad = Some bad }
   unfolding read_from
-  read-bad before line rest why h =
-      ap (λ (r : Result Item (List ℕ)). read_on before (λ items. read_from command items rest) r) h
+  read-bad before line rest bad h =
+      ap (λ (r : Result Item BadLine). read_on before (λ items. read_from command items rest) r) h
 
   -- what was answered so far is a prefix of the output
   pub answers-start : (lines : List (List ℕ)) (before : List Item) (closing : List Item → List ℕ) → StartsWith (output_of command closing (read_from command before lines)) (answers_to command before)
@@ -55,14 +55,14 @@ module _ {Item Cause : Type 0} (command : Command Item Cause) where
   answers-start (line ∷ rest) before closing =
       by_reading (λ x. answers-start rest (before ++ x ∷ []) closing) (reading_of command before line) refl
     where
-      by_reading : ((x : Item) → StartsWith (output_of command closing (read_from command (before ++ x ∷ []) rest)) (answers_to command (before ++ x ∷ []))) → (r : Result Item (List ℕ)) → reading_of command before line ≡ r → StartsWith (output_of command closing (read_from command before (line ∷ rest))) (answers_to command before)
+      by_reading : ((x : Item) → StartsWith (output_of command closing (read_from command (before ++ x ∷ []) rest)) (answers_to command (before ++ x ∷ []))) → (r : Result Item BadLine) → reading_of command before line ≡ r → StartsWith (output_of command closing (read_from command before (line ∷ rest))) (answers_to command before)
       by_reading go_on (Ok x) e =
           let P : LinesRead Item → Type 0 = λ s. StartsWith (output_of command closing s) (answers_to command before) in
           subst P (sym (read-good before line rest x e))
           (starts-trans (answers_to command before) (answers_to command (before ++ x ∷ [])) _
           (starts-append _ _ (command.answer before x) (answers-push before x)) (go_on x))
-      by_reading go_on (Err why) e =
-          starts-append _ (answers_to command before) (bad_line (length before + 1) why) (ap (λ (s : LinesRead Item). output_of command closing s) (read-bad before line rest why e))
+      by_reading go_on (Err bad) e =
+          starts-append _ (answers_to command before) (bad_line bad) (ap (λ (s : LinesRead Item). output_of command closing s) (read-bad before line rest bad e))
 
   -- what a line reads as changes nothing of what comes before it: lines in front of both keep a prefix a prefix
   pub output-after : (front less more : List (List ℕ)) (closing : List Item → List ℕ)
@@ -75,14 +75,14 @@ module _ {Item Cause : Type 0} (command : Command Item Cause) where
       Starts : LinesRead Item → LinesRead Item → Type 0
       Starts s t = StartsWith (output_of command closing s) (output_of command (λ items. []) t)
 
-      by_reading : ((x : Item) → StartsWith (output_of command closing (read_from command (before ++ x ∷ []) (rest ++ more))) (output_of command (λ items. []) (read_from command (before ++ x ∷ []) (rest ++ less)))) → (r : Result Item (List ℕ)) → reading_of command before line ≡ r → StartsWith (output_of command closing (read_from command before (line ∷ (rest ++ more)))) (output_of command (λ items. []) (read_from command before (line ∷ (rest ++ less))))
+      by_reading : ((x : Item) → StartsWith (output_of command closing (read_from command (before ++ x ∷ []) (rest ++ more))) (output_of command (λ items. []) (read_from command (before ++ x ∷ []) (rest ++ less)))) → (r : Result Item BadLine) → reading_of command before line ≡ r → StartsWith (output_of command closing (read_from command before (line ∷ (rest ++ more)))) (output_of command (λ items. []) (read_from command before (line ∷ (rest ++ less))))
       by_reading go_on (Ok x) e =
           let P : LinesRead Item → Type 0 = λ s. StartsWith (output_of command closing s) (output_of command (λ items. []) (read_from command before (line ∷ (rest ++ less)))) in
           let Q : LinesRead Item → Type 0 = λ s. StartsWith (output_of command closing (read_from command (before ++ x ∷ []) (rest ++ more))) (output_of command (λ items. []) s) in
           subst P (sym (read-good before line (rest ++ more) x e)) (subst Q (sym (read-good before line (rest ++ less) x e)) (go_on x))
-      by_reading go_on (Err why) e =
-          starts-same _ _ (ap (λ (s : LinesRead Item). output_of command closing s) (read-bad before line (rest ++ more) why e)
-          ∙ sym (ap (λ (s : LinesRead Item). output_of command (λ items. []) s) (read-bad before line (rest ++ less) why e)))
+      by_reading go_on (Err bad) e =
+          starts-same _ _ (ap (λ (s : LinesRead Item). output_of command closing s) (read-bad before line (rest ++ more) bad e)
+          ∙ sym (ap (λ (s : LinesRead Item). output_of command (λ items. []) s) (read-bad before line (rest ++ less) bad e)))
 
   -- the output to no lines is nothing
   pub output-none : (before : List Item) → output_of command (λ items. []) (read_from command before []) ≡ answers_to command before

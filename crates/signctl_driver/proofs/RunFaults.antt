@@ -8,25 +8,30 @@ use Rattle.sign_base.specs.declared.close.Close.{Close}
 use Rattle.sign_base.specs.declared.close.Close.TheVariants as close
 use Rattle.sign_base.specs.LineInput.{LineInput, NeedsRead}
 use Rattle.sign_base.specs.LineReader.{AnswersOpen, AnswersNext, is_fault}
-use Rattle.signctl_driver.specs.Command.{Command}
+use Rattle.signctl_driver.specs.Command.{Command, BadLine}
 use Rattle.signctl_driver.specs.LinesRead.{reading_of}
 use Rattle.signctl_driver.specs.Status.{FinishesBy, is_read_fault}
-use Rattle.signctl_driver.specs.LineOutcome.{Good, Ends, line_outcome_by, line_outcome}
+use Rattle.signctl_driver.specs.LineOutcome.{Good, Ends, line_outcome_by, end_outcome, line_outcome}
 use Rattle.signctl_driver.specs.declared.status.Status.{Status}
 use Rattle.signctl_driver.proofs.RunState.{IsReadSoFar}
-use Rattle.signctl_driver.proofs.RunSteps.{status-is, closing-is}
+use Rattle.signctl_driver.proofs.Endings.{status-is, closing-is}
 
 module _ {Item Cause : Type 0} (command : Command Item Cause) where
+  -- no read has failed at the end
+  end-no_fault : (items : List Item) (closes : Result (List ℕ) Cause) (status : Status) (closing : List ℕ) → end_outcome command items closes ≡ Ends status closing → is_read_fault status ≡ false
+  end-no_fault items (Ok text) status closing t = ap (λ s. is_read_fault s) (sym (status-is {Item = Item} _ _ _ _ t))
+  end-no_fault items (Err cause) status closing t = ap (λ s. is_read_fault s) (sym (status-is {Item = Item} _ _ _ _ t))
+
   -- a run ends as in a failed read exactly where the reader says so
   pub turn-fault : (items : List Item) (answer : Result (List ℕ) Close) (status : Status) (closing : List ℕ) → line_outcome command items answer ≡ Ends status closing → is_read_fault status ≡ is_fault answer
   turn-fault items (Ok line) status closing t = by_reading (reading_of command items line) t
     where
-      by_reading : (r : Result Item (List ℕ)) → line_outcome_by (length items) r ≡ Ends status closing → is_read_fault status ≡ false
+      by_reading : (r : Result Item BadLine) → line_outcome_by r ≡ Ends status closing → is_read_fault status ≡ false
       by_reading (Ok x) e = absurd (cc)
-      by_reading (Err why) e = ap (λ s. is_read_fault s) (sym (status-is {Item = Item} _ _ _ _ e))
+      by_reading (Err bad) e = ap (λ s. is_read_fault s) (sym (status-is {Item = Item} _ _ _ _ e))
   turn-fault items (Err close.TooLong) status closing t = ap (λ s. is_read_fault s) (sym (status-is {Item = Item} _ _ _ _ t))
   turn-fault items (Err close.TooMuch) status closing t = ap (λ s. is_read_fault s) (sym (status-is {Item = Item} _ _ _ _ t))
-  turn-fault items (Err close.End) status closing t = ap (λ s. is_read_fault s) (sym (status-is {Item = Item} _ _ _ _ t))
+  turn-fault items (Err close.End) status closing t = end-no_fault items (command.closing items) status closing t
   turn-fault items (Err close.Fault) status closing t = ap (λ s. is_read_fault s) (sym (status-is {Item = Item} _ _ _ _ t))
 
   -- after a good line no read has failed

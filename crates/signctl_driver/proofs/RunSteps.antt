@@ -1,5 +1,5 @@
 -- A run takes a line more, or ends.
-use Rattle.std.proofs.Common.{◌≡◌, ℕ, ◌+◌, ◌-◌, ◌≤◌, inl, inr, List, [], ◌∷◌, ◌++◌, length, take, Option, Some, None, true, false, Result, Ok, Err, is_err, OnOk, OnErr, MatchOption, codes, refl, sym, ap, ◌∙◌, subst, append_assoc, append-nil, arith, length-append}
+use Rattle.std.proofs.Common.{◌≡◌, ℕ, ◌+◌, ◌-◌, ◌≤◌, inl, inr, List, [], ◌∷◌, ◌++◌, length, take, Option, Some, None, true, false, Result, Ok, Err, is_err, OnOk, OnErr, MatchOption, refl, sym, ap, ◌∙◌, subst, append_assoc, append-nil, arith, length-append}
 use Rattle.std.specs.Io.{StartsWith}
 use Rattle.std.specs.Io.KnownBytes.{Appends, Consumes}
 use Rattle.std.proofs.KnownBytes.{Appends-nil, Appends-trans, Consumes-nil, Consumes-trans}
@@ -9,22 +9,22 @@ use Rattle.sign_base.specs.declared.close.Close.{Close}
 use Rattle.sign_base.specs.declared.close.Close.TheVariants as close
 use Rattle.sign_base.specs.LineInput.{LineInput, taken, with_taken, looked_at, NeedsRead, IsWithinLimit}
 use Rattle.sign_base.specs.LineReader.{GivesLine, GivesLastLine, Answers, AnswersOpen, AnswersNext}
-use Rattle.signctl_driver.specs.Command.{Command, answers_to}
+use Rattle.signctl_driver.specs.Command.{Command, BadLine, answers_to}
 use Rattle.signctl_driver.specs.Lines.{End, Fault}
-use Rattle.signctl_driver.specs.LinesRead.{reading_of}
-use Rattle.signctl_driver.specs.Output.{bad_line, too_much_line, output, AppendsPrefix}
+use Rattle.signctl_driver.specs.LinesRead.{too_long_line, reading_of}
+use Rattle.signctl_driver.specs.Output.{bad_line, too_much_line, closing_by, output, AppendsPrefix}
 use Rattle.signctl_driver.specs.Run.{StopsEarly, RunAdds}
 use Rattle.signctl_driver.specs.Serving.{HasServed}
 use Rattle.signctl_driver.specs.Status.{FinishesBy}
-use Rattle.signctl_driver.specs.LineOutcome.{LineOutcome, Good, Ends, line_outcome_by, line_outcome}
+use Rattle.signctl_driver.specs.LineOutcome.{LineOutcome, Good, Ends, line_outcome_by, end_outcome, line_outcome}
 use Rattle.signctl_driver.specs.declared.service.Service.{Service}
 use Rattle.signctl_driver.specs.declared.status.Status.{Status}
-use Rattle.signctl_driver.specs.declared.status.Status.TheVariants.{Done, Refused, ReadFault, WriteFault, OutOfMemory}
+use Rattle.signctl_driver.specs.declared.status.Status.TheVariants.{Refused, ReadFault, WriteFault, OutOfMemory}
 use Rattle.signctl_driver.proofs.Starts.{starts-append, starts-trans, starts-after}
 use Rattle.signctl_driver.proofs.ReadLines.{answers-none, answers-push}
 use Rattle.signctl_driver.proofs.Progress.{GoesOn, goes_on-none, goes_on-line, all_read-last, all_read-none, answers-start_fault, output-good}
 use Rattle.signctl_driver.proofs.Closes.{seen}
-use Rattle.signctl_driver.proofs.Endings.{EndsWith, ends-line, ends-last, ends-too_long, ends-too_much, ends-done, ends-fault}
+use Rattle.signctl_driver.proofs.Endings.{EndsWith, status-is, closing-is, ends-line, ends-last, ends-too_long, ends-too_much, ends-closing, ends-fault}
 use Rattle.signctl_driver.proofs.RunState.{Since, streams_of, RunState, IsReadSoFar}
 
 -- a prefix of what is a prefix of the output
@@ -134,7 +134,7 @@ module _ {C Item Cause : Type 0} (command : Command Item Cause) (represents : C 
             let all : state.bytes ++ input.held ≡ state.bytes = ap (λ v. state.bytes ++ v) over.2 ∙ append-nil state.bytes in
             let few : length state.bytes ≤ input_limit = omega (arith, state.handed, state.within) in
             let P : List ℕ → Type 0 = λ v. StartsWith (output command v End) (answers_to command state.items) in
-            inr (over.1, subst P (sym all) (starts-append _ (answers_to command state.items) (command.closing state.items) (output-good command state.items state.bytes End few over.3)))
+            inr (over.1, subst P (sym all) (starts-append _ (answers_to command state.items) (closing_by command state.items (command.closing state.items)) (output-good command state.items state.bytes End few over.3)))
 
     -- a write of the answers that wait has failed
     pub stops-writing : {E : Type 0} (now : Option (List ℕ)) (result : Result (Unit {0}) E) → is_err result ≡ true → OnErr result (AppendsPrefix sink.now now service.text.items) → RunEnds command (record { before = before; now = left }) (record { before = sink.before; now = now }) WriteFault
@@ -153,12 +153,10 @@ module _ {C Item Cause : Type 0} (command : Command Item Cause) (represents : C 
 good-is : {Item : Type 0} (x y : Item) → Good x ≡ Good y → x ≡ y
 good-is x y h = cc
 
--- an end has one status and one closing
-pub status-is : {Item : Type 0} (s t : Status) (a b : List ℕ) → ◌≡◌ {A = LineOutcome Item} (Ends s a) (Ends t b) → s ≡ t
-status-is s t a b h = cc
-
-pub closing-is : {Item : Type 0} (s t : Status) (a b : List ℕ) → ◌≡◌ {A = LineOutcome Item} (Ends s a) (Ends t b) → a ≡ b
-closing-is s t a b h = cc
+-- and an end is no good line
+end-no_line : {Item Cause : Type 0} (command : Command Item Cause) (items : List Item) (closes : Result (List ℕ) Cause) (x : Item) → end_outcome command items closes ≡ Good x → ⊥
+end-no_line command items (Ok text) x t = cc
+end-no_line command items (Err cause) x t = cc
 
 -- an answer hands out what was taken, or keeps it
 taken-kept : (input : LineInput) (left : Option (List ℕ)) (answer : Result (List ℕ) Close) (new : LineInput) → Answers input left answer new → taken new ≡ taken input
@@ -268,7 +266,7 @@ module _ {C Item Cause : Type 0} (command : Command Item Cause) (represents : C 
         by_answer : (a : Result (List ℕ) Close) → GoesOn command state.items state.bytes → AnswersOpen input left next a new → line_outcome command state.items a ≡ Good item → RunState command represents (streams_of (record { before = before; now = next }) sink) new served
         by_answer (Ok line) go h t = by_reading (reading_of command state.items line) refl t
           where
-            by_reading : (r : Result Item (List ℕ)) → reading_of command state.items line ≡ r → line_outcome_by (length state.items) r ≡ Good item → RunState command represents (streams_of (record { before = before; now = next }) sink) new served
+            by_reading : (r : Result Item BadLine) → reading_of command state.items line ≡ r → line_outcome_by r ≡ Good item → RunState command represents (streams_of (record { before = before; now = next }) sink) new served
             by_reading (Ok x) e same = by_gives h.3
               where
                 reads : reading_of command state.items line ≡ Ok item
@@ -277,10 +275,10 @@ module _ {C Item Cause : Type 0} (command : Command Item Cause) (represents : C 
                 by_gives : Answers (with_taken input h.0) next (Ok line) new → RunState command represents (streams_of (record { before = before; now = next }) sink) new served
                 by_gives (inl gives) = state-whole line new h go gives reads
                 by_gives (inr gives) = state-last line new h go gives reads
-            by_reading (Err why) e same = absurd (cc)
+            by_reading (Err bad) e same = absurd (cc)
         by_answer (Err close.TooLong) go h t = absurd (cc)
         by_answer (Err close.TooMuch) go h t = absurd (cc)
-        by_answer (Err close.End) go h t = absurd (cc)
+        by_answer (Err close.End) go h t = absurd (end-no_line command state.items (command.closing state.items) item t)
         by_answer (Err close.Fault) go h t = absurd (cc)
 
         by_read : IsReadSoFar command left state.items state.bytes input → RunState command represents (streams_of (record { before = before; now = next }) sink) new served
@@ -290,8 +288,8 @@ module _ {C Item Cause : Type 0} (command : Command Item Cause) (represents : C 
         by_read (inr over) =
             let P : Option Close → Type 0 = λ o. MatchOption o (AnswersOpen input left next answer new) (λ close. (answer ≡ Err close) × (new ≡ input)) in
             let h : (answer ≡ Err close.End) × (new ≡ input) = subst P over.0 answers in
-            let t : Ends Done (command.closing state.items) ≡ Good item = sym (ap (λ a. line_outcome command state.items a) h.0) ∙ turn in
-            absurd (cc)
+            let t : end_outcome command state.items (command.closing state.items) ≡ Good item = sym (ap (λ a. line_outcome command state.items a) h.0) ∙ turn in
+            absurd (end-no_line command state.items (command.closing state.items) item t)
 
   -- the run ends at this answer
   pub ends-after : (answer : Result (List ℕ) Close) (new : LineInput) (status : Status) (closing : List ℕ) → AnswersNext input left next answer new → ((NeedsRead input → ⊥) → next ≡ left) → line_outcome command state.items answer ≡ Ends status closing → (all : List ℕ) × HasTaken (record { before = before; now = next }) all × EndsWith command next status all (answers_to command state.items ++ closing)
@@ -306,27 +304,27 @@ module _ {C Item Cause : Type 0} (command : Command Item Cause) (represents : C 
           let Q : List ℕ → Type 0 = λ v. End_of s v in
           subst P (status-is s status text closing e) (subst Q (closing-is s status text closing e) h)
 
-      by_line : (line : List ℕ) → GoesOn command state.items state.bytes → (h : AnswersOpen input left next (Ok line) new) → (r : Result Item (List ℕ)) → reading_of command state.items line ≡ r → line_outcome_by (length state.items) r ≡ Ends status closing → End_of status closing
+      by_line : (line : List ℕ) → GoesOn command state.items state.bytes → (h : AnswersOpen input left next (Ok line) new) → (r : Result Item BadLine) → reading_of command state.items line ≡ r → line_outcome_by r ≡ Ends status closing → End_of status closing
       by_line line go h (Ok x) e t = absurd (cc)
-      by_line line go h (Err why) e t = by Refused (bad_line (length state.items + 1) why) t (by_gives h.3)
+      by_line line go h (Err bad) e t = by Refused (bad_line bad) t (by_gives h.3)
         where
-          by_gives : Answers (with_taken input h.0) next (Ok line) new → End_of Refused (bad_line (length state.items + 1) why)
+          by_gives : Answers (with_taken input h.0) next (Ok line) new → End_of Refused (bad_line bad)
           by_gives (inl gives) = (
             state.bytes ++ (input.held ++ h.0),
             open-taken (Ok line) new h,
-            ends-line command state.items next state.bytes go handed-few (input.held ++ h.0) line new.held why gives.1 (omega (arith, state.handed, gives.2, gives.3)) gives.0.0 e,
+            ends-line command state.items next state.bytes go handed-few (input.held ++ h.0) line new.held bad gives.1 (omega (arith, state.handed, gives.2, gives.3)) gives.0.0 e,
           )
           by_gives (inr gives) =
               let P : List ℕ → Type 0 = λ v. HasTaken (record { before = before; now = next }) (state.bytes ++ v) in
               let S : List ℕ → Type 0 = λ v. HasNoNewline v in (
                 state.bytes ++ line,
                 subst P gives.3 (open-taken (Ok line) new h),
-                ends-last command state.items next state.bytes go handed-few line why gives.1 gives.2 (subst S gives.3 gives.0.2.0) (omega (arith, length-append state.bytes line, state.handed, gives.0.1, ap (λ (v : List ℕ). length v) gives.3)) e,
+                ends-last command state.items next state.bytes go handed-few line bad gives.1 gives.2 (subst S gives.3 gives.0.2.0) (omega (arith, length-append state.bytes line, state.handed, gives.0.1, ap (λ (v : List ℕ). length v) gives.3)) e,
               )
 
       by_answer : (a : Result (List ℕ) Close) → GoesOn command state.items state.bytes → AnswersOpen input left next a new → line_outcome command state.items a ≡ Ends status closing → End_of status closing
       by_answer (Ok line) go h t = by_line line go h (reading_of command state.items line) refl t
-      by_answer (Err close.TooLong) go h t = by Refused (bad_line (length state.items + 1) (codes "too long")) t (
+      by_answer (Err close.TooLong) go h t = by Refused (bad_line (too_long_line (length state.items + 1))) t (
         state.bytes ++ (input.held ++ h.0),
         open-taken (Err close.TooLong) new h,
         ends-too_long command state.items next state.bytes go handed-few (input.held ++ h.0) (seen-long h.3.0),
@@ -347,11 +345,10 @@ module _ {C Item Cause : Type 0} (command : Command Item Cause) (represents : C 
               let P : ℕ → Type 0 = λ n. IsLine (take (input_limit - n) (input.held ++ h.0)) in subst P (sym state.handed) part
       by_answer (Err close.End) go h t =
           let all : state.bytes ++ (input.held ++ h.0) ≡ state.bytes = ap (λ v. state.bytes ++ v) h.3.0.2 ∙ append-nil state.bytes in
-          let P : List ℕ → Type 0 = λ v. HasTaken (record { before = before; now = next }) v in
-          by Done (command.closing state.items) t (
+          let P : List ℕ → Type 0 = λ v. HasTaken (record { before = before; now = next }) v in (
             state.bytes,
             subst P all (open-taken (Err close.End) new h),
-            ends-done command state.items next state.bytes h.3.0.1 handed-few (all_read-none command state.items state.bytes go),
+            ends-closing command state.items next state.bytes (command.closing state.items) h.3.0.1 handed-few (all_read-none command state.items state.bytes go) refl status closing t,
           )
       by_answer (Err close.Fault) go h t = by ReadFault [] t (
         state.bytes ++ (input.held ++ h.0),
@@ -367,10 +364,10 @@ module _ {C Item Cause : Type 0} (command : Command Item Cause) (represents : C 
       by_read (inr over) =
           let Answered : Option Close → Type 0 = λ o. MatchOption o (AnswersOpen input left next answer new) (λ close. (answer ≡ Err close) × (new ≡ input)) in
           let h : (answer ≡ Err close.End) × (new ≡ input) = subst Answered over.0 answers in
-          let t : ◌≡◌ {A = LineOutcome Item} (Ends Done (command.closing state.items)) (Ends status closing) = sym (ap (λ a. line_outcome command state.items a) h.0) ∙ turn in
+          let t : end_outcome command state.items (command.closing state.items) ≡ Ends status closing = sym (ap (λ a. line_outcome command state.items a) h.0) ∙ turn in
           let same : next ≡ left = still (λ needs. let e : Some close.End ≡ None = sym over.0 ∙ needs.0 in absurd (cc)) in
-          let Q : Option (List ℕ) → Type 0 = λ l. HasTaken (record { before = before; now = l }) state.bytes × EndsWith command l Done state.bytes (answers_to command state.items ++ command.closing state.items) in
+          let Q : Option (List ℕ) → Type 0 = λ l. HasTaken (record { before = before; now = l }) state.bytes × EndsWith command l status state.bytes (answers_to command state.items ++ closing) in
           let R : List ℕ → Type 0 = λ v. HasTaken (record { before = before; now = left }) v in
           let all : state.bytes ++ input.held ≡ state.bytes = ap (λ v. state.bytes ++ v) over.2 ∙ append-nil state.bytes in
-          let done = subst Q (sym same) (subst R all (reached command represents before left sink input service state).0, ends-done command state.items left state.bytes over.1 handed-few over.3) in
-          by Done (command.closing state.items) t (state.bytes, done.0, done.1)
+          let done = subst Q (sym same) (subst R all (reached command represents before left sink input service state).0, ends-closing command state.items left state.bytes (command.closing state.items) over.1 handed-few over.3 refl status closing t) in
+          (state.bytes, done.0, done.1)

@@ -1,5 +1,5 @@
 -- The output to some bytes where a read failed is a prefix of the output to more bytes.
-use Rattle.std.proofs.Common.{◌≡◌, ℕ, ◌+◌, ◌-◌, ◌<◌, ◌≤◌, Bool, true, false, nat_lt, if◌then◌else◌, List, [], ◌∷◌, ◌++◌, length, take, Err, refl, sym, ap, ◌∙◌, subst, arith, length-append, codes}
+use Rattle.std.proofs.Common.{◌≡◌, ℕ, ◌+◌, ◌-◌, ◌<◌, ◌≤◌, Bool, true, false, nat_lt, if◌then◌else◌, List, [], ◌∷◌, ◌++◌, length, take, Err, refl, sym, ap, ◌∙◌, subst, arith, length-append}
 use Rattle.std.specs.Io.{StartsWith}
 use Rattle.std.specs.Result.{result_map_both}
 use Rattle.std.specs.List.{slice_split}
@@ -7,9 +7,9 @@ use Rattle.std.proofs.Math.Seq.{take-append-add}
 use Rattle.std.proofs.lemmas.List.{take-append-le}
 use Rattle.std.proofs.lemmas.Bool.Decides.{nat_tests}
 use Rattle.sign_base.specs.Lines.{is_newline, input_limit}
-use Rattle.signctl_driver.specs.Command.{Command}
+use Rattle.signctl_driver.specs.Command.{Command, blamed}
 use Rattle.signctl_driver.specs.Lines.{Ending, Fault, is_too_long, lines_in}
-use Rattle.signctl_driver.specs.LinesRead.{LinesRead, reading_of, read_from, lines_read}
+use Rattle.signctl_driver.specs.LinesRead.{LinesRead, too_long_line, reading_of, read_from, lines_read}
 use Rattle.signctl_driver.specs.Output.{closing_at, output_of, output, too_much_line}
 use Rattle.signctl_driver.proofs.Starts.{starts-same}
 use Rattle.signctl_driver.proofs.ReadLines.{read-bad, answers-start, output-after, output-none}
@@ -17,9 +17,9 @@ use Rattle.signctl_driver.proofs.Pieces.{Cut, cut_of, grows-line, lines_in-after
 
 module _ {Item Cause : Type 0} (command : Command Item Cause) where
   -- a line that is too long is bad for that
-  pub reading-too_long : (before : List Item) (line : List ℕ) → is_too_long line ≡ true → reading_of command before line ≡ Err (codes "too long")
+  pub reading-too_long : (before : List Item) (line : List ℕ) → is_too_long line ≡ true → reading_of command before line ≡ Err (too_long_line (length before + 1))
   reading-too_long before line h =
-      ap (λ (b : Bool). if b then Err (codes "too long") else result_map_both (λ item. item) command.cause_text (command.read before line)) h
+      ap (λ (b : Bool). if b then Err (too_long_line (length before + 1)) else result_map_both (λ item. item) (blamed command (length before + 1)) (command.read before line)) h
 
   -- the output to bytes within the limit
   pub output-within : (bytes : List ℕ) (ending : Ending) → length bytes ≤ input_limit → output command bytes ending ≡ output_of command (closing_at command ending) (lines_read command bytes ending)
@@ -65,8 +65,8 @@ module _ {Item Cause : Type 0} (command : Command Item Cause) where
       too_long_both : (more : List (List ℕ)) → is_too_long cut.last ≡ true → (before : List Item) → StartsWith (output_of command closing (read_from command before ((cut.last ++ behind.0) ∷ more))) (output_of command (λ items. []) (read_from command before (cut.last ∷ [])))
       too_long_both more long before =
           let longer = too_long-grows cut.last behind.0 long in
-          starts-same _ _ (ap (λ (s : LinesRead Item). output_of command closing s) (read-bad command before (cut.last ++ behind.0) more (codes "too long") (reading-too_long before (cut.last ++ behind.0) longer))
-          ∙ sym (ap (λ (s : LinesRead Item). output_of command (λ items. []) s) (read-bad command before cut.last [] (codes "too long") (reading-too_long before cut.last long))))
+          starts-same _ _ (ap (λ (s : LinesRead Item). output_of command closing s) (read-bad command before (cut.last ++ behind.0) more (too_long_line (length before + 1)) (reading-too_long before (cut.last ++ behind.0) longer))
+          ∙ sym (ap (λ (s : LinesRead Item). output_of command (λ items. []) s) (read-bad command before cut.last [] (too_long_line (length before + 1)) (reading-too_long before cut.last long))))
 
       none_less : (more : List (List ℕ)) (before : List Item) → StartsWith (output_of command closing (read_from command before more)) (output_of command (λ items. []) (read_from command before []))
       none_less more before =

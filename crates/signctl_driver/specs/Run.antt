@@ -5,18 +5,18 @@ use Rattle.std.specs.Io.KnownBytes.{IsAtEnd}
 use Rattle.sign_base.specs.Lines.{input_limit}
 use Rattle.signctl_driver.specs.Command.{Command}
 use Rattle.signctl_driver.specs.Lines.{Ending, End, Fault}
-use Rattle.signctl_driver.specs.LinesRead.{lines_read}
+use Rattle.signctl_driver.specs.LinesRead.{lines_read, first_bad}
 use Rattle.signctl_driver.specs.Output.{output}
 use Rattle.signctl_driver.specs.declared.status.Status.{Status}
 use Rattle.signctl_driver.specs.declared.status.Status.TheVariants.{Done, Usage, Refused, ReadFault, WriteFault, OutOfMemory}
 
--- some line of the bytes is bad
+-- some line of the bytes is bad, or, where all was read, their end is
 abbrev pub HasBadLine : {Item Cause : Type 0} → Command Item Cause → List ℕ → Ending → Type 0
-HasBadLine command bytes ending = IsSome (lines_read command bytes ending).bad
+HasBadLine command bytes ending = IsSome (first_bad command ending (lines_read command bytes ending))
 
--- no line of the bytes is bad
+-- no line of the bytes is bad, nor, where all was read, their end
 abbrev pub HasGoodLines : {Item Cause : Type 0} → Command Item Cause → List ℕ → Ending → Type 0
-HasGoodLines command bytes ending = (lines_read command bytes ending).bad ≡ None
+HasGoodLines command bytes ending = first_bad command ending (lines_read command bytes ending) ≡ None
 
 -- all was read, no line is bad, and all answers and the closing were written
 pub record IsDone {Item Cause : Type 0} (command : Command Item Cause) (left : Option (List ℕ)) (taken added : List ℕ) : Type 0 where

@@ -1,12 +1,12 @@
 //! What the driver asks of a command over lines: how a line reads, and what is answered to it.
 //!
-//! A new command is an item type, a step and a printer. Its meaning is the record `Command`, of four
+//! A new command is an item type, a step and a printer. Its meaning is the record `Command`, of five
 //! functions of lists: what a line reads as after the items of the lines before it, the text of a
-//! cause, the answer to an item, and the closing. Reading, the numbers of lines, the limits, faults
+//! cause and the line that it blames, the answer to an item, and the closing. Reading, the numbers of lines, the limits, faults
 //! and the order of reads and writes are the driver's, and so are the proofs about them.
 ghost use Rattle.std.specs.Prelude.{◌≡◌, ◌++◌, ◌∷◌, ◌<◌, [], List, length, OnOk, IfOk};
 ghost use Rattle.sign_base.specs.Lines.{input_limit};
-ghost use Rattle.signctl_driver.specs.Command.{Command, MayFollow};
+ghost use Rattle.signctl_driver.specs.Command.{Command, ClosesBy, MayFollow};
 
 use sign_base::NoMemory;
 use std::alloc::Global;
@@ -54,8 +54,18 @@ pub trait LineCommand: Drop {
     fn push_cause(cause: Self::Cause, text: &mut Vec<u8>) -> Result<(), NoMemory<()>>
         ensures { OnOk result (text.new.items ≡ text.old.items ++ command.cause_text cause) };
 
-    /// Closes the output, where all was read and no line was bad.
-    fn close(&self, alloc: Global, text: &mut Vec<u8>) -> Result<(), NoMemory<()>>
-        ensures { OnOk result ((items : List Self.Item) → represents self.now items
-            → text.new.items ≡ text.old.items ++ command.closing items) };
+    /// The number of the line that a cause blames, counted from 1, where that is an earlier one than the
+    /// line, or the end, at which it shows.
+    fn cause_line(cause: &Self::Cause) -> Option<u64>
+        ensures { result ≡ command.cause_line cause.now };
+
+    /// Closes the output, where all was read and no line was bad; or says why the end is bad, and adds
+    /// nothing.
+    fn close(
+        &self,
+        alloc: Global,
+        text: &mut Vec<u8>,
+    ) -> Result<Result<(), Self::Cause>, NoMemory<()>>
+        ensures { IfOk result (λ closed. (items : List Self.Item) → represents self.now items
+            → ClosesBy (command.closing items) closed text.old.items text.new.items) };
 }

@@ -4,7 +4,8 @@ ghost use Rattle.std.specs.Io.KnownBytes.{Appends};
 ghost use Rattle.sign_base.specs.Faults.{CountsFault};
 ghost use Rattle.sign_base.specs.LineReader.{is_fault};
 ghost use Rattle.sign_base.specs.Lines.{line_limit, input_limit};
-ghost use Rattle.signctl_driver.specs.LinesRead.{reading_of};
+ghost use Rattle.signctl_driver.specs.Command.{BadLine, blamed};
+ghost use Rattle.signctl_driver.specs.LinesRead.{reading_of, too_long_line};
 ghost use Rattle.signctl_driver.specs.Output.{bad_line, AppendsPrefix};
 ghost use Rattle.signctl_driver.specs.LineOutcome.{Good, Ends, line_outcome};
 ghost use Rattle.sign_base.specs.Next.{answer_of};
@@ -64,10 +65,10 @@ impl<C: LineCommand> Service<C> {
                 push_too_much(&mut self.text)?;
                 Ok(Some(Status::Refused))
             }
-            Next::End => {
-                self.command.close(alloc, &mut self.text)?;
-                Ok(Some(Status::Done))
-            }
+            Next::End => match self.command.close(alloc, &mut self.text)? {
+                Ok(()) => Ok(Some(Status::Done)),
+                Err(why) => self.refuse(why),
+            },
             Next::Fault => Ok(Some(Status::ReadFault)),
         }
     }
@@ -80,8 +81,8 @@ impl<C: LineCommand> Service<C> {
             → (item : C.Item) × (reading_of C.command items line.now ≡ Ok item) × HasServed C.represents self.new (items ++ item ∷ [])
             × (self.new.text.items ≡ self.old.text.items ++ C.command.answer items item) }
         ensures bad { IfOk result (λ how. IfSome how (λ status. (items : List C.Item) → HasServed C.represents self.old items
-            → (why : List ℕ) × (status ≡ Status.Refused) × (reading_of C.command items line.now ≡ Err why)
-            × (self.new.text.items ≡ self.old.text.items ++ bad_line (length items + 1) why))) }
+            → (bad : BadLine) × (status ≡ Status.Refused) × (reading_of C.command items line.now ≡ Err bad)
+            × (self.new.text.items ≡ self.old.text.items ++ bad_line bad))) }
     {
         match self.command.read(alloc, line)? {
             Ok(item) => {
@@ -93,13 +94,15 @@ impl<C: LineCommand> Service<C> {
         }
     }
 
-    /// Adds the line that says why the next line is bad, which ends the run.
+    /// Adds the line that says which line is bad, and why: the next one, or the one that the cause blames.
+    /// It ends the run.
     fn refuse(&mut self, cause: C::Cause) -> Result<Option<Status>, NoMemory<()>>
         requires { (items : List C.Item) × HasServed C.represents self.old items × (length items ≤ input_limit) }
         ensures { IfOk result (λ how. (how ≡ Some Status.Refused) × ((items : List C.Item) → HasServed C.represents self.old items
-            → self.new.text.items ≡ self.old.text.items ++ bad_line (length items + 1) (C.command.cause_text cause))) }
+            → self.new.text.items ≡ self.old.text.items ++ bad_line (blamed C.command (length items + 1) cause))) }
     {
-        self.begin_bad_line()?;
+        let number = C::cause_line(&cause).unwrap_or(self.lines + 1);
+        begin_bad_line(&mut self.text, number)?;
         C::push_cause(cause, &mut self.text)?;
         end_line(&mut self.text)?;
         Ok(Some(Status::Refused))
@@ -109,21 +112,12 @@ impl<C: LineCommand> Service<C> {
     fn refuse_too_long(&mut self) -> Result<Option<Status>, NoMemory<()>>
         requires { (items : List C.Item) × HasServed C.represents self.old items × (length items ≤ input_limit) }
         ensures { IfOk result (λ how. (how ≡ Some Status.Refused) × ((items : List C.Item) → HasServed C.represents self.old items
-            → self.new.text.items ≡ self.old.text.items ++ bad_line (length items + 1) (codes "too long"))) }
+            → self.new.text.items ≡ self.old.text.items ++ bad_line (too_long_line (length items + 1)))) }
     {
-        self.begin_bad_line()?;
+        begin_bad_line(&mut self.text, self.lines + 1)?;
         self.text.extend_from_slice(b"too long")?;
         end_line(&mut self.text)?;
         Ok(Some(Status::Refused))
-    }
-
-    /// Begins the line that names the next line, up to its cause.
-    fn begin_bad_line(&mut self) -> Result<(), NoMemory<()>>
-        requires { self.old.lines ≤ input_limit }
-        ensures text { OnOk result (self.new.text.items ≡ self.old.text.items ++ (codes "line " ++ (decimal (self.old.lines + 1) ++ codes ": "))) }
-        ensures same { self.new ≡ record self.old { text = self.new.text } }
-    {
-        begin_bad_line(&mut self.text, self.lines + 1)
     }
 
     /// Writes the answers that wait, where `now` says so or where many wait. After `Failed` the sink

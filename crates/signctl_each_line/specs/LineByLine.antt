@@ -25,8 +25,9 @@ abbrev pub line_by_line : {Item : Type 0} → (List ℕ → Option Item) → (It
 line_by_line item_of answer_to = record {
   read = λ before line. said_by item_of line;
   cause_text = line_error_text;
+  cause_line = λ cause. None;
   answer = λ before said. answer_said answer_to said;
-  closing = λ before. [];
+  closing = λ before. Ok [];
 }
 
 -- the line says nothing, or it says something and spells this item

@@ -60,7 +60,15 @@ impl<C: EachLine> LineCommand for LineByLine<C> {
         Ok(text.extend_from_slice(cause.as_str().as_bytes())?)
     }
 
-    fn close(&self, _alloc: Global, _text: &mut Vec<u8>) -> Result<(), NoMemory<()>> {
-        Ok(())
+    fn cause_line(_cause: &LineError) -> Option<u64> {
+        None
+    }
+
+    fn close(
+        &self,
+        _alloc: Global,
+        _text: &mut Vec<u8>,
+    ) -> Result<Result<(), LineError>, NoMemory<()>> {
+        Ok(Ok(()))
     }
 }

@@ -1,5 +1,5 @@
 -- What the lines of `grant` are answered.
-use Rattle.std.specs.Prelude.{ℕ, zero, suc, List, [], ◌++◌, length}
+use Rattle.std.specs.Prelude.{ℕ, zero, suc, List, [], ◌++◌, length, None, Ok}
 use Rattle.sequential_signer.specs.ExpectedGrantReply.{expected_grant_reply}
 use Rattle.sequential_signer.specs.GrantLegal.{expected_grant_entries}
 use Rattle.sequential_signer.specs.GrantSource.{grant_source}
@@ -47,6 +47,7 @@ abbrev pub grant_command : Command GrantItem LineError
 grant_command = record {
   read = grant_reading;
   cause_text = line_error_text;
+  cause_line = λ cause. None;
   answer = answer_to;
-  closing = final_lines;
+  closing = λ items. Ok (final_lines items);
 }

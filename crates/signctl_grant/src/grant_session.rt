@@ -188,8 +188,17 @@ impl LineCommand for GrantSession {
         Ok(text.extend_from_slice(cause.as_str().as_bytes())?)
     }
 
-    fn close(&self, _alloc: Global, text: &mut Vec<u8>) -> Result<(), NoMemory<()>> {
-        self.push_finals(text)
+    fn cause_line(_cause: &LineError) -> Option<u64> {
+        None
+    }
+
+    fn close(
+        &self,
+        _alloc: Global,
+        text: &mut Vec<u8>,
+    ) -> Result<Result<(), LineError>, NoMemory<()>> {
+        self.push_finals(text)?;
+        Ok(Ok(()))
     }
 }
 

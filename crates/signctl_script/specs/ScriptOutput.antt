@@ -1,5 +1,5 @@
 -- What a script is answered: a function of its bytes.
-use Rattle.std.specs.Prelude.{ℕ, zero, suc, List, [], ◌++◌, length}
+use Rattle.std.specs.Prelude.{ℕ, zero, suc, List, [], ◌++◌, length, None, Ok}
 use Rattle.sequential_signer.specs.ExpectedReply.{expected_reply}
 use Rattle.sequential_signer.specs.SequentialCache.{sequential_cache}
 use Rattle.sequential_signer.specs.Legal.{expected_entries}
@@ -55,8 +55,9 @@ abbrev pub script_command : Command ScriptLine LineError
 script_command = record {
   read = script_reading;
   cause_text = line_error_text;
+  cause_line = λ cause. None;
   answer = script_answer;
-  closing = final_lines;
+  closing = λ lines. Ok (final_lines lines);
 }
 
 -- the output to a script of these bytes
