@@ -23,6 +23,18 @@ pub front_with_first_byte : (front : List ℕ) (b : ℕ) (says : Option (List �
 front_with_first_byte front b None = refl
 front_with_first_byte front b (Some rest) = ap Some (sym (append_assoc front (b ∷ []) rest))
 
+nothing_in_front : (says : Option (List ℕ)) → with_front [] says ≡ says
+nothing_in_front None = refl
+nothing_in_front (Some rest) = refl
+
+first_in_front : (b : ℕ) (front : List ℕ) (says : Option (List ℕ)) → with_first_byte b (with_front front says) ≡ with_front (b ∷ front) says
+first_in_front b front None = refl
+first_in_front b front (Some rest) = refl
+
+run_in_front : (front run : List ℕ) (says : Option (List ℕ)) → with_front front (with_front run says) ≡ with_front (front ++ run) says
+run_in_front front run None = refl
+run_in_front front run (Some rest) = ap Some (sym (append_assoc front run rest))
+
 regrouped : (front : List Field) (field : Field) (says : Option (List Field)) → with_front front (says >>= λ fields. Some (field ∷ fields)) ≡ with_front (front ++ field ∷ []) says
 regrouped front field None = refl
 regrouped front field (Some rest) = ap Some (sym (append_assoc front (field ∷ []) rest))
@@ -69,6 +81,21 @@ target_if word visible some e = rw (lt-ltb 0 (length word) some) e
 -- one more byte of a value was read
 pub value_more : (front : List ℕ) (b : ℕ) (after rest : List ℕ) (total : Option (List ℕ)) → value_of rest ≡ with_first_byte b (value_of after) → with_front front (value_of rest) ≡ total → with_front (front ++ b ∷ []) (value_of after) ≡ total
 value_more front b after rest total read so_far = sym (ap (with_front front) read ∙ front_with_first_byte front b (value_of after)) ∙ so_far
+
+-- plain bytes in front spell themselves
+pub value_of-run : (run after : List ℕ) → list_all is_plain run ≡ true → value_of (run ++ after) ≡ with_front run (value_of after)
+value_of-run [] after all = sym (nothing_in_front (value_of after))
+value_of-run (b ∷ run) after all =
+    let parts = and_parts (is_plain b) (list_all is_plain run) all in
+    value_of-plain b (run ++ after) parts.0 ∙ ap (with_first_byte b) (value_of-run run after parts.1) ∙ first_in_front b run (value_of after)
+
+-- one more byte of a value was read, and the plain ones after it
+pub value_more_run : (front : List ℕ) (b : ℕ) (run after rest : List ℕ) (next : List ℕ) (total : Option (List ℕ)) → value_of rest ≡ with_first_byte b (value_of next) → run ++ after ≡ next → list_all is_plain run ≡ true
+    → with_front front (value_of rest) ≡ total → with_front ((front ++ b ∷ []) ++ run) (value_of after) ≡ total
+value_more_run front b run after rest next total read parts all so_far =
+    sym (run_in_front (front ++ b ∷ []) run (value_of after))
+    ∙ ap (with_front (front ++ b ∷ [])) (sym (value_of-run run after all) ∙ ap value_of parts)
+    ∙ value_more front b next rest total read so_far
 
 -- a word with a name before its first colon is a header where its rest is a value
 pub field_found : (word : List ℕ) (colon : ℕ) (name value : List ℕ) → position is_colon word ≡ Some colon → name ≡ take colon word → value ≡ drop (colon + 1) word → is_target name ≡ true → field_of word ≡ field_named name (value_of value)

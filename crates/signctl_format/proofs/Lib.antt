@@ -1,3 +1,4 @@
+pub mod Runs
 pub mod WordList
 pub mod ReadingSteps
 pub mod NumberWords

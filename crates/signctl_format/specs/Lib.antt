@@ -4,6 +4,7 @@ pub mod Words
 pub mod Steps
 pub mod Moments
 pub mod Escapes
+pub mod Classes
 pub mod Heads
 pub mod ScriptEvents
 pub mod Lines

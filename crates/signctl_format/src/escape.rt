@@ -1,12 +1,13 @@
 //! Bytes that can't stand for themselves, added to a text as `%` and two digits.
-#![tactic(auto, using(crate::proofs::Texts::grows_then, crate::proofs::Texts::grows_by, crate::proofs::Texts::grows_not, crate::proofs::Escaped::escapes_nothing))]
+#![tactic(auto, using(crate::proofs::Texts::grows_then, crate::proofs::Texts::grows_by, crate::proofs::Texts::grows_not))]
 
-ghost use Rattle.std.specs.Prelude.{◌≡◌, ◌++◌, ◌≤◌, OnOk, OnErr, vec_capacity};
-ghost use Rattle.std.specs.List.{list_all};
+ghost use Rattle.std.specs.Prelude.{◌≡◌, ◌++◌, ◌≤◌, length, IfOk, OnOk, OnErr, vec_capacity};
+ghost use Rattle.signctl_format.specs.Classes.{has};
 ghost use Rattle.signctl_format.specs.Escapes.{stands, byte_or_escape, with_escapes};
 ghost use Rattle.signctl_format.specs.Lines.{Grows, RunsShort};
 
 use crate::byte::{is_plain, upper_hex};
+use crate::run::{ByteClass, split_run};
 use crate::text::push;
 use sign_base::NoMemory;
 
@@ -19,7 +20,7 @@ pub enum Escaping {
     Pair,
 }
 
-/// Adds bytes, escaped where they have to be. Where none has to be they are copied at once.
+/// Adds bytes, escaped where they have to be. What stands between two escapes is copied at once.
 pub fn push_escaped(
     text: &mut Vec<u8>,
     escaping: Escaping,
@@ -30,23 +31,30 @@ pub fn push_escaped(
     ensures capacity { vec_capacity text.old ≤ vec_capacity text.new }
     ensures grows { Grows text.old.items text.new.items }
 {
-    if all_stand(escaping, bytes) {
-        push(text, bytes)
-    } else {
-        push_each(text, escaping, bytes)
+    let mut rest = push_run(text, escaping, bytes)?;
+    while let [b, after @ ..] = rest {
+        push_byte(text, escaping, *b)?;
+        rest = push_run(text, escaping, after)?;
     }
+    Ok(())
 }
 
-fn push_each(text: &mut Vec<u8>, escaping: Escaping, bytes: &[u8]) -> Result<(), NoMemory<()>>
-    ensures ok { OnOk result (text.new.items ≡ text.old.items ++ with_escapes (stands escaping) bytes.now) }
+/// Adds the bytes in front that stand for themselves, and gives the others.
+fn push_run<'b>(
+    text: &mut Vec<u8>,
+    escaping: Escaping,
+    bytes: &'b [u8],
+) -> Result<&'b [u8], NoMemory<()>>
+    ensures ok { IfOk result (λ rest. text.new.items ++ with_escapes (stands escaping) rest.now
+        ≡ text.old.items ++ with_escapes (stands escaping) bytes.now) }
+    ensures shorter { IfOk result (λ rest. length rest.now ≤ length bytes.now) }
     ensures err { OnErr result (RunsShort text.old text.new (with_escapes (stands escaping) bytes.now)) }
     ensures capacity { vec_capacity text.old ≤ vec_capacity text.new }
     ensures grows { Grows text.old.items text.new.items }
 {
-    for b in bytes {
-        push_byte(text, escaping, *b)?;
-    }
-    Ok(())
+    let (run, rest) = split_run(class(escaping), bytes);
+    push(text, run)?;
+    Ok(rest)
 }
 
 fn push_byte(text: &mut Vec<u8>, escaping: Escaping, b: u8) -> Result<(), NoMemory<()>>
@@ -62,10 +70,14 @@ fn push_byte(text: &mut Vec<u8>, escaping: Escaping, b: u8) -> Result<(), NoMemo
     }
 }
 
-fn all_stand(escaping: Escaping, bytes: &[u8]) -> bool
-    ensures { result ≡ list_all (stands escaping) bytes.now }
+/// The class of the bytes that stand for themselves.
+fn class(escaping: Escaping) -> ByteClass
+    ensures { has result ≡ stands escaping }
 {
-    bytes.iter().all(|b| stands(escaping, *b))
+    match escaping {
+        Escaping::Value => ByteClass::Value,
+        Escaping::Pair => ByteClass::Pair,
+    }
 }
 
 /// Whether a byte stands for itself.

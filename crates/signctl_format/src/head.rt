@@ -9,8 +9,9 @@ ghost use Rattle.signctl_format.specs.Steps.{first_word};
 ghost use Rattle.signctl_format.specs.Reading.{visible_target, fields_in, head_in};
 ghost use Rattle.signctl_format.specs.Readers.{words_after, Reads, Gives};
 
-use crate::byte::{hex_digit, is_plain, is_visible};
+use crate::byte::{hex_digit, is_plain};
 use crate::read_error::{NotUnderstood, ReadError};
+use crate::run::{ByteClass, run_len, split_run};
 use crate::word::{next_word, split_word, word_at};
 use sign_base::{Field, Fields, Head, Octets, Version};
 use std::alloc::Global;
@@ -71,7 +72,7 @@ pub fn is_target(word: &[u8]) -> bool
 fn all_visible(word: &[u8]) -> bool
     ensures { result ≡ list_all is_visible word.now }
 {
-    word.iter().all(|b| is_visible(*b))
+    run_len(ByteClass::Visible, word) == word.len()
 }
 
 fn version(word: &[u8]) -> Result<Version, NotUnderstood>
@@ -153,16 +154,19 @@ pub fn value(alloc: Global, word: &[u8]) -> Result<Octets, ReadError>
 fn all_plain(word: &[u8]) -> bool
     ensures { result ≡ list_all is_plain word.now }
 {
-    word.iter().all(|b| is_plain(*b))
+    run_len(ByteClass::Value, word) == word.len()
 }
 
+/// A value is no longer than its word, so its room is taken once.
 fn unescaped(alloc: Global, word: &[u8]) -> Result<Octets, ReadError>
     ensures { Gives (λ v. v) result (value_of word.now) }
 {
-    let mut value = Vec::new(alloc);
+    let mut value = Vec::with_capacity(alloc, word.len())?;
     let mut rest = word;
     while let Some((b, after)) = next_byte(rest)? {
         value.push(b)?;
+        let (plain, after) = split_run(ByteClass::Value, after);
+        value.extend_from_slice(plain)?;
         rest = after;
     }
     Ok(Octets::from_vec(value))

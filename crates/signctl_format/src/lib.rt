@@ -16,6 +16,7 @@ mod moment_text;
 pub mod print;
 pub mod read;
 pub mod read_error;
+mod run;
 pub mod script_event;
 pub mod script_version;
 pub mod text;

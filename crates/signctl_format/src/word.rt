@@ -2,7 +2,7 @@
 //!
 //! What stands after a word is empty, or begins with the space before the next word.
 ghost use Rattle.std.specs.Prelude.{◌≡◌, ◌≤◌, ◌<◌, [], ◌∷◌, length, ℕ, ◌^◌, ◌+◌, ◌*◌, ◌≢◌, IfOk, None, MatchOption, MatchResult, IfSome, decimal};
-ghost use Rattle.std.specs.List.{position, position_or_len};
+ghost use Rattle.std.specs.List.{position_or_len};
 ghost use Rattle.std.specs.Char.{digit_value};
 ghost use Rattle.std.specs.Str.Parse.{AllDigits, digits_value};
 ghost use Rattle.signctl_format.specs.Words.{is_silent, is_space, words, begins_a_number, number_of, greatest_u32};
@@ -12,6 +12,7 @@ ghost use Rattle.signctl_format.specs.Readers.{words_after, Reads};
 
 use crate::byte::is_digit;
 use crate::read_error::NotUnderstood;
+use crate::run::{ByteClass, run_len};
 
 /// Whether a line says nothing: it is empty, or begins with `#`.
 pub fn is_silent(line: &[u8]) -> bool
@@ -35,16 +36,7 @@ pub fn split_word(text: &[u8]) -> (&[u8], &[u8])
 fn word_len(text: &[u8]) -> usize
     ensures { result ≡ position_or_len is_space text.now }
 {
-    match first_space(text) {
-        Some(place) => place,
-        None => text.len(),
-    }
-}
-
-fn first_space(text: &[u8]) -> Option<usize>
-    ensures { result ≡ position is_space text.now }
-{
-    text.iter().position(|b| *b == b' ')
+    run_len(ByteClass::Word, text)
 }
 
 /// The next word, and what stands after it.

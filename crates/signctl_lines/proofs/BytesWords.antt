@@ -18,10 +18,6 @@ use Rattle.signctl_format.proofs.ReadingSteps.{some_is, chosen, passed_test, sam
 use Rattle.signctl_format.proofs.Values.{hex_digit-some}
 use Rattle.signctl_lines.specs.BytesWords.{dash_word, text_word, hex_word, is_lower_hex, is_hex_word, bytes_of, text_of}
 
--- one or more digits are a word of digits where they are lower-case
-pub hex_word_if : (word : List ℕ) (digits : Bool) → 0 < length word → digits ≡ list_all is_lower_hex word → digits ≡ is_hex_word word
-hex_word_if word digits some e = rw (lt-ltb 0 (length word) some) e
-
 -- ---- digits
 
 -- the digit at each place of the table

@@ -1,4 +1,5 @@
 pub mod BytesWords
+pub mod HexDigits
 pub mod HmacForms
 pub mod HmacGrammars
 pub mod ViewGrammars

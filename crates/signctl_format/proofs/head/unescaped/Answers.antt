@@ -1,8 +1,8 @@
 use Rattle.signctl_format.specs.Escapes.{value_of}
-use Rattle.signctl_format.proofs.HeadWords.{value_more}
+use Rattle.signctl_format.proofs.HeadWords.{value_more_run}
 use Rattle.signctl_format.proofs.head.unescaped.Goals as goal
 
 pub loop-value-preserved : goal.loop-value-preserved
 loop-value-preserved c =
     let read = rw c.in-Some.is at c.in_ok-b.ensures in
-    rw c.in_ok-push.ensures.items (value_more c.loop-value.value.items c.in-Some.b c.in-Some.after.now c.loop-value.rest.now (value_of c.args.word.now) read.0 c.loop-value.invariant)
+    rw (c.in_ok-extend_from_slice.ensures.items, c.in_ok-push.ensures.items) (value_more_run c.loop-value.value.items c.in-Some.b c.split_run.result.0.now c.split_run.result.1.now c.loop-value.rest.now c.in-Some.after.now (value_of c.args.word.now) read.0 c.split_run.ensures.parts c.split_run.ensures.class c.loop-value.invariant)

@@ -1,0 +1,29 @@
+-- Classes of bytes, and how far the bytes of a class go.
+use Rattle.std.specs.Prelude.{◌≡◌, ◌+◌, ◌<◌, ◌≤◌, ℕ, Bool, true, false, not, ◌==◌, List, slice_index, if◌then◌else◌}
+use Rattle.std.specs.Int.{w64, trailing_zeros}
+use Rattle.signctl_format.specs.declared.run.ByteClass.{ByteClass}
+use Rattle.signctl_format.specs.declared.run.ByteClass.TheVariants.{Word, Visible, Value, Pair}
+use Rattle.signctl_format.specs.Bytes.{is_visible}
+use Rattle.signctl_format.specs.Words.{is_space}
+use Rattle.signctl_format.specs.Escapes.{is_plain, is_pair_plain}
+
+-- a byte of a word
+abbrev pub is_no_space : ℕ → Bool
+is_no_space b = not (is_space b)
+
+-- the bytes of a class
+abbrev pub has : ByteClass → ℕ → Bool
+has Word = is_no_space
+has Visible = is_visible
+has Value = is_plain
+has Pair = is_pair_plain
+
+-- of the n bytes from a place, just so many pass the test before one that does not
+pub record IsRunIn (test : ℕ → Bool) (bytes : List ℕ) (at n run : ℕ) : Type 0 where
+  pub within : run ≤ n
+  pub passes : (k : ℕ) → at ≤ k → k < at + run → test (slice_index bytes k) ≡ true
+  pub stops : run < n → test (slice_index bytes (at + run)) ≡ false
+
+-- the place of the lowest bit that is set, or n
+abbrev pub first_set : ℕ → ℕ → ℕ
+first_set mask n = if mask == 0 then n else trailing_zeros w64 mask

@@ -1,0 +1,146 @@
+//! How far the bytes of a class go from the front on, found sixteen at a time.
+ghost use Rattle.std.specs.Prelude.{◌≡◌, ◌+◌, ◌≤◌, ◌<◌, ◌++◌, ℕ, true, false, length, slice_index};
+ghost use Rattle.std.specs.List.{list_all, prefix_len};
+ghost use Rattle.signctl_format.specs.Bytes.{is_visible};
+ghost use Rattle.signctl_format.specs.Escapes.{is_plain, is_pair_plain};
+ghost use Rattle.signctl_format.specs.Classes.{has, is_no_space, IsRunIn, first_set};
+
+use crate::byte::{is_plain, is_visible};
+use std::simd::prelude::*;
+
+const LANES: usize = 16;
+
+/// A class of bytes.
+#[derive(Clone, Copy)]
+pub(crate) enum ByteClass {
+    /// Those of a word: all but the space.
+    Word,
+    /// Those of a method or a URI.
+    Visible,
+    /// Those that stand for themselves in a header's value.
+    Value,
+    /// Those that stand for themselves in a key or a value of a query.
+    Pair,
+}
+
+/// The bytes of the class that stand in front, and what stands after them.
+#[inline(always)]
+pub(crate) fn split_run(class: ByteClass, bytes: &[u8]) -> (&[u8], &[u8])
+    ensures parts { result.0.now ++ result.1.now ≡ bytes.now }
+    ensures class { list_all (has class) result.0.now ≡ true }
+    ensures shorter { length result.1.now ≤ length bytes.now }
+{
+    bytes.split_at(run_len(class, bytes))
+}
+
+/// How many bytes of the class stand in front.
+#[inline(always)]
+pub(crate) fn run_len(class: ByteClass, bytes: &[u8]) -> usize
+    ensures { result ≡ prefix_len (has class) bytes.now }
+{
+    if bytes.len() < LANES {
+        return short_run(class, bytes);
+    }
+    let last = bytes.len() - LANES;
+    let mut at = 0;
+    while at < last {
+        let run = run_in_block(class, bytes, at);
+        if run < LANES {
+            return at + run;
+        }
+        at += LANES;
+    }
+    // The last block may overlap the one before.
+    last + run_in_block(class, bytes, last)
+}
+
+fn short_run(class: ByteClass, bytes: &[u8]) -> usize
+    ensures { result ≡ prefix_len (has class) bytes.now }
+{
+    let mut at = 0;
+    while at < bytes.len() && has(class, bytes[at]) {
+        at += 1;
+    }
+    at
+}
+
+/// Whether a byte is of the class.
+#[inline(always)]
+fn has(class: ByteClass, b: u8) -> bool
+    ensures { result ≡ has class b }
+{
+    match class {
+        ByteClass::Word => b != b' ',
+        ByteClass::Visible => is_visible(b),
+        ByteClass::Value => is_plain(b),
+        ByteClass::Pair => is_plain(b) && b != b'=',
+    }
+}
+
+/// How many of the sixteen bytes from this place are of the class, before one that is not.
+#[inline(always)]
+fn run_in_block(class: ByteClass, bytes: &[u8], at: usize) -> usize
+    requires { at + LANES ≤ length bytes.now }
+    ensures { IsRunIn (has class) bytes.now at LANES result }
+{
+    match class {
+        ByteClass::Word => word_run(bytes, at),
+        ByteClass::Visible => visible_run(bytes, at),
+        ByteClass::Value => value_run(bytes, at),
+        ByteClass::Pair => pair_run(bytes, at),
+    }
+}
+
+#[inline(always)]
+fn word_run(bytes: &[u8], at: usize) -> usize
+    requires { at + LANES ≤ length bytes.now }
+    ensures { IsRunIn is_no_space bytes.now at LANES result }
+{
+    let v = u8x16::from_slice(&bytes[at..]);
+    let stops = v.simd_eq(u8x16::splat(b' '));
+    first_set(stops.to_bitmask())
+}
+
+#[inline(always)]
+fn visible_run(bytes: &[u8], at: usize) -> usize
+    requires { at + LANES ≤ length bytes.now }
+    ensures { IsRunIn is_visible bytes.now at LANES result }
+{
+    let v = u8x16::from_slice(&bytes[at..]);
+    let stops = v.simd_lt(u8x16::splat(0x21)) | v.simd_gt(u8x16::splat(0x7e));
+    first_set(stops.to_bitmask())
+}
+
+#[inline(always)]
+fn value_run(bytes: &[u8], at: usize) -> usize
+    requires { at + LANES ≤ length bytes.now }
+    ensures { IsRunIn is_plain bytes.now at LANES result }
+{
+    let v = u8x16::from_slice(&bytes[at..]);
+    let hidden = v.simd_lt(u8x16::splat(0x21)) | v.simd_gt(u8x16::splat(0x7e));
+    let stops = hidden | v.simd_eq(u8x16::splat(b'%'));
+    first_set(stops.to_bitmask())
+}
+
+#[inline(always)]
+fn pair_run(bytes: &[u8], at: usize) -> usize
+    requires { at + LANES ≤ length bytes.now }
+    ensures { IsRunIn is_pair_plain bytes.now at LANES result }
+{
+    let v = u8x16::from_slice(&bytes[at..]);
+    let hidden = v.simd_lt(u8x16::splat(0x21)) | v.simd_gt(u8x16::splat(0x7e));
+    let marks = v.simd_eq(u8x16::splat(b'%')) | v.simd_eq(u8x16::splat(b'='));
+    first_set((hidden | marks).to_bitmask())
+}
+
+/// The place of the first lane that is set, or the number of lanes.
+#[inline(always)]
+fn first_set(lanes: u64) -> usize
+    ensures { result ≡ first_set lanes LANES }
+{
+    if lanes == 0 {
+        LANES
+    } else {
+        lanes.trailing_zeros() as usize
+    }
+}
