@@ -1,3 +1,2 @@
 pub mod Sigv4Parts
 pub mod Sigv4Grammars
-pub mod Sigv4Moments

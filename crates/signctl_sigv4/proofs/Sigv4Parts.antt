@@ -1,6 +1,6 @@
 -- Each part of a line of `sigv4`: its words read as it, what reads as it is its words, and they are visible.
-use Rattle.std.proofs.Common.{◌≡◌, ℕ, Bool, true, false, leb, List, [], ◌∷◌, length, Option, Some, None, refl, sym, ap, subst, ◌∙◌, inl, inr, arith}
-use Rattle.std.specs.Prelude.{codes, nat_lt, ◌==◌, ◌||◌}
+use Rattle.std.proofs.Common.{◌≡◌, ℕ, Bool, true, false, leb, List, [], ◌∷◌, ◌++◌, length, Option, Some, None, refl, sym, ap, subst, ◌∙◌, inl, inr, arith}
+use Rattle.std.specs.Prelude.{codes, decimal, nat_lt, ◌≤◌, ◌==◌, ◌||◌}
 use Rattle.std.specs.Char.{is_ascii_graphic, is_ascii_lowercase, is_ascii_digit}
 use Rattle.std.specs.List.{list_all}
 use Rattle.std.specs.Str.{bytes_eq}
@@ -8,15 +8,22 @@ use Rattle.std.proofs.lemmas.Bool.{and_parts, and_from, or_cases, eqb-true, leb-
 use Rattle.sigv4_core.specs.Credential.{Credential, is_credential}
 use Rattle.sigv4_core.specs.PayloadWord.{unsigned_payload, is_digest, is_lower_hex}
 use Rattle.sigv4_core.specs.Scope.{Scope, is_scope, is_scope_name, is_scope_byte}
-use Rattle.signctl_format.specs.Bytes.{is_byte, is_visible, percent}
+use Rattle.signctl_format.specs.Bytes.{is_byte, is_digit, is_visible, percent}
 use Rattle.signctl_format.specs.Escapes.{is_plain, value_word, value_of}
+use Rattle.signctl_format.specs.Reading.{number_at}
 use Rattle.signctl_format.specs.Steps.{◌>>=◌, first_word}
-use Rattle.signctl_format.proofs.ReadingSteps.{same_word, some_is, passed_test, bind_some, first_word_some}
-use Rattle.signctl_format.proofs.Spellings.{is_visible_word, visible_escapes}
+use Rattle.signctl_format.specs.Words.{greatest_u32}
+use Rattle.signctl_format.proofs.Calls.{number_at-decimal, number_at-some}
+use Rattle.signctl_format.proofs.ReadingSteps.{same_word, some_is, chosen, passed_test, bind_some, first_word_some}
+use Rattle.signctl_format.proofs.Spellings.{AreVisibleWords, is_visible_word, one_word, visible_escapes}
 use Rattle.signctl_format.proofs.Values.{value_of-word, value_of-some}
-use Rattle.signctl_format.proofs.VisibleWords.{all_wider}
-use Rattle.signctl_sigv4.specs.Sigv4Grammar.{IsLineKey, is_payload}
-use Rattle.signctl_sigv4.specs.Sigv4Reading.{as_word, credential_of, credential_at, scope_of, scope_at, payload_of}
+use Rattle.signctl_format.proofs.VisibleWords.{all_wider, digit_visible, decimal_of_digits}
+use Rattle.signctl_sigv4.specs.declared.form.Form.{Form}
+use Rattle.signctl_sigv4.specs.declared.form.Form.TheVariants as form
+use Rattle.signctl_sigv4.specs.declared.sigv4_item.Asked.{Asked}
+use Rattle.signctl_sigv4.specs.declared.sigv4_item.Asked.TheVariants.{Sign, Presign, Verify}
+use Rattle.signctl_sigv4.specs.Sigv4Grammar.{IsLineKey, is_payload, IsLineAsked, asked_name, asked_words}
+use Rattle.signctl_sigv4.specs.Sigv4Reading.{as_word, credential_of, credential_at, scope_of, scope_at, payload_of, form_named, asked_at}
 
 -- ---- credentials
 
@@ -120,7 +127,7 @@ visible_scope region service fits =
     let parts = and_parts (is_scope_name region) (is_scope_name service) fits in
     (visible_name region parts.0, visible_name service parts.1)
 
--- ---- payloads
+-- ---- payloads, and what is asked
 
 -- a word that names a payload is its word
 pub payload_of-some : (word p : List ℕ) → payload_of word ≡ Some p → (word ≡ p) × (is_payload p ≡ true)
@@ -141,3 +148,76 @@ visible_payload word fits = elim (or_cases (bytes_eq word unsigned_payload) (is_
   | inl unsigned ↦ subst (λ (w : List ℕ). is_visible_word w ≡ true) (sym (same_word word unsigned_payload unsigned)) refl
   | inr digest ↦ all_wider is_lower_hex is_visible visible_digit word (and_parts (length word == 64) (list_all is_lower_hex word) digest).1
 ]
+
+-- the name of a form
+abbrev pub form_name : Form → List ℕ
+form_name form.Sign = codes "sign"
+form_name form.Presign = codes "presign"
+form_name form.Verify = codes "verify"
+
+-- a word names the form whose name it is
+pub form_named-some : (name : List ℕ) (f : Form) → form_named name ≡ Some f → name ≡ form_name f
+form_named-some name f e = elim (chosen (bytes_eq name (codes "sign")) (Some form.Sign) _ (Some f) e) [
+  | inl here ↦ same_word name (codes "sign") here.0 ∙ ap form_name (some_is form.Sign f here.1)
+  | inr there ↦ elim (chosen (bytes_eq name (codes "presign")) (Some form.Presign) _ (Some f) there.1) [
+    | inl here ↦ same_word name (codes "presign") here.0 ∙ ap form_name (some_is form.Presign f here.1)
+    | inr other ↦ (let test = passed_test (bytes_eq name (codes "verify")) (Some form.Verify) f other.1 in
+        same_word name (codes "verify") test.0 ∙ ap form_name (some_is form.Verify f test.1))
+  ]
+]
+
+-- the form of what is asked
+abbrev pub form_of : Asked → Form
+form_of (Sign payload) = form.Sign
+form_of (Presign seconds) = form.Presign
+form_of Verify = form.Verify
+
+-- the first word of what is asked names its form
+pub asked_name-form : (asked : Asked) → form_named (asked_name asked) ≡ Some (form_of asked)
+asked_name-form (Sign payload) = refl
+asked_name-form (Presign seconds) = refl
+asked_name-form Verify = refl
+
+-- the words of what is asked read as it, with the words after it
+pub asked_at-words : (asked : Asked) (rest : List (List ℕ)) → IsLineAsked asked → asked_at (form_of asked) (asked_words asked ++ rest) ≡ Some (asked, rest)
+unfolding asked_at
+asked_at-words (Sign payload) rest fits = rw fits refl
+asked_at-words (Presign seconds) rest fits = rw (number_at-decimal greatest_u32 seconds rest fits (omega arith)) refl
+asked_at-words Verify rest fits = refl
+
+-- the words begin with those of what is asked, which a line may ask
+abbrev pub SpellsAsked : Form → List (List ℕ) → Asked → List (List ℕ) → Type 0
+SpellsAsked f ws asked rest = (ws ≡ asked_words asked ++ rest) × IsLineAsked asked × (asked_name asked ≡ form_name f)
+
+-- words that read as what is asked and others begin with its words
+pub asked_at-some : (f : Form) (ws : List (List ℕ)) (p : Asked × List (List ℕ)) → asked_at f ws ≡ Some p → SpellsAsked f ws p.0 p.1
+unfolding asked_at
+asked_at-some form.Sign ws p e =
+    let b = bind_some (first_word payload_of ws) (λ (w : List ℕ × List (List ℕ)). Some (Sign w.0, w.1)) p e in
+    let first = first_word_some payload_of ws b.0 b.1 in
+    let payload = payload_of-some first.0 b.0.0 first.2 in
+    let spelled : SpellsAsked form.Sign ws (Sign b.0.0) b.0.1 = (first.1 ∙ ap (λ (w : List ℕ). w ∷ b.0.1) payload.0, payload.1, refl) in
+    subst (λ (q : Asked × List (List ℕ)). SpellsAsked form.Sign ws q.0 q.1) (some_is (Sign b.0.0, b.0.1) p b.2) spelled
+asked_at-some form.Presign ws p e =
+    let b = bind_some (number_at greatest_u32 ws) (λ (n : ℕ × List (List ℕ)). Some (Presign n.0, n.1)) p e in
+    let number = number_at-some greatest_u32 ws b.0 b.1 in
+    let spelled : SpellsAsked form.Presign ws (Presign b.0.0) b.0.1 = (number.0, number.1, refl) in
+    subst (λ (q : Asked × List (List ℕ)). SpellsAsked form.Presign ws q.0 q.1) (some_is (Presign b.0.0, b.0.1) p b.2) spelled
+asked_at-some form.Verify ws p e =
+    subst (λ (q : Asked × List (List ℕ)). SpellsAsked form.Verify ws q.0 q.1) (some_is (Verify, ws) p e) (refl, tt, refl)
+
+-- and so is a number of seconds
+visible_seconds : (n : ℕ) → n ≤ greatest_u32 → is_visible_word (decimal n) ≡ true
+visible_seconds n fits = all_wider is_digit is_visible digit_visible (decimal n) (decimal_of_digits n (omega (arith, fits)))
+
+-- the words of what is asked are visible, and those after them
+pub visible_asked : (asked : Asked) (rest : List (List ℕ)) → IsLineAsked asked → AreVisibleWords rest → AreVisibleWords (asked_words asked ++ rest)
+visible_asked (Sign payload) rest fits visible = one_word (visible_payload payload fits) visible
+visible_asked (Presign seconds) rest fits visible = one_word (visible_seconds seconds fits) visible
+visible_asked Verify rest fits visible = visible
+
+-- the first word of what is asked is visible
+pub visible_asked_name : (asked : Asked) → is_visible_word (asked_name asked) ≡ true
+visible_asked_name (Sign payload) = refl
+visible_asked_name (Presign seconds) = refl
+visible_asked_name Verify = refl

@@ -26,7 +26,6 @@ pub fn a_sigv4_item_has_one_spelling()
 {}
 
 /// An item of `sigv4` whose parts a line may name has a spelling.
-#[tactic(auto, using(crate::proofs::Sigv4Grammars::spelled))]
 pub fn a_sigv4_item_has_a_spelling()
     ensures { (item : Sigv4Item) → IsSigv4Item item
         → SpellsLine SpellsSigv4 (line_of (sigv4_words item)) (Some item) }
