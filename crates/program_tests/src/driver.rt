@@ -3,14 +3,14 @@
 ghost use Rattle.std.specs.Prelude.{◌<◌};
 
 mod lengths;
-mod watched;
+pub(crate) mod watched;
 
 use crate::ran::{Fault, Ran, bytes, ends_as, sink, source};
 use lengths::Lengths;
 use sign_base::line_reader::LINE_LIMIT;
 use signctl_driver::{Status, drive};
 use std::alloc::{AllocError, Global};
-use std::cell::Cell;
+use std::sync::atomic::AtomicU64;
 use watched::{CountingSink, WatchedSource};
 
 /// Drives the command over an input, in pieces of so many bytes on both sides.
@@ -81,50 +81,40 @@ fn each_write_fails_in_turn(rt: HostRuntime) {
     }
 }
 
-/// At each read the sink holds every answer that the bytes given so far allow: where so many bytes
-/// were given, so many stand in the sink. How many reads came too early, and how many bytes were written.
-fn late_reads(alloc: Global, piece: usize) -> (u64, usize, Status) {
-    let allowed = [0, 0, 0, 5, 5, 5, 5, 5, 5, 10, 10];
-    let written = Cell::new(0);
-    let mut source = WatchedSource::new(INPUT.as_bytes(), piece, 99, &allowed, &written);
-    let status = drive(
-        alloc,
-        Lengths::new(),
-        &mut source,
-        &mut CountingSink::new(&written),
-    );
-    (source.late(), written.get(), status)
+/// How often a run reads and writes, and how it ends: of an input in pieces of so many bytes, whose read and
+/// whose write of these numbers fail.
+fn counted(alloc: Global, input: &[u8], piece: usize, fails: (u64, u64)) -> (u64, u64, Status) {
+    let written = AtomicU64::new(0);
+    let mut source = WatchedSource::new(input, piece, fails.0, &[], &written);
+    let mut sink = CountingSink::new(&written, fails.1);
+    let status = drive(alloc, Lengths::new(), &mut source, &mut sink);
+    (source.reads(), sink.writes(), status)
 }
 
+/// Past the last read or write.
+const NONE: u64 = 99;
+
+/// An input, the length of its pieces, the read and the write that fail, and how often it reads and writes. A
+/// bad line stands in the first piece, or the source says once that it is at its end.
+const COUNTS: [(&[u8], usize, (u64, u64), (u64, u64, Status)); 11] = [
+    (b"ab\n!c\nde\n", 6, (NONE, NONE), (1, 1, Status::Refused)),
+    (b"ab\ncd\nef\n", 3, (NONE, NONE), (4, 4, Status::Done)),
+    (b"ab\ncd", 3, (NONE, NONE), (3, 2, Status::Done)),
+    (b"", 3, (NONE, NONE), (1, 1, Status::Done)),
+    (b"ab\ncd\nef\n", 3, (0, NONE), (1, 0, Status::ReadFault)),
+    (b"ab\ncd\nef\n", 3, (1, NONE), (2, 1, Status::ReadFault)),
+    (b"ab\ncd\nef\n", 3, (3, NONE), (4, 3, Status::ReadFault)),
+    (b"ab\ncd\nef\n", 3, (NONE, 0), (1, 1, Status::WriteFault)),
+    (b"ab\ncd\nef\n", 3, (NONE, 2), (3, 3, Status::WriteFault)),
+    (b"ab\ncd\nef\n", 3, (NONE, 3), (4, 4, Status::WriteFault)),
+    (b"ab\n!c\nde\n", 6, (NONE, 0), (1, 1, Status::WriteFault)),
+];
+
+/// Nothing is read behind a bad line, the end or a fault, and nothing is written behind a fault.
 #[test]
-fn answers_are_written_before_the_next_read(rt: HostRuntime) {
-    for piece in 1..4 {
-        let (late, written, status) = late_reads(rt.alloc(), piece);
-        assert!(rt; late == 0 && written == 23 && status == Status::Done);
-    }
-}
-
-/// The number of reads, of bytes that were written, and how it ends.
-fn reads(alloc: Global, input: &[u8], piece: usize, fails: u64) -> (u64, usize, Status) {
-    let written = Cell::new(0);
-    let mut source = WatchedSource::new(input, piece, fails, &[], &written);
-    let status = drive(
-        alloc,
-        Lengths::new(),
-        &mut source,
-        &mut CountingSink::new(&written),
-    );
-    (source.reads(), written.get(), status)
-}
-
-/// The bad line stands in the first piece. Of good lines the read of number k fails.
-#[test]
-fn nothing_is_read_behind_a_bad_line_or_a_fault(rt: HostRuntime) {
-    let (count, written, status) = reads(rt.alloc(), b"ab\n!c\nde\n", 6, 99);
-    assert!(rt; count == 1 && written == 25 && status == Status::Refused);
-    for fails in 0..4 {
-        let (count, _, status) = reads(rt.alloc(), b"ab\ncd\nef\n", 3, fails);
-        assert!(rt; count == fails + 1 && status == Status::ReadFault);
+fn nothing_follows_an_end_or_a_fault(rt: HostRuntime) {
+    for (input, piece, fails, wanted) in COUNTS {
+        assert!(rt; counted(rt.alloc(), input, piece, fails) == wanted);
     }
 }
 

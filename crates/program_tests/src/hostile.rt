@@ -1,9 +1,11 @@
 //! One script with three waiting calls, cut at each byte, and with a fault at each read and at each
 //! write in turn; a read after a grant's lines; and a head with every byte.
-use crate::ran::{Fault, bytes, ends_as, run_command};
-use signctl_core::Status;
+use crate::driver::watched::{CountingSink, WatchedSource};
+use crate::ran::{Fault, bytes, ends_as, run_command, words};
+use signctl_core::{HeaderKeys, Status, run};
 use std::alloc::{AllocError, Global};
 use std::process::Abort;
+use std::sync::atomic::{AtomicU64, Ordering};
 
 /// Each line is answered by one line.
 static LINES: [(&str, &str); 11] = [
@@ -85,6 +87,51 @@ fn a_script_is_cut_at_each_byte(rt: HostRuntime) {
         for end in 0..=line.len() {
             is_answered_where_cut(&rt, rt.alloc(), whole, line.get(..end).unwrap_or(""));
         }
+    }
+}
+
+/// How many bytes the output has where a read fails behind so many bytes of the script.
+fn lengths_at_a_fault(alloc: Global) -> Result<Vec<u64>, AllocError> {
+    let mut lengths = Vec::new(alloc);
+    let mut length: u64 = 0;
+    for (line, reply) in &LINES {
+        for _ in 0..=line.len() {
+            lengths.push(length)?;
+        }
+        length = length.saturating_add(reply.len() as u64);
+    }
+    lengths.push(length)?;
+    Ok(lengths)
+}
+
+/// How many reads of the script, in pieces of so many bytes, found another number of bytes in the sink than the
+/// output has there, how many bytes were written in the end, and how it ended.
+fn late_reads(alloc: Global, piece: usize) -> Option<(u64, u64, Status)> {
+    let script = input(alloc, LINES.len(), "").ok()?;
+    let lengths = lengths_at_a_fault(alloc).ok()?;
+    let written = AtomicU64::new(0);
+    let mut source = WatchedSource::new(
+        script.as_slice(),
+        piece,
+        u64::MAX,
+        lengths.as_slice(),
+        &written,
+    );
+    let mut sink = CountingSink::new(&written, u64::MAX);
+    let words = words(alloc, "script").ok()?;
+    let keys = HeaderKeys::default();
+    let status = run(alloc, words.as_slice(), &mut source, &mut sink, keys);
+    Some((source.late(), written.load(Ordering::SeqCst), status))
+}
+
+/// At each read the sink holds every answer that the bytes given so far allow, and no other.
+#[test]
+fn answers_are_written_before_the_next_read(rt: HostRuntime) {
+    let end = final_after(LINES.len());
+    let output = answers(rt.alloc(), LINES.len(), end).expect(&rt, "memory");
+    let length = output.len() as u64;
+    for piece in [1, 2, 7, 64, 4_096] {
+        assert!(rt; late_reads(rt.alloc(), piece) == Some((0, length, Status::Done)));
     }
 }
 

@@ -14,4 +14,6 @@ mod limits;
 #[cfg(test)]
 mod load;
 #[cfg(test)]
+mod never;
+#[cfg(test)]
 mod ran;

@@ -1,7 +1,7 @@
 //! No debug form shows what a provider or an object of a context holds.
 use super::providers::{Says, chain_of};
 use crate::told::{hides, is_told, shown};
-use credentials::{Context, OsEnv};
+use credentials::{Context, Env, OsEnv, StaticEnv};
 use std::alloc::{AllocError, Global};
 
 #[test]
@@ -27,6 +27,25 @@ fn secret_variable(alloc: Global) -> Result<Vec<(String, String)>, AllocError> {
 
 fn secret_environment(alloc: Global) -> Option<OsEnv> {
     OsEnv::from_list(None, secret_variable(alloc).ok()?).ok()
+}
+
+/// An environment with the variables of another, and no home folder.
+fn static_copy(alloc: Global, env: &OsEnv) -> Option<StaticEnv> {
+    let envs = env.vars(alloc).ok()?;
+    Some(StaticEnv {
+        home_dir: None,
+        envs,
+    })
+}
+
+#[test]
+fn an_environment_shows_names_alone(rt: HostRuntime) {
+    let env = secret_environment(rt.alloc()).expect(&rt, "memory");
+    hides(&rt, rt.alloc(), &env);
+    is_told(&rt, shown(rt.alloc(), &env), "OsEnv: k");
+    let env = static_copy(rt.alloc(), &env).expect(&rt, "memory");
+    hides(&rt, rt.alloc(), &env);
+    is_told(&rt, shown(rt.alloc(), &env), "StaticEnv: [\"k\"]");
 }
 
 #[test]

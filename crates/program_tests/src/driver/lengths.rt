@@ -1,7 +1,7 @@
 //! A command for tests: it answers each line by its number and its length, and an empty line by
 //! nothing. A line that begins with an exclamation mark is bad. In the end it says how many lines
 //! there were.
-ghost use Rattle.std.specs.Prelude.{◌≡◌, ◌+◌, ◌==◌, ◌∷◌, ◌++◌, [], Ok, Err, length, codes, decimal, slice_index, if◌then◌else◌};
+ghost use Rattle.std.specs.Prelude.{◌≡◌, ◌+◌, ◌==◌, ◌∷◌, ◌++◌, [], None, Ok, Err, length, codes, decimal, slice_index, if◌then◌else◌};
 ghost use Rattle.sign_base.specs.Bytes.{newline};
 
 use itoa::Buffer;
@@ -33,8 +33,9 @@ impl LineCommand for Lengths {
     ghost command = { record {
       read = λ items line. if slice_index line 0 == 33 then Err tt else Ok (length line);
       cause_text = λ cause. codes "not allowed";
+      cause_line = λ cause. None;
       answer = λ items item. if item == 0 then [] else decimal (length items + 1) ++ (codes ": " ++ (decimal item ++ newline ∷ []));
-      closing = λ items. decimal (length items) ++ codes " lines\n";
+      closing = λ items. Ok (decimal (length items) ++ codes " lines\n");
     } };
 
     ghost represents = { λ command items. command.lines ≡ length items };
@@ -65,10 +66,14 @@ impl LineCommand for Lengths {
         Ok(())
     }
 
-    fn close(&self, alloc: Global, text: &mut Vec<u8>) -> Result<(), NoMemory<()>> {
+    fn cause_line(_cause: &()) -> Option<u64> {
+        None
+    }
+
+    fn close(&self, alloc: Global, text: &mut Vec<u8>) -> Result<Result<(), ()>, NoMemory<()>> {
         let _ = alloc;
         text.extend_from_slice(Buffer::new().format(self.lines).as_bytes())?;
         text.extend_from_slice(b" lines\n")?;
-        Ok(())
+        Ok(Ok(()))
     }
 }

@@ -1,10 +1,11 @@
-//! A source that looks at each read how much was written to its sink. What they count as faults stands
-//! at its greatest number, so any call may fail.
+//! A source that looks at each read how much was written to its sink, in a word that they share, and a sink that
+//! may fail. Both count their calls. What they count as faults stands at its greatest number, so any call may
+//! fail.
 ghost use Rattle.std.specs.Prelude.{None};
 ghost use Rattle.sign_base.specs.Faults.{last_count};
 
 use sign_base::{Failed, Sink, Source};
-use std::cell::Cell;
+use std::sync::atomic::{AtomicU64, Ordering};
 
 /// Bytes in pieces, a read that fails, and how many bytes are to stand in the sink where so many were
 /// given.
@@ -14,8 +15,8 @@ pub struct WatchedSource<'a> {
     piece: usize,
     fails: u64,
     given: usize,
-    allowed: &'a [usize],
-    written: &'a Cell<usize>,
+    allowed: &'a [u64],
+    written: &'a AtomicU64,
     reads: u64,
     late: u64,
 }
@@ -26,8 +27,8 @@ impl<'a> WatchedSource<'a> {
         bytes: &'a [u8],
         piece: usize,
         fails: u64,
-        allowed: &'a [usize],
-        written: &'a Cell<usize>,
+        allowed: &'a [u64],
+        written: &'a AtomicU64,
     ) -> WatchedSource<'a> {
         WatchedSource {
             left: bytes,
@@ -60,7 +61,7 @@ impl Source for WatchedSource<'_> {
     fn read(&mut self, buf: &mut [u8]) -> Result<usize, Failed> {
         let number = self.reads;
         self.reads = number.saturating_add(1);
-        if self.allowed.get(self.given).copied() != Some(self.written.get()) {
+        if self.allowed.get(self.given).copied() != Some(self.written.load(Ordering::SeqCst)) {
             self.late = self.late.saturating_add(1);
         }
         if number == self.fails {
@@ -75,15 +76,27 @@ impl Source for WatchedSource<'_> {
     }
 }
 
-/// A sink that counts its bytes.
+/// A sink that takes what it is given, and counts its bytes.
 #[derive(Drop)]
 pub struct CountingSink<'a> {
-    written: &'a Cell<usize>,
+    written: &'a AtomicU64,
+    fails: u64,
+    writes: u64,
 }
 
 impl<'a> CountingSink<'a> {
-    pub fn new(written: &'a Cell<usize>) -> CountingSink<'a> {
-        CountingSink { written }
+    /// Writes are numbered from 0. No write fails where `fails` is past the last.
+    pub fn new(written: &'a AtomicU64, fails: u64) -> CountingSink<'a> {
+        CountingSink {
+            written,
+            fails,
+            writes: 0,
+        }
+    }
+
+    /// How many writes there were.
+    pub fn writes(&self) -> u64 {
+        self.writes
     }
 }
 
@@ -93,8 +106,12 @@ impl Sink for CountingSink<'_> {
     ghost faults = { λ _. last_count };
 
     fn write(&mut self, piece: &[u8]) -> Result<usize, Failed> {
-        self.written
-            .set(self.written.get().saturating_add(piece.len()));
+        let number = self.writes;
+        self.writes = number.saturating_add(1);
+        if number == self.fails {
+            return Err(Failed);
+        }
+        self.written.fetch_add(piece.len() as u64, Ordering::SeqCst);
         Ok(piece.len())
     }
 }

@@ -15,4 +15,4 @@ pub invariant_of-self-2 : goal.invariant_of-self-2
 invariant_of-self-2 g c =
     rw (c.put.ensures, c.taken.ensures.left, set-set, c.parts_of_answer-answer.ensures)
     (calls-polled (meanings_of g.P.ProvideCredential g.S.SignRequest) c.self.inside.signer c.poll-answer.new.self c.self.inside.states.items c.args.number c.in_ok-sign.sign c.poll-answer.result.answer c.self.invariant
-    c.in_ok-sign.ensures.some c.poll-answer.ensures.same c.poll-answer.ensures.others c.poll-answer.ensures.made)
+    c.in_ok-sign.ensures.some c.poll-answer.ensures.same c.poll-answer.ensures.others c.poll-answer.ensures.issued)
