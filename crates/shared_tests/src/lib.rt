@@ -1,0 +1,10 @@
+//! The signer that threads share, tried: workers with gates of several kinds, and workers that run beside
+//! each other.
+#![tactic(auto)]
+
+mod closing;
+mod gates;
+mod key;
+mod meeting;
+mod serving;
+mod signers;
