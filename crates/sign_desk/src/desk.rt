@@ -14,10 +14,11 @@ ghost use Rattle.std.specs.Prelude.{◌≡◌, ◌<◌, ◌++◌, ◌∷◌, [],
 
 use crate::state::State;
 use credentials::{DeadlineRule, SigningCredential};
-use desk_parts::{AddError, AddRefused, HandleRecord, RunError};
+use desk_parts::{AddError, AddRefused, HandleRecord, RunError, Stage};
 use sequential_signer::{Event, Loader, Reply};
 use std::alloc::Global;
 use std::marker::Model;
+use wake_lock::CallId;
 
 /// The core of the signer: what is set up, what each cache holds, and the live calls.
 #[derive(Drop)]
@@ -40,7 +41,7 @@ impl<K: SigningCredential, D: DeadlineRule<Credential = K>> Model for Desk<K, D>
 
 impl<K: SigningCredential, D: DeadlineRule<Credential = K>> Desk<K, D> {
     ghost use Rattle.sign_desk.specs.DeskState.{Represents};
-    ghost use Rattle.desk_parts.specs.Tables.{setup_of, was_begun};
+    ghost use Rattle.desk_parts.specs.Tables.{setup_of, was_begun, find_call};
     ghost use Rattle.desk_parts.specs.Adding.{late_refusal, handle_refusal, AddAnswer, AddAnswerBack, with_rule, with_handle};
     ghost use Rattle.sign_desk.specs.DeskState.{with_cache};
     ghost use Rattle.sign_desk.specs.LiveCount.{LiveAfter};
@@ -241,6 +242,15 @@ impl<K: SigningCredential, D: DeadlineRule<Credential = K>> Desk<K, D> {
     /// The allocator of what the desk keeps.
     pub fn alloc(&self) -> Global {
         self.state.tables.alloc()
+    }
+
+    /// How far a call is that was begun and is not over; `None` where it is unknown or over. Found by the
+    /// call's name, without a walk along others.
+    pub fn stage_of(&self, call: CallId) -> Option<Stage>
+        ensures { result ≡ option_map (λ live. live.stage) (find_call call self.now.calls) }
+    {
+        let live = self.state.tables.record_of(call)?;
+        Some(live.stage)
     }
 
     /// The number of calls that were begun and are not over.

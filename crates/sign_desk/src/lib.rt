@@ -2,16 +2,20 @@
 #![tactic(auto)]
 
 mod desk;
+mod head_values;
 pub mod laws;
 mod load;
 mod poll;
 mod preview;
 mod replies;
+mod reply_values;
 mod same_setup;
 mod state;
 mod step;
 mod step_owned;
 
 pub use desk::Desk;
-pub use desk_parts::{AddError, AddRefused, HandleRecord, RunError};
+pub use desk_parts::{AddError, AddRefused, HandleRecord, RunError, Stage};
+pub use head_values::same_head;
+pub use reply_values::same_reply;
 pub use sequential_signer::{Answer, Entry, Event, Loader, Reply, Verdict, Why};

@@ -9,7 +9,6 @@ mod doubles;
 mod pass;
 mod room;
 mod same;
-mod same_head;
 mod settled;
 
 pub use book::Book;

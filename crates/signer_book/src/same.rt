@@ -1,9 +1,9 @@
 //! Whether two entries are the same, event and reply. No memory is taken.
 ghost use Rattle.std.specs.Prelude.{◌≡◌, ◌≢◌, MatchBool};
 
-use crate::same_head::same_head;
-use sequential_signer::{Answer, Entry, Event, Reply, Verdict, Why};
+use sequential_signer::{Answer, Entry, Event, Verdict};
 use sign_base::{EqualByValue, is_same};
+use sign_desk::{same_head, same_reply};
 
 fn same_answer<K: EqualByValue>(a: &Answer<K>, b: &Answer<K>) -> bool
     ensures { MatchBool result (a.now ≡ b.now) (a.now ≢ b.now) }
@@ -76,64 +76,6 @@ fn same_event<K: EqualByValue>(a: &Event<K>, b: &Event<K>) -> bool
         },
         Event::Cancel { call } => match b {
             Event::Cancel { call: other } => *call == *other,
-            _ => false,
-        },
-    }
-}
-
-fn same_why(a: &Why, b: &Why) -> bool
-    ensures { MatchBool result (a.now ≡ b.now) (a.now ≢ b.now) }
-{
-    match a {
-        Why::Missing => matches!(b, Why::Missing),
-        Why::Short(deadline) => match b {
-            Why::Short(theirs) => *deadline == *theirs,
-            _ => false,
-        },
-        Why::Range => matches!(b, Why::Range),
-        Why::Loader(error) => match b {
-            Why::Loader(theirs) => *error == *theirs,
-            _ => false,
-        },
-        Why::Service(error) => match b {
-            Why::Service(theirs) => *error == *theirs,
-            _ => false,
-        },
-    }
-}
-
-fn same_reply<K: EqualByValue>(a: &Reply<K>, b: &Reply<K>) -> bool
-    ensures { MatchBool result (a.now ≡ b.now) (a.now ≢ b.now) }
-{
-    match a {
-        Reply::Begun => matches!(b, Reply::Begun),
-        Reply::Pending => matches!(b, Reply::Pending),
-        Reply::NotNow => matches!(b, Reply::NotNow),
-        Reply::OutOfMemory => matches!(b, Reply::OutOfMemory),
-        Reply::Ask { provider } => match b {
-            Reply::Ask { provider: theirs } => *provider == *theirs,
-            _ => false,
-        },
-        Reply::Sign { credential, wake } => match b {
-            Reply::Sign {
-                credential: theirs,
-                wake: woken,
-            } => *wake == *woken && is_same(credential, theirs),
-            _ => false,
-        },
-        Reply::Refused { why, wake } => match b {
-            Reply::Refused {
-                why: theirs,
-                wake: woken,
-            } => *wake == *woken && same_why(why, theirs),
-            _ => false,
-        },
-        Reply::Done { head } => match b {
-            Reply::Done { head: theirs } => same_head(head, theirs),
-            _ => false,
-        },
-        Reply::Cancelled { wake } => match b {
-            Reply::Cancelled { wake: woken } => *wake == *woken,
             _ => false,
         },
     }

@@ -30,7 +30,7 @@ fn same_fields(a: &[Field], b: &[Field]) -> bool
 }
 
 /// Whether two heads are the same.
-pub(crate) fn same_head(a: &Head, b: &Head) -> bool
+pub fn same_head(a: &Head, b: &Head) -> bool
     ensures { MatchBool result (a.now ≡ b.now) (a.now ≢ b.now) }
 {
     same_octets(&a.method, &b.method)
