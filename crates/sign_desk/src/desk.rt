@@ -247,7 +247,8 @@ impl<K: SigningCredential, D: DeadlineRule<Credential = K>> Desk<K, D> {
     /// How far a call is that was begun and is not over; `None` where it is unknown or over. Found by the
     /// call's name, without a walk along others.
     pub fn stage_of(&self, call: CallId) -> Option<Stage>
-        ensures { result ≡ option_map (λ live. live.stage) (find_call call self.now.calls) }
+        ensures stage { result ≡ option_map (λ live. live.stage) (find_call call self.now.calls) }
+        ensures sound { StepPrecondition self.now }
     {
         let live = self.state.tables.record_of(call)?;
         Some(live.stage)
