@@ -1,0 +1,5 @@
+pub mod LinesAfter
+pub mod Phases
+pub mod LineEntries
+pub mod Counting
+pub mod Waiting

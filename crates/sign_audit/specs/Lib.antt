@@ -1,0 +1,6 @@
+pub mod Counts
+pub mod AuditState
+pub mod LineChange
+pub mod IsAudit
+pub mod Blockers
+pub mod Answers
