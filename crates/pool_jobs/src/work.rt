@@ -16,9 +16,10 @@ pub fn pool_work(alloc: Global, workers: u32, jobs: u64) -> Result<Vec<Vec<Job>>
     ensures { IfOk result (λ work. map (λ l. l.items) work.items ≡ pool_work workers jobs) }
 {
     let mut work = empty_lists(alloc, workers)?;
+    let count = u64::from(workers);
     for j in 0..jobs {
-        let worker = (j % u64::from(workers)) as u32;
-        let job = pool_job(alloc, worker, j / u64::from(workers))?;
+        let worker = (j % count) as u32;
+        let job = pool_job(alloc, worker, j / count)?;
         work[worker as usize].push(job)?;
     }
     Ok(work)
