@@ -18,8 +18,23 @@ pub fn pool_desk(
     alloc: Global,
     workers: u32,
 ) -> Result<Desk<ScriptCredential, ScriptRule>, NoMemory<()>>
-    requires { workers < 4294967295 }
     ensures setup { IfOk result (λ desk. setup_of desk ≡ pool_setup workers) }
+    ensures fresh { IfOk result (λ desk. Represents script_policy desk []) }
+{
+    let mut desk = desk_without_handles(alloc)?;
+    for _worker in 0..workers {
+        if desk.add_handle(0, 0).is_err() {
+            return Err(NoMemory { back: () });
+        }
+    }
+    Ok(desk)
+}
+
+/// A desk with one cache of one provider, and the rule `now`.
+fn desk_without_handles(
+    alloc: Global,
+) -> Result<Desk<ScriptCredential, ScriptRule>, NoMemory<()>>
+    ensures setup { IfOk result (λ desk. setup_of desk ≡ pool_setup 0) }
     ensures fresh { IfOk result (λ desk. Represents script_policy desk []) }
 {
     let mut desk = Desk::new(alloc);
@@ -28,11 +43,6 @@ pub fn pool_desk(
     }
     if desk.add_rule(ScriptRule::Now).is_err() {
         return Err(NoMemory { back: () });
-    }
-    for _worker in 0..workers {
-        if desk.add_handle(0, 0).is_err() {
-            return Err(NoMemory { back: () });
-        }
     }
     Ok(desk)
 }
