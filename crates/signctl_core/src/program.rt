@@ -44,7 +44,7 @@ pub fn run_program<S: Source, D: Sink, E: Sink>(
 }
 
 /// The words after the program's name.
-fn after_name(all: &[String]) -> &[String]
+pub fn after_name(all: &[String]) -> &[String]
     ensures { map string_bytes result.now ≡ drop 1 (map string_bytes all.now) }
 {
     match all {
@@ -106,7 +106,7 @@ fn show<D: Sink>(text: &str, output: &mut D) -> Status
 }
 
 /// Writes the line that says why a run ended early, where there is one.
-fn report<E: Sink>(status: Status, errors: &mut E)
+pub fn report<E: Sink>(status: Status, errors: &mut E)
     ensures { WritesOnce (reason_line status)
         (record { holds = E.holds; faults = E.faults; old = errors.old; new = errors.new }) }
 {
