@@ -38,6 +38,11 @@ abbrev pub is_for_threads : Option (List (List ℕ)) → Bool
 is_for_threads None = false
 is_for_threads (Some words) = names_pool (drop 1 words)
 
+-- the command that such a command line asks for
+abbrev pub asked_of : Option (List (List ℕ)) → Option PoolCommand
+asked_of None = None
+asked_of (Some words) = pool_named (drop 1 words)
+
 -- there is a worker, and there are no more workers and jobs than the command takes
 abbrev pub IsPoolSize : PoolCommand → Type 0
 IsPoolSize (Pool workers jobs) = (0 < workers) × (workers ≤ most_workers) × (jobs ≤ most_jobs)

@@ -1,17 +1,18 @@
 //! The whole program on the commands that threads serve, as a function over its words and streams.
-ghost use Rattle.std.specs.Prelude.{◌≡◌, map, drop, string_bytes, option_map, if◌then◌else◌, false};
+ghost use Rattle.std.specs.Prelude.{◌≡◌, map, string_bytes, option_map};
 ghost use Rattle.signctl_core.specs.Program.{reason_line, WritesOnce};
 ghost use Rattle.signctl_driver.specs.Status.{exit_status};
 ghost use Rattle.pool_jobs.specs.Meaning.{pool_meaning};
 ghost use Rattle.signctl_pool.specs.declared.end.PoolEnd.{PoolEnd};
 ghost use Rattle.signctl_pool.specs.Ends.{status_of};
 ghost use Rattle.signctl_pool.specs.Pool.{IsThreadsRun};
-ghost use Rattle.signctl_pool.specs.Words.{is_for_threads, pool_named};
+ghost use Rattle.signctl_pool.specs.Words.{is_for_threads, asked_of};
 
 use crate::pool::run_pool;
 use crate::words::names_pool;
 use pool_jobs::PoolGate;
 use sign_base::Sink;
+use signctl_core::Status;
 use signctl_core::program::{after_name, report};
 use std::alloc::Global;
 use std::sync::Wait;
@@ -35,17 +36,23 @@ pub fn is_for_threads(words: &Option<Vec<String>>) -> bool
 pub fn run_threads<D: Sink, E: Sink, R: Threads + Wait + Sync>(
     rt: &R,
     alloc: Global,
-    words: &[String],
+    words: Option<Vec<String>>,
     output: &mut D,
     errors: &mut E,
 ) -> u8
     ensures { (ended : PoolEnd) × (result ≡ exit_status (status_of ended))
-        × IsThreadsRun pool_meaning (pool_named (drop 1 (map string_bytes words.now))) ended
+        × IsThreadsRun pool_meaning (asked_of (option_map (λ all. map string_bytes all.items) words)) ended
         (record { holds = D.holds; faults = D.faults; old = output.old; new = output.new })
         × WritesOnce (reason_line (status_of ended))
         (record { holds = E.holds; faults = E.faults; old = errors.old; new = errors.new }) }
 {
-    let status = run_pool(rt, alloc, after_name(words), &PoolGate { alloc }, output).status();
+    let status = match words {
+        Some(all) => {
+            let words = after_name(all.as_slice());
+            run_pool(rt, alloc, words, &PoolGate { alloc }, output).status()
+        }
+        None => Status::Usage,
+    };
     report(status, errors);
     status.exit_status()
 }
