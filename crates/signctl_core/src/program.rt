@@ -150,7 +150,7 @@ fn help_text() -> &'static str
     usage_line!(
         "
 These commands work. The first five read lines from standard input and answer them on standard
-output; the last reads nothing.
+output; the last two read nothing.
 
   script    runs the request signer: events in, its replies out
   hmac      digests, HMAC and Base64: a call and its arguments in, the text out
@@ -158,6 +158,7 @@ output; the last reads nothing.
   grant     runs a credential broker: events in, its replies out
   sigv4     request heads with keys in, heads signed with AWS Signature Version 4 out
   load N    runs N made-up calls on the signer, and counts its replies
+  pool W J  serves J made-up calls by W threads at one shared signer, and counts them
 
   --help, --version    print this text, the version
 
