@@ -1,10 +1,10 @@
-//! The program: real streams round `signctl_core::run_program`, and round `signctl_pool::run_threads` for the
+//! The program: real streams round `signctl_core::run_program`, and round `signctl_threads::run_threads` for the
 //! commands that threads serve.
 #![tactic(auto)]
 
 use sign_base::{StdSink, StdSource};
 use signctl_core::{HeaderKeys, run_program};
-use signctl_pool::{is_for_threads, run_threads};
+use signctl_threads::{is_for_threads, run_threads};
 use std::hash::RandomState;
 use std::process::ExitCode;
 use std::rt::Env;

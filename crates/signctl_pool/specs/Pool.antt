@@ -1,22 +1,20 @@
 -- What a run of a pool gives, by how it ended.
 use Rattle.std.specs.Prelude.{◌≡◌, ◌↔◌, ℕ, List, Option, None, IfSome}
-use Rattle.std.specs.Io.{StartsWith}
+use Rattle.std.specs.Io.KnownBytes.{Appends}
 use Rattle.sign_base.specs.Faults.{CountsFault}
-use Rattle.sequential_signer.specs.declared.event.Entry.{Entry}
 use Rattle.desk_parts.specs.Tables.{setup_of}
 use Rattle.sign_desk.specs.DeskState.{Represents}
 use Rattle.signer_book.specs.Close.{IsCloseCause}
-use Rattle.signer_book.specs.declared.pass.Receipt.{Receipt}
 use Rattle.signer_book.specs.declared.settled.CloseRefused.{CloseRefused}
 use Rattle.signer_book.specs.declared.settled.Settled.{Settled}
 use Rattle.signer_shared.specs.Gates.{GateMeaning}
 use Rattle.signer_shared.specs.declared.job.Served.{Served}
+use Rattle.signctl_driver.specs.Output.{AppendsPrefix}
 use Rattle.signctl_driver.specs.Status.{is_write_fault}
 use Rattle.signctl_driver.specs.declared.status.Status.TheVariants as status
 use Rattle.signctl_format.specs.Policy.{script_policy}
 use Rattle.signctl_format.specs.declared.credential.ScriptCredential.{ScriptCredential}
 use Rattle.signctl_format.specs.declared.credential.ScriptRule.{ScriptRule}
-use Rattle.signctl_core.specs.Commands.{Stream, Adds}
 use Rattle.pool_jobs.specs.Setup.{pool_setup}
 use Rattle.pool_jobs.specs.Run.{ServesPool, IsPoolRun}
 use Rattle.signctl_pool.specs.Ends.{status_of}
@@ -25,6 +23,13 @@ use Rattle.signctl_pool.specs.declared.end.PoolEnd.{PoolEnd}
 use Rattle.signctl_pool.specs.declared.end.PoolEnd.TheVariants as end
 use Rattle.signctl_pool.specs.declared.words.PoolCommand.{PoolCommand}
 use Rattle.signctl_pool.specs.declared.words.PoolCommand.TheVariants.{Pool}
+
+-- a sink before and after a run: all that it holds, and how often it failed
+pub record Written (D : Type 0) : Type 0 where
+  pub holds : D → Option (List ℕ)
+  pub faults : D → ℕ
+  pub old : D
+  pub new : D
 
 module _ (gate : GateMeaning ScriptCredential) (workers jobs : ℕ) where
   -- a signer that was closed behind a pool: its desk represents the journal of the run
@@ -46,25 +51,25 @@ module _ (gate : GateMeaning ScriptCredential) (workers jobs : ℕ) where
   EndsEarly (end.Ended status.OutOfMemory) = Unit {0}
   EndsEarly _ = ⊥
 
-  -- What a run gives, by how it ended. Done: the whole line of the settled journal. A failed write: a prefix of the line
-  -- of such a journal. Any other end adds nothing
-  abbrev pub EndsPool : {D : Type 0} → PoolEnd → Stream D → Type 0
+  -- What a run gives, by how it ended. Done: the sink has the whole line of the settled journal more. A failed write: it
+  -- has a prefix of the line of such a journal. Any other end leaves it as it was
+  abbrev pub EndsPool : {D : Type 0} → PoolEnd → Written D → Type 0
   EndsPool (end.Done settled) sink =
-      IsSettledPool settled × Adds sink (λ added. added ≡ pool_line jobs settled.journal.items)
+      IsSettledPool settled × Appends (sink.holds sink.old) (sink.holds sink.new) (pool_line jobs settled.journal.items)
   EndsPool (end.Disagreed refused) sink = IsRefusedPool refused × (sink.new ≡ sink.old)
   EndsPool (end.Ended status.WriteFault) sink =
       (settled : Settled ScriptCredential ScriptRule) × IsSettledPool settled
-      × Adds sink (λ added. StartsWith (pool_line jobs settled.journal.items) added)
+      × AppendsPrefix (sink.holds sink.old) (sink.holds sink.new) (pool_line jobs settled.journal.items)
   EndsPool (end.Ended status.OutOfMemory) sink = sink.new ≡ sink.old
   EndsPool (end.Ended _) sink = ⊥
 
 -- what a run of a command gives
-abbrev pub EndsCommand : {D : Type 0} → GateMeaning ScriptCredential → PoolCommand → PoolEnd → Stream D → Type 0
-EndsCommand gate (Pool workers jobs) end sink = EndsPool gate workers jobs end sink
+abbrev pub EndsCommand : {D : Type 0} → GateMeaning ScriptCredential → PoolCommand → PoolEnd → Written D → Type 0
+EndsCommand gate (Pool workers jobs) ended sink = EndsPool gate workers jobs ended sink
 
 -- a run did what its words ask for
 pub record IsThreadsRun {D : Type 0} (gate : GateMeaning ScriptCredential) (asked : Option PoolCommand) (ended : PoolEnd)
-    (sink : Stream D) : Type 0 where
+    (sink : Written D) : Type 0 where
   -- Usage comes exactly where nothing is asked for, and writes nothing
   pub usage : (ended ≡ end.Ended status.Usage) ↔ (asked ≡ None)
   pub untouched : ended ≡ end.Ended status.Usage → sink.new ≡ sink.old

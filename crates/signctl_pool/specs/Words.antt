@@ -1,5 +1,5 @@
 -- The commands that threads serve, by their words.
-use Rattle.std.specs.Prelude.{ℕ, ◌<◌, ◌≤◌, ◌==◌, Bool, false, List, [], ◌∷◌, Option, Some, None, if◌then◌else◌, codes, drop}
+use Rattle.std.specs.Prelude.{ℕ, ◌<◌, ◌≤◌, ◌==◌, Bool, false, List, [], ◌∷◌, Option, Some, None, if◌then◌else◌, codes}
 use Rattle.std.specs.Str.{bytes_eq}
 use Rattle.signctl_format.specs.Words.{number_of}
 use Rattle.signctl_pool.specs.declared.words.PoolCommand.{PoolCommand}
@@ -32,16 +32,6 @@ pool_named _ = None
 abbrev pub names_pool : List (List ℕ) → Bool
 names_pool [] = false
 names_pool (word ∷ rest) = bytes_eq word (codes "pool")
-
--- whether a command line is for threads, whose first word is the program's name. One that is not text is not
-abbrev pub is_for_threads : Option (List (List ℕ)) → Bool
-is_for_threads None = false
-is_for_threads (Some words) = names_pool (drop 1 words)
-
--- the command that such a command line asks for
-abbrev pub asked_of : Option (List (List ℕ)) → Option PoolCommand
-asked_of None = None
-asked_of (Some words) = pool_named (drop 1 words)
 
 -- there is a worker, and there are no more workers and jobs than the command takes
 abbrev pub IsPoolSize : PoolCommand → Type 0

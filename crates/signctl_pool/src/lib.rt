@@ -5,10 +5,8 @@
 mod end;
 mod line;
 mod pool;
-mod program;
 mod words;
 
 pub use end::PoolEnd;
 pub use pool::run_pool;
-pub use program::{is_for_threads, run_threads};
-pub use words::PoolCommand;
+pub use words::{PoolCommand, names_pool};

@@ -47,7 +47,7 @@ fn pool_by_words(word: &str, workers: &str, jobs: &str) -> Option<PoolCommand>
 }
 
 /// Whether the first word is that of a command that threads serve.
-pub(crate) fn names_pool(words: &[String]) -> bool
+pub fn names_pool(words: &[String]) -> bool
     ensures { result ≡ names_pool (map string_bytes words.now) }
 {
     match words {

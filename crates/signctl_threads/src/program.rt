@@ -6,14 +6,13 @@ ghost use Rattle.pool_jobs.specs.Meaning.{pool_meaning};
 ghost use Rattle.signctl_pool.specs.declared.end.PoolEnd.{PoolEnd};
 ghost use Rattle.signctl_pool.specs.Ends.{status_of};
 ghost use Rattle.signctl_pool.specs.Pool.{IsThreadsRun};
-ghost use Rattle.signctl_pool.specs.Words.{is_for_threads, asked_of};
+ghost use Rattle.signctl_threads.specs.CommandLine.{is_for_threads, asked_of};
 
-use crate::pool::run_pool;
-use crate::words::names_pool;
 use pool_jobs::PoolGate;
 use sign_base::Sink;
 use signctl_core::Status;
 use signctl_core::program::{after_name, report};
+use signctl_pool::{names_pool, run_pool};
 use std::alloc::Global;
 use std::sync::Wait;
 use std::thread::Threads;
