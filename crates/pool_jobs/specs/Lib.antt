@@ -1,0 +1,4 @@
+pub mod Setup
+pub mod Work
+pub mod Meaning
+pub mod Run
