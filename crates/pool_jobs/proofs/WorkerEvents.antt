@@ -1,0 +1,188 @@
+-- What the events of a worker are at a gate that answers at once, and that each of them fits after those of its handle.
+use Rattle.std.proofs.Common.{◌≡◌, ◌≢◌, ℕ, ℤ, suc, ◌<◌, ◌≤◌, Bool, true, false, not, ◌||◌, cond, List, [], ◌∷◌, ◌++◌, Option, Some, None, is_some, option_map, map, refl, sym, ◌∙◌, ap, subst, nat_lt, ◌==◌, arith}
+use Rattle.std.specs.List.{list_any, list_all}
+use Rattle.std.specs.Duration.{as_nanos}
+use Rattle.sign_base.specs.declared.head.Head.{Head}
+use Rattle.wake_lock.specs.declared.CallId.{CallId}
+use Rattle.wake_lock.specs.Calls.{same_call}
+use Rattle.sequential_signer.specs.Policy.{Policy}
+use Rattle.sequential_signer.specs.Setup.{Setup, cache_of, rule_of}
+use Rattle.sequential_signer.specs.Transcript.{call_of, entries_of, is_out_of_memory}
+use Rattle.sequential_signer.specs.Phase.{Phase, Unknown, Unpolled, Queued, Loading, Signing, Ended, is_mark, phase_of, phase_in, phase_by, is_waiting, is_loading, is_signing, is_new_number, is_waiting_poll}
+use Rattle.sequential_signer.specs.Hold.{BeginInput, begin_of, begin_in}
+use Rattle.sequential_signer.specs.LawsOfCaches.{serves_at}
+use Rattle.sequential_signer.specs.declared.event.Answer.{Answer}
+use Rattle.sequential_signer.specs.declared.event.Answer.TheVariants.{Found}
+use Rattle.sequential_signer.specs.declared.event.Entry.{Entry}
+use Rattle.sequential_signer.specs.declared.event.Event.{Event}
+use Rattle.sequential_signer.specs.declared.event.Event.TheVariants.{Begin, Poll, Provided, Signed, Cancel}
+use Rattle.sequential_signer.specs.declared.event.Reply.{Reply}
+use Rattle.sequential_signer.specs.declared.event.Reply.TheVariants.{Begun, Pending, NotNow, OutOfMemory, Ask, Sign, Refused, Done, Cancelled}
+use Rattle.sequential_signer.specs.declared.event.Verdict.{Verdict}
+use Rattle.sequential_signer.specs.declared.event.Verdict.TheVariants.{Accepted}
+use Rattle.wake_lock.proofs.Calls.{same_call-refl}
+use Rattle.sequential_signer.proofs.OwnEntries.{entries_of-own, to_queued, phase_in-pending, begin_in-new}
+use Rattle.sequential_signer.proofs.NewNumbers.{new_is_unbegun}
+use Rattle.sequential_signer.proofs.CallInvariant.{phase-own_mark, loads-own_mark, begin-stays}
+use Rattle.sign_desk.specs.ReplyKinds.{is_reply_to}
+use Rattle.signer_shared.specs.Gates.{GateMeaning}
+use Rattle.signer_shared.specs.Serving.{IsNext, next_after}
+use Rattle.signer_shared.specs.declared.job.Job.{Job}
+use Rattle.signer_shared.specs.declared.next.Next.{Next}
+use Rattle.signer_shared.specs.declared.next.Next.TheVariants as next
+use Rattle.pool_jobs.proofs.FittingEvents.{goes_well, all_well, HasBegun, Fits}
+
+-- what a job's call is begun with
+abbrev pub job_begin : Job → BeginInput
+job_begin job = record { head = job.head; duration = option_map as_nanos job.expires_in }
+
+queued_waits : (p : Phase) → is_waiting p ≡ true → is_waiting (to_queued p) ≡ true
+queued_waits Unpolled h = refl
+queued_waits Queued h = refl
+queued_waits Unknown h = absurd (cc)
+queued_waits Loading h = absurd (cc)
+queued_waits Signing h = absurd (cc)
+queued_waits Ended h = absurd (cc)
+
+begun_waits : (K : Type 0) (waited : Bool) → is_waiting (phase_by {K = K} waited Begun) ≡ true
+begun_waits K true = refl
+begun_waits K false = refl
+
+-- the phase after an entry of the call itself
+phase-own : {K : Type 0} (entries : List (Entry K)) (call : CallId) (e : Entry K) → same_call call (call_of e.event) ≡ true → phase_of (entries ++ e ∷ []) call ≡ phase_in (entries_of entries call ++ e ∷ [])
+unfolding phase_of
+phase-own entries call e own = ap phase_in (entries_of-own entries call e own)
+
+phase_is-in : {K : Type 0} (entries : List (Entry K)) (call : CallId) → phase_in (entries_of entries call) ≡ phase_of entries call
+unfolding phase_of
+phase_is-in entries call = refl
+
+module _ {K D : Type 0} (policy : Policy K D) (setup : Setup D) (c : K) (moment : ℤ) where
+  -- the gate answers each load at once with this credential, accepts each head, and shows one moment
+  pub record AnswersAtOnce (gate : GateMeaning K) : Type 0 where
+    pub ready : (call : CallId) (provider : ℕ) → gate.ready call provider 0
+    pub gives : (call : CallId) (provider : ℕ) (answer : Answer K) → gate.gives call provider answer → answer ≡ Found c
+    pub judges : (call : CallId) (k : K) (head : Head) (verdict : Verdict) → gate.judges call k head verdict → (made : Head) × (verdict ≡ Accepted made)
+    pub tells : (now : ℤ) → gate.tells now → now ≡ moment
+
+  -- a job of this handle, whose call is of cache 0, and which the credential serves at the moment
+  pub record IsWorkerJob (handle : ℕ) (job : Job) : Type 0 where
+    pub under : job.call.handle ≡ handle
+    pub cache : cache_of setup job.call ≡ Some 0
+    pub rule : D
+    pub ruled : rule_of setup job.call ≡ Some rule
+    pub lasts : serves_at policy c rule (job_begin job).duration moment ≡ true
+
+  -- how far the job's call is after these entries, by what is next for it
+  abbrev pub Stands : Job → Next K → List (Entry K) → Type 0
+  Stands job next.Begin past = is_new_number past job.call ≡ true
+  Stands job next.Poll past = (begin_of past job.call ≡ Some (job_begin job)) × (is_waiting (phase_of past job.call) ≡ true)
+  Stands job (next.Load provider) past = (begin_of past job.call ≡ Some (job_begin job)) × (is_loading (phase_of past job.call) ≡ true)
+  Stands job (next.Sign credential) past = is_signing (phase_of past job.call) ≡ true
+  Stands job (next.Over end) past = Unit {0}
+
+  module _ (handle : ℕ) (job : Job) (known : IsWorkerJob handle job) where
+    has_begun : (past : List (Entry K)) → begin_of past job.call ≡ Some (job_begin job) → HasBegun policy setup c moment past job.call
+    has_begun past b = record { cache = known.cache; rule = known.rule; ruled = known.ruled; begin = job_begin job; begun = b; lasts = known.lasts }
+
+    -- the event that is next fits
+    pub next_fits : (gate : GateMeaning K) → AnswersAtOnce gate → (past : List (Entry K)) (at : Next K) (event : Event K) → IsNext gate job at event → Stands job at past → Fits policy setup c moment past event
+    next_fits gate prompt past next.Begin event n s = subst (λ (e : Event K). Fits policy setup c moment past e) (sym n) (known.cache, s)
+    next_fits gate prompt past next.Poll event n s = subst (λ (e : Event K). Fits policy setup c moment past e) (sym n.2) (has_begun past s.0, s.1, prompt.tells n.0 n.1)
+    next_fits gate prompt past (next.Load provider) event n s =
+        subst (λ (e : Event K). Fits policy setup c moment past e) (sym n.4) (has_begun past s.0, s.1, prompt.tells n.0 n.2, prompt.gives job.call provider n.1 n.3)
+    next_fits gate prompt past (next.Sign credential) event n s =
+        subst (λ (e : Event K). Fits policy setup c moment past e) (sym n.2) (known.cache, s, prompt.judges job.call credential job.head n.0 n.1)
+    next_fits gate prompt past (next.Over end) event n s = absurd n
+
+  module _ (job : Job) (past : List (Entry K)) where
+    begin_kept : (e : Entry K) → same_call job.call (call_of e.event) ≡ true → begin_of past job.call ≡ Some (job_begin job) → begin_of (past ++ e ∷ []) job.call ≡ Some (job_begin job)
+    begin_kept e own b = begin-stays setup past 0 e job.call own (ap is_some b) ∙ b
+
+    begin_new : (e : Entry K) → e ≡ record { event = Begin job.call job.head job.expires_in; reply = Begun } → is_new_number past job.call ≡ true
+        → begin_of (past ++ record { event = Begin job.call job.head job.expires_in; reply = Begun } ∷ []) job.call ≡ Some (job_begin job)
+    begin_new e is new =
+        let made : Entry K = record { event = Begin job.call job.head job.expires_in; reply = Begun } in
+        ap begin_in (entries_of-own past job.call made (same_call-refl job.call)) ∙ begin_in-new (entries_of past job.call) made (new_is_unbegun job.call past new) refl
+
+    signs_by : (e : Entry K) (k : K) (wake : Option CallId) → same_call job.call (call_of e.event) ≡ true → e.reply ≡ Sign k wake → is_signing (phase_of (past ++ e ∷ []) job.call) ≡ true
+    signs_by e k wake own h =
+        let mark : is_mark e.reply ≡ true = ap is_mark h in
+        ap is_signing (phase-own_mark setup past 0 e job.call own mark ∙ ap (phase_by (list_any is_waiting_poll (entries_of past job.call) || is_waiting_poll e)) h)
+
+    -- how far the call is after its begin, a poll, an answer of a provider, and one of the service
+    after_begin : (reply : Reply K) → is_reply_to (Begin job.call job.head job.expires_in) reply ≡ true → goes_well reply ≡ true → Stands job next.Begin past
+        → Stands job (next_after reply) (past ++ record { event = Begin job.call job.head job.expires_in; reply = reply } ∷ [])
+    after_begin Begun kind well s =
+        let made : Entry K = record { event = Begin job.call job.head job.expires_in; reply = Begun } in
+        (begin_new made refl s,
+        ap is_waiting (phase-own_mark setup past 0 made job.call (same_call-refl job.call) refl) ∙ begun_waits K _)
+    after_begin Pending kind well s = absurd (cc)
+    after_begin NotNow kind well s = absurd (cc)
+    after_begin OutOfMemory kind well s = absurd (cc)
+    after_begin (Ask p) kind well s = absurd (cc)
+    after_begin (Sign k w) kind well s = absurd (cc)
+    after_begin (Refused y w) kind well s = absurd (cc)
+    after_begin (Done h) kind well s = absurd (cc)
+    after_begin (Cancelled w) kind well s = absurd (cc)
+
+    after_poll : (now : ℤ) (reply : Reply K) → is_reply_to (Poll job.call now) reply ≡ true → goes_well reply ≡ true → Stands job next.Poll past
+        → Stands job (next_after reply) (past ++ record { event = Poll job.call now; reply = reply } ∷ [])
+    after_poll now Pending kind well s =
+        let made : Entry K = record { event = Poll job.call now; reply = Pending } in
+        (begin_kept made (same_call-refl job.call) s.0,
+        ap is_waiting (phase-own past job.call made (same_call-refl job.call) ∙ phase_in-pending (entries_of past job.call) job.call now ∙ ap to_queued (phase_is-in past job.call))
+        ∙ queued_waits (phase_of past job.call) s.1)
+    after_poll now (Ask p) kind well s =
+        let made : Entry K = record { event = Poll job.call now; reply = Ask p } in
+        (begin_kept made (same_call-refl job.call) s.0, loads-own_mark setup past 0 made job.call (same_call-refl job.call) refl)
+    after_poll now (Sign k w) kind well s = signs_by (record { event = Poll job.call now; reply = Sign k w }) k w (same_call-refl job.call) refl
+    after_poll now Begun kind well s = absurd (cc)
+    after_poll now NotNow kind well s = absurd (cc)
+    after_poll now OutOfMemory kind well s = absurd (cc)
+    after_poll now (Refused y w) kind well s = absurd (cc)
+    after_poll now (Done h) kind well s = absurd (cc)
+    after_poll now (Cancelled w) kind well s = absurd (cc)
+
+    after_answer : (now : ℤ) (answer : Answer K) (reply : Reply K) → is_reply_to (Provided job.call now answer) reply ≡ true → goes_well reply ≡ true → (begin_of past job.call ≡ Some (job_begin job))
+        → Stands job (next_after reply) (past ++ record { event = Provided job.call now answer; reply = reply } ∷ [])
+    after_answer now answer (Ask p) kind well b =
+        let made : Entry K = record { event = Provided job.call now answer; reply = Ask p } in
+        (begin_kept made (same_call-refl job.call) b, loads-own_mark setup past 0 made job.call (same_call-refl job.call) refl)
+    after_answer now answer (Sign k w) kind well b = signs_by (record { event = Provided job.call now answer; reply = Sign k w }) k w (same_call-refl job.call) refl
+    after_answer now answer Begun kind well b = absurd (cc)
+    after_answer now answer Pending kind well b = absurd (cc)
+    after_answer now answer NotNow kind well b = absurd (cc)
+    after_answer now answer OutOfMemory kind well b = absurd (cc)
+    after_answer now answer (Refused y w) kind well b = absurd (cc)
+    after_answer now answer (Done h) kind well b = absurd (cc)
+    after_answer now answer (Cancelled w) kind well b = absurd (cc)
+
+    after_verdict : (verdict : Verdict) (reply : Reply K) → is_reply_to (Signed job.call verdict) reply ≡ true → goes_well reply ≡ true
+        → Stands job (next_after reply) (past ++ record { event = Signed job.call verdict; reply = reply } ∷ [])
+    after_verdict verdict (Done h) kind well = tt
+    after_verdict verdict Begun kind well = absurd (cc)
+    after_verdict verdict Pending kind well = absurd (cc)
+    after_verdict verdict NotNow kind well = absurd (cc)
+    after_verdict verdict OutOfMemory kind well = absurd (cc)
+    after_verdict verdict (Ask p) kind well = absurd (cc)
+    after_verdict verdict (Sign k w) kind well = absurd (cc)
+    after_verdict verdict (Refused y w) kind well = absurd (cc)
+    after_verdict verdict (Cancelled w) kind well = absurd (cc)
+
+    -- so after each event that was next and went well the call is as far as its reply says
+    pub stands_after : (gate : GateMeaning K) (at : Next K) (event : Event K) (reply : Reply K) → IsNext gate job at event → is_reply_to event reply ≡ true → goes_well reply ≡ true → Stands job at past
+        → Stands job (next_after reply) (past ++ record { event = event; reply = reply } ∷ [])
+    stands_after gate next.Begin event reply n kind well s =
+        subst (λ (e : Event K). is_reply_to e reply ≡ true → Stands job (next_after reply) (past ++ record { event = e; reply = reply } ∷ [])) (sym n)
+        (λ k. after_begin reply k well s) kind
+    stands_after gate next.Poll event reply n kind well s =
+        subst (λ (e : Event K). is_reply_to e reply ≡ true → Stands job (next_after reply) (past ++ record { event = e; reply = reply } ∷ [])) (sym n.2)
+        (λ k. after_poll n.0 reply k well s) kind
+    stands_after gate (next.Load provider) event reply n kind well s =
+        subst (λ (e : Event K). is_reply_to e reply ≡ true → Stands job (next_after reply) (past ++ record { event = e; reply = reply } ∷ [])) (sym n.4)
+        (λ k. after_answer n.0 n.1 reply k well s.0) kind
+    stands_after gate (next.Sign credential) event reply n kind well s =
+        subst (λ (e : Event K). is_reply_to e reply ≡ true → Stands job (next_after reply) (past ++ record { event = e; reply = reply } ∷ [])) (sym n.2)
+        (λ k. after_verdict n.0 reply k well) kind
+    stands_after gate (next.Over end) event reply n kind well s = absurd n

@@ -1,0 +1,9 @@
+use Rattle.std.proofs.Common.{refl}
+use Rattle.pool_jobs.proofs.Dealt.{counts_all}
+use Rattle.pool_jobs.proofs.Picked.{picked_all}
+use Rattle.pool_jobs.proofs.WorkerCourses.{pass_expected}
+use Rattle.pool_jobs.proofs.PoolStates.{event_pool}
+use Rattle.pool_jobs.proofs.laws.pool_law.Goals as goal
+
+pub returns : goal.returns
+returns c = refl

@@ -1,0 +1,4 @@
+//! What a pool of workers serves.
+#![tactic(auto)]
+
+pub mod laws;
