@@ -1,5 +1,6 @@
 -- Items that have numbers: those of one number, those from a number on, and how many there are.
-use Rattle.std.proofs.Common.{◌≡◌, ℕ, zero, suc, ◌+◌, ◌≤◌, ◌<◌, ◌==◌, nat_lt, Bool, true, false, not, cond, List, [], ◌∷◌, filter, length, refl, sym, ◌∙◌, ap, arith}
+use Rattle.std.proofs.Common.{◌≡◌, ℕ, zero, suc, ◌+◌, ◌≤◌, ◌<◌, ◌==◌, nat_lt, Bool, true, false, not, cond, List, [], ◌∷◌, filter, length, refl, sym, ◌∙◌, ap, arith, ◌⊎◌, inl, inr}
+use Rattle.std.proofs.lemmas.Bool.{false≢true}
 use Rattle.std.proofs.lemmas.Bool.Decides.{nat_tests}
 
 -- where a number lies beside another
@@ -67,3 +68,15 @@ module _ {X : Type 0} (key : X → ℕ) where
       let e : first + suc n ≡ suc first + n = omega arith in
       let rest : count_of (suc first) n xs ≡ length (filter (is_from (suc first)) xs) = counts_all (suc first) n xs (ap (λ m. length (filter (is_from m) xs)) (sym e) ∙ none) in
       ap (λ m. length (filter (is_of first) xs) + m) rest ∙ sym (split_from first xs)
+
+  -- an item from a number on has that number, or is from the next one on
+  from_cases : (n : ℕ) (x : X) → Side n (key x) → is_from n x ≡ true → (is_of n x ≡ true) ⊎ (is_from (suc n) x ≡ true)
+  from_cases n x (below l e s) h = absurd (false≢true (ap not (sym l) ∙ h))
+  from_cases n x (here l e s) h = inl e
+  from_cases n x (above l e s) h = inr (ap not s)
+
+  pub from_either : (n : ℕ) (x : X) → is_from n x ≡ true → (is_of n x ≡ true) ⊎ (is_from (suc n) x ≡ true)
+  from_either n x h = from_cases n x (side n (key x)) h
+
+  pub from_zero : (x : X) → is_from 0 x ≡ true
+  from_zero x = grind (arith, nat_tests)

@@ -3,4 +3,8 @@ pub mod Picked
 pub mod FittingEvents
 pub mod WorkerEvents
 pub mod WorkerCourses
+pub mod Spread
+pub mod DealtPasses
+pub mod HandleEntries
 pub mod PoolStates
+pub mod PoolRuns

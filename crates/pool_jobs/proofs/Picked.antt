@@ -19,7 +19,8 @@ around (y ∷ xs) zero (suc place) x le at = around_tail y xs place x (around xs
 around (y ∷ xs) (suc from) zero x le at = absurd (omega arith)
 around (y ∷ xs) (suc from) (suc place) x le at = let a = around xs from place x (omega arith) at in record { before = a.before; is = a.is }
 
-no_items : {X : Type 0} (xs : List X) → length xs ≤ 0 → xs ≡ []
+-- a list of no length is empty
+pub no_items : {X : Type 0} (xs : List X) → length xs ≤ 0 → xs ≡ []
 no_items [] h = refl
 no_items (x ∷ xs) h = absurd (omega arith)
 

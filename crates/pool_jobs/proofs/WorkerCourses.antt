@@ -28,7 +28,7 @@ use Rattle.signer_shared.specs.declared.next.JobEnd.TheVariants as ended
 use Rattle.signer_shared.specs.declared.next.Next.{Next}
 use Rattle.signer_shared.specs.declared.next.Next.TheVariants as next
 use Rattle.pool_jobs.proofs.FittingEvents.{goes_well, all_well, Fits}
-use Rattle.pool_jobs.proofs.WorkerEvents.{AnswersAtOnce, IsWorkerJob, Stands, next_fits, stands_after}
+use Rattle.pool_jobs.proofs.WorkerEvents.{AnswersAtOnce, IsWorkerJob, AreWorkerJobs, Stands, next_fits, stands_after}
 
 -- the entries of receipts
 abbrev pub entries : {K : Type 0} → List (Receipt K) → List (Entry K)
@@ -151,14 +151,8 @@ module _ {K D : Type 0} (policy : Policy K D) (setup : Setup D) (c : K) (moment 
       list_all-by (is_numbered_below n) (λ (e : Entry K). not (is_begin_under call.handle e) || nat_lt (call_of e.event).number call.number)
       (λ e h. let lt : nat_lt (call_of e.event).number call.number ≡ true = below_le n call.number le (call_of e.event).number h in rw lt (or_true _)) past below
 
-  -- jobs of one handle, whose calls have numbers that rise from this one on
-  abbrev pub AreWorkerJobs : ℕ → ℕ → List Job → Type 0
-  AreWorkerJobs handle from [] = Unit {0}
-  AreWorkerJobs handle from (job ∷ jobs) =
-      IsWorkerJob policy setup c moment handle job × (from ≤ job.call.number) × AreWorkerJobs handle (suc job.call.number) jobs
-
   -- the entries of a worker's pass are of its handle
-  pub pass_handle : (handle from : ℕ) (jobs : List Job) (added : List (Receipt K)) → AreWorkerJobs handle from jobs → ServesAll gate 1 jobs added
+  pub pass_handle : (handle from : ℕ) (jobs : List Job) (added : List (Receipt K)) → AreWorkerJobs policy setup c moment handle from jobs → ServesAll gate 1 jobs added
       → list_all (λ (e : Entry K). (call_of e.event).handle == handle) (entries added) ≡ true
   pass_handle handle from [] added a s = ap (λ (l : List (Receipt K)). list_all (λ (e : Entry K). (call_of e.event).handle == handle) (entries l)) s
   pass_handle handle from (job ∷ jobs) added a s =
@@ -168,7 +162,7 @@ module _ {K D : Type 0} (policy : Policy K D) (setup : Setup D) (c : K) (moment 
       rw (s.3, map-append (λ (r : Receipt K). r.entry) s.0 s.1) (list_all-append (λ (e : Entry K). (call_of e.event).handle == handle) (entries s.0) (entries s.1) first later)
 
   -- and each of them is expected after those before it
-  pub pass_expected : (handle from : ℕ) (jobs : List Job) (past : List (Entry K)) (added : List (Receipt K)) → AreWorkerJobs handle from jobs → ServesAll gate 1 jobs added
+  pub pass_expected : (handle from : ℕ) (jobs : List Job) (past : List (Entry K)) (added : List (Receipt K)) → AreWorkerJobs policy setup c moment handle from jobs → ServesAll gate 1 jobs added
       → list_all (is_numbered_below from) past ≡ true → AreLegalAfter (λ x. x) Expects past (entries added)
   pass_expected handle from [] past added a s below = subst (λ (l : List (Receipt K)). AreLegalAfter (λ x. x) Expects past (entries l)) (sym s) tt
   pass_expected handle from (job ∷ jobs) past added a s below =

@@ -73,6 +73,11 @@ module _ {K D : Type 0} (policy : Policy K D) (setup : Setup D) (c : K) (moment 
     pub ruled : rule_of setup job.call ≡ Some rule
     pub lasts : serves_at policy c rule (job_begin job).duration moment ≡ true
 
+  -- jobs of one handle, whose calls have numbers that rise from this one on
+  abbrev pub AreWorkerJobs : ℕ → ℕ → List Job → Type 0
+  AreWorkerJobs handle from [] = Unit {0}
+  AreWorkerJobs handle from (job ∷ jobs) = IsWorkerJob handle job × (from ≤ job.call.number) × AreWorkerJobs handle (suc job.call.number) jobs
+
   -- how far the job's call is after these entries, by what is next for it
   abbrev pub Stands : Job → Next K → List (Entry K) → Type 0
   Stands job next.Begin past = is_new_number past job.call ≡ true
