@@ -8,3 +8,4 @@ pub mod DealtPasses
 pub mod HandleEntries
 pub mod PoolStates
 pub mod PoolRuns
+pub mod PoolCounts

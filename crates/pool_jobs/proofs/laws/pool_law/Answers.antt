@@ -7,6 +7,7 @@ use Rattle.pool_jobs.proofs.Spread.{spread}
 use Rattle.pool_jobs.proofs.DealtPasses.{settled_dealt}
 use Rattle.pool_jobs.proofs.HandleEntries.{own_fits}
 use Rattle.pool_jobs.proofs.PoolRuns.{is_pool}
+use Rattle.pool_jobs.proofs.PoolCounts.{counts, asks_are, no_jobs}
 use Rattle.pool_jobs.proofs.laws.pool_law.Goals as goal
 
 pub returns : goal.returns
