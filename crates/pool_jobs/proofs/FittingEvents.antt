@@ -12,20 +12,10 @@ use Rattle.sequential_signer.specs.declared.event.Answer.TheVariants.{Found}
 use Rattle.sequential_signer.specs.declared.event.Entry.{Entry}
 use Rattle.sequential_signer.specs.declared.event.Event.{Event}
 use Rattle.sequential_signer.specs.declared.event.Event.TheVariants.{Begin, Poll, Provided, Signed, Cancel}
-use Rattle.sequential_signer.specs.declared.event.Reply.{Reply}
-use Rattle.sequential_signer.specs.declared.event.Reply.TheVariants.{Begun, Pending, Ask, Sign, Done}
 use Rattle.sequential_signer.specs.declared.event.Verdict.TheVariants.{Accepted}
+use Rattle.pool_jobs.specs.Laws.{goes_well}
 
--- whether the reply is one of those that a call gets that is signed
-abbrev pub goes_well : {K : Type 0} → Reply K → Bool
-goes_well Begun = true
-goes_well Pending = true
-goes_well (Ask provider) = true
-goes_well (Sign credential wake) = true
-goes_well (Done head) = true
-goes_well _ = false
-
--- whether all did so far
+-- whether all replies so far are on the way to a signed head
 abbrev pub all_well : {K : Type 0} → List (Entry K) → Bool
 all_well entries = list_all (λ e. goes_well e.reply) entries
 

@@ -1,3 +1,5 @@
+pub mod Dealing
+pub mod DeskSetup
 pub mod Dealt
 pub mod Picked
 pub mod FittingEvents
@@ -9,3 +11,5 @@ pub mod HandleEntries
 pub mod PoolStates
 pub mod PoolRuns
 pub mod PoolCounts
+pub mod PoolLists
+pub mod PoolLaw

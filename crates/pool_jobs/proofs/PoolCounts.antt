@@ -24,7 +24,8 @@ use Rattle.signer_shared.specs.declared.job.Job.{Job}
 use Rattle.signer_shared.specs.declared.job.Served.{Served}
 use Rattle.pool_jobs.proofs.Dealt.{is_of, is_from, split_from, all_from}
 use Rattle.pool_jobs.proofs.Picked.{no_items}
-use Rattle.pool_jobs.proofs.FittingEvents.{goes_well, all_well}
+use Rattle.pool_jobs.specs.Laws.{goes_well}
+use Rattle.pool_jobs.proofs.FittingEvents.{all_well}
 use Rattle.pool_jobs.proofs.WorkerEvents.{AnswersAtOnce, AreWorkerJobs}
 use Rattle.pool_jobs.proofs.WorkerCourses.{entries}
 use Rattle.pool_jobs.proofs.DealtPasses.{handle_of, IsDealt}

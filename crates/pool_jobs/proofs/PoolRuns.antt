@@ -28,7 +28,8 @@ use Rattle.signer_shared.specs.Pools.{ServesLists}
 use Rattle.signer_shared.specs.declared.job.Job.{Job}
 use Rattle.signer_shared.specs.declared.job.Served.{Served}
 use Rattle.pool_jobs.proofs.Dealt.{is_of, is_from, from_either, from_zero}
-use Rattle.pool_jobs.proofs.FittingEvents.{goes_well, all_well, Fits}
+use Rattle.pool_jobs.specs.Laws.{goes_well}
+use Rattle.pool_jobs.proofs.FittingEvents.{all_well, Fits}
 use Rattle.pool_jobs.proofs.WorkerEvents.{AnswersAtOnce, AreWorkerJobs}
 use Rattle.pool_jobs.proofs.WorkerCourses.{entries, Expects, pass_handle, pass_expected}
 use Rattle.pool_jobs.proofs.Spread.{EachAfter, AmongThose, Where, each-weaker, spread, either, nobody}

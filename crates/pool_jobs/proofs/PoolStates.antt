@@ -41,7 +41,8 @@ use Rattle.sequential_signer.proofs.CallInvariantSteps.{run_waits, run_loads}
 use Rattle.sequential_signer.proofs.CacheRows.{one_turn}
 use Rattle.sequential_signer.proofs.HandedOut.{cache_own}
 use Rattle.signer_shared.specs.Serving.{is_done}
-use Rattle.pool_jobs.proofs.FittingEvents.{goes_well, all_well, HasBegun, Fits}
+use Rattle.pool_jobs.specs.Laws.{goes_well}
+use Rattle.pool_jobs.proofs.FittingEvents.{all_well, HasBegun, Fits}
 
 waiting_lives : (p : Phase) → is_waiting p ≡ true → is_live p ≡ true
 waiting_lives Unpolled h = refl

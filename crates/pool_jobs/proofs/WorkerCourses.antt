@@ -27,7 +27,8 @@ use Rattle.signer_shared.specs.declared.next.JobEnd.{JobEnd}
 use Rattle.signer_shared.specs.declared.next.JobEnd.TheVariants as ended
 use Rattle.signer_shared.specs.declared.next.Next.{Next}
 use Rattle.signer_shared.specs.declared.next.Next.TheVariants as next
-use Rattle.pool_jobs.proofs.FittingEvents.{goes_well, all_well, Fits}
+use Rattle.pool_jobs.specs.Laws.{goes_well}
+use Rattle.pool_jobs.proofs.FittingEvents.{all_well, Fits}
 use Rattle.pool_jobs.proofs.WorkerEvents.{AnswersAtOnce, IsWorkerJob, AreWorkerJobs, Stands, next_fits, stands_after}
 
 -- the entries of receipts

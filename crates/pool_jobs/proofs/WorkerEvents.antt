@@ -30,7 +30,8 @@ use Rattle.signer_shared.specs.Serving.{IsNext, next_after}
 use Rattle.signer_shared.specs.declared.job.Job.{Job}
 use Rattle.signer_shared.specs.declared.next.Next.{Next}
 use Rattle.signer_shared.specs.declared.next.Next.TheVariants as next
-use Rattle.pool_jobs.proofs.FittingEvents.{goes_well, all_well, HasBegun, Fits}
+use Rattle.pool_jobs.specs.Laws.{goes_well}
+use Rattle.pool_jobs.proofs.FittingEvents.{all_well, HasBegun, Fits}
 
 -- what a job's call is begun with
 abbrev pub job_begin : Job → BeginInput

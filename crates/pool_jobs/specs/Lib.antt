@@ -1,3 +1,5 @@
 pub mod Setup
 pub mod Work
 pub mod Meaning
+pub mod Run
+pub mod Laws

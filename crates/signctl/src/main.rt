@@ -1,18 +1,23 @@
-//! The program: real streams round `signctl_core::run_program`.
+//! The program: real streams round `signctl_core::run_program`, and round `signctl_threads::run_threads` for the
+//! commands that threads serve.
 #![tactic(auto)]
 
 use sign_base::{StdSink, StdSource};
 use signctl_core::{HeaderKeys, run_program};
+use signctl_threads::{is_for_threads, run_threads};
 use std::hash::RandomState;
 use std::process::ExitCode;
 use std::rt::Env;
 use std::{env, io};
 
 fn main(rt: HostRuntime) -> ExitCode {
-    let mut source = StdSource::new(rt.reader());
     let mut output = StdSink::new(io::writer(&rt));
     let mut errors = StdSink::new(rt.stderr());
     let words = words(&rt).ok();
+    if is_for_threads(&words) {
+        return ExitCode::from(run_threads(&rt, rt.alloc(), words, &mut output, &mut errors));
+    }
+    let mut source = StdSource::new(rt.reader());
     let keys = RandomState::new(&rt)
         .map(HeaderKeys::new)
         .unwrap_or_default();

@@ -23,7 +23,7 @@ help_text =
     usage_line
     ++ codes "\n"
     ++ codes "These commands work. The first five read lines from standard input and answer them on standard\n"
-    ++ codes "output; the last reads nothing.\n"
+    ++ codes "output; the last two read nothing.\n"
     ++ codes "\n"
     ++ codes "  script    runs the request signer: events in, its replies out\n"
     ++ codes "  hmac      digests, HMAC and Base64: a call and its arguments in, the text out\n"
@@ -31,6 +31,7 @@ help_text =
     ++ codes "  grant     runs a credential broker: events in, its replies out\n"
     ++ codes "  sigv4     request heads with keys in, heads signed with AWS Signature Version 4 out\n"
     ++ codes "  load N    runs N made-up calls on the signer, and counts its replies\n"
+    ++ codes "  pool W J  serves J made-up calls by W threads at one shared signer, and counts them\n"
     ++ codes "\n"
     ++ codes "  --help, --version    print this text, the version\n"
     ++ codes "\n"

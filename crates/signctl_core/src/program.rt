@@ -44,7 +44,7 @@ pub fn run_program<S: Source, D: Sink, E: Sink>(
 }
 
 /// The words after the program's name.
-fn after_name(all: &[String]) -> &[String]
+pub fn after_name(all: &[String]) -> &[String]
     ensures { map string_bytes result.now ≡ drop 1 (map string_bytes all.now) }
 {
     match all {
@@ -106,7 +106,7 @@ fn show<D: Sink>(text: &str, output: &mut D) -> Status
 }
 
 /// Writes the line that says why a run ended early, where there is one.
-fn report<E: Sink>(status: Status, errors: &mut E)
+pub fn report<E: Sink>(status: Status, errors: &mut E)
     ensures { WritesOnce (reason_line status)
         (record { holds = E.holds; faults = E.faults; old = errors.old; new = errors.new }) }
 {
@@ -150,7 +150,7 @@ fn help_text() -> &'static str
     usage_line!(
         "
 These commands work. The first five read lines from standard input and answer them on standard
-output; the last reads nothing.
+output; the last two read nothing.
 
   script    runs the request signer: events in, its replies out
   hmac      digests, HMAC and Base64: a call and its arguments in, the text out
@@ -158,6 +158,7 @@ output; the last reads nothing.
   grant     runs a credential broker: events in, its replies out
   sigv4     request heads with keys in, heads signed with AWS Signature Version 4 out
   load N    runs N made-up calls on the signer, and counts its replies
+  pool W J  serves J made-up calls by W threads at one shared signer, and counts them
 
   --help, --version    print this text, the version
 

@@ -3,7 +3,7 @@ ghost use Rattle.std.specs.Prelude.{◌≡◌, IfOk, option_map, ⊤};
 ghost use Rattle.std.specs.Duration.{as_nanos};
 
 use credentials::{DeadlineRule, SigningCredential};
-use sign_base::{NoMemory, Timestamp};
+use sign_base::{EqualByValue, NoMemory, Timestamp};
 use std::alloc::Global;
 use std::time::Duration;
 
@@ -41,6 +41,12 @@ impl SigningCredential for ScriptCredential {
     fn try_clone(&self, _alloc: Global) -> Result<ScriptCredential, NoMemory<()>> {
         Ok(*self)
     }
+}
+
+impl EqualByValue for ScriptCredential {
+    ghost use Rattle.std.proofs.Common.{rules};
+
+    ghost by_value = { Prim.search rules };
 }
 
 /// How long a credential has to last.
@@ -87,4 +93,10 @@ impl DeadlineRule for ScriptRule {
             ScriptRule::Cred => Some(credential.required),
         }
     }
+}
+
+impl EqualByValue for ScriptRule {
+    ghost use Rattle.std.proofs.Common.{rules};
+
+    ghost by_value = { Prim.search rules };
 }

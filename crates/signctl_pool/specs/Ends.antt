@@ -1,0 +1,11 @@
+-- The status of each end of a run.
+use Rattle.signctl_driver.specs.declared.status.Status.{Status}
+use Rattle.signctl_driver.specs.declared.status.Status.TheVariants as status
+use Rattle.signctl_pool.specs.declared.end.PoolEnd.{PoolEnd}
+use Rattle.signctl_pool.specs.declared.end.PoolEnd.TheVariants as end
+
+-- the status of an end: a signer that was not closed is refused
+abbrev pub status_of : PoolEnd → Status
+status_of (end.Done settled) = status.Done
+status_of (end.Disagreed refused) = status.Refused
+status_of (end.Ended why) = why

@@ -1,0 +1,38 @@
+-- The commands that threads serve, by their words.
+use Rattle.std.specs.Prelude.{ℕ, ◌<◌, ◌≤◌, ◌==◌, Bool, false, List, [], ◌∷◌, Option, Some, None, if◌then◌else◌, codes}
+use Rattle.std.specs.Str.{bytes_eq}
+use Rattle.signctl_format.specs.Words.{number_of}
+use Rattle.signctl_pool.specs.declared.words.PoolCommand.{PoolCommand}
+use Rattle.signctl_pool.specs.declared.words.PoolCommand.TheVariants.{Pool}
+
+-- the most workers of a pool
+abbrev pub most_workers : ℕ
+most_workers = 64
+
+-- the most jobs of a pool
+abbrev pub most_jobs : ℕ
+most_jobs = 10_000
+
+-- a pool with so many workers, of which there is one at least, and so many jobs
+abbrev pub pool_of : Option ℕ → Option ℕ → Option PoolCommand
+pool_of (Some workers) (Some jobs) = if workers == 0 then None else Some (Pool workers jobs)
+pool_of workers jobs = None
+
+-- the command that a word names with two numbers
+abbrev pub pool_by_words : List ℕ → List ℕ → List ℕ → Option PoolCommand
+pool_by_words word workers jobs =
+    if bytes_eq word (codes "pool") then pool_of (number_of most_workers workers) (number_of most_jobs jobs) else None
+
+-- the command that the words name: `pool`, workers and jobs
+abbrev pub pool_named : List (List ℕ) → Option PoolCommand
+pool_named (word ∷ (workers ∷ (jobs ∷ []))) = pool_by_words word workers jobs
+pool_named _ = None
+
+-- whether the first word is that of a command that threads serve
+abbrev pub names_pool : List (List ℕ) → Bool
+names_pool [] = false
+names_pool (word ∷ rest) = bytes_eq word (codes "pool")
+
+-- there is a worker, and there are no more workers and jobs than the command takes
+abbrev pub IsPoolSize : PoolCommand → Type 0
+IsPoolSize (Pool workers jobs) = (0 < workers) × (workers ≤ most_workers) × (jobs ≤ most_jobs)

@@ -1,0 +1,66 @@
+//! The line of a pool: how many calls there were, how many were signed, and how often the provider was asked.
+ghost use Rattle.std.specs.Prelude.{◌≡◌, ◌++◌, ◌∷◌, [], IfOk, OnOk, decimal};
+ghost use Rattle.sequential_signer.specs.LawsOfCaches.{is_ask};
+ghost use Rattle.signer_shared.specs.Serving.{is_done};
+ghost use Rattle.signctl_format.specs.Words.{spaced_words};
+ghost use Rattle.pool_jobs.specs.Run.{signed, loads};
+ghost use Rattle.signctl_pool.specs.Line.{pool_line};
+
+use sequential_signer::{Entry, Reply};
+use sign_base::NoMemory;
+use signctl_format::ScriptCredential;
+use signctl_format::text::{push, push_number, push_word};
+use std::alloc::Global;
+
+/// The line of so many jobs with this journal.
+pub(crate) fn pool_line(
+    alloc: Global,
+    jobs: u64,
+    journal: &[Entry<ScriptCredential>],
+) -> Result<Vec<u8>, NoMemory<()>>
+    ensures { IfOk result (λ line. line.items ≡ pool_line jobs journal.now) }
+{
+    let mut line = Vec::new(alloc);
+    push(&mut line, b"calls")?;
+    push_number(&mut line, jobs)?;
+    push_count(&mut line, b"signed", signed(journal))?;
+    push_count(&mut line, b"loads", loads(journal))?;
+    push_word(&mut line, b"settled")?;
+    push(&mut line, b"\n")?;
+    Ok(line)
+}
+
+fn push_count(text: &mut Vec<u8>, kind: &[u8], count: u64) -> Result<(), NoMemory<()>>
+    ensures { OnOk result (text.new.items ≡ text.old.items ++ spaced_words (kind.now ∷ decimal count ∷ [])) }
+{
+    push_word(text, kind)?;
+    push_number(text, count)
+}
+
+/// How many heads were signed.
+#[tactic(auto, using(crate::proofs::Counts::count_is))]
+fn signed(journal: &[Entry<ScriptCredential>]) -> u64
+    ensures { result ≡ signed journal.now }
+{
+    journal.iter().filter(|e| is_done(&e.reply)).count() as u64
+}
+
+/// How often the provider was asked.
+#[tactic(auto, using(crate::proofs::Counts::count_is))]
+fn loads(journal: &[Entry<ScriptCredential>]) -> u64
+    ensures { result ≡ loads journal.now }
+{
+    journal.iter().filter(|e| is_ask(&e.reply)).count() as u64
+}
+
+fn is_done(reply: &Reply<ScriptCredential>) -> bool
+    ensures { result ≡ is_done reply.now }
+{
+    matches!(reply, Reply::Done { .. })
+}
+
+fn is_ask(reply: &Reply<ScriptCredential>) -> bool
+    ensures { result ≡ is_ask reply.now }
+{
+    matches!(reply, Reply::Ask { .. })
+}

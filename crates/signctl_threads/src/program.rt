@@ -1,0 +1,57 @@
+//! The whole program on the commands that threads serve, as a function over its words and streams.
+ghost use Rattle.std.specs.Prelude.{◌≡◌, map, string_bytes, option_map};
+ghost use Rattle.signctl_core.specs.Program.{reason_line, WritesOnce};
+ghost use Rattle.signctl_driver.specs.Status.{exit_status};
+ghost use Rattle.pool_jobs.specs.Meaning.{pool_meaning};
+ghost use Rattle.signctl_pool.specs.declared.end.PoolEnd.{PoolEnd};
+ghost use Rattle.signctl_pool.specs.Ends.{status_of};
+ghost use Rattle.signctl_pool.specs.Pool.{IsThreadsRun};
+ghost use Rattle.signctl_threads.specs.CommandLine.{is_for_threads, asked_of};
+
+use pool_jobs::PoolGate;
+use sign_base::Sink;
+use signctl_core::Status;
+use signctl_core::program::{after_name, report};
+use signctl_pool::{names_pool, run_pool};
+use std::alloc::Global;
+use std::sync::Wait;
+use std::thread::Threads;
+
+/// Whether a command line, whose first word is the program's name, is one for `run_threads`. Any other is for
+/// `signctl_core::run_program`. `None` is a command line that is not text.
+pub fn is_for_threads(words: &Option<Vec<String>>) -> bool
+    ensures { result ≡ is_for_threads (option_map (λ all. map string_bytes all.items) words.now) }
+{
+    match words {
+        Some(all) => names_pool(after_name(all.as_slice())),
+        None => false,
+    }
+}
+
+/// Answers a command line, whose first word is the program's name, by the commands that threads serve, and
+/// gives the exit status. It may wait for its threads.
+///
+/// The answer goes to `output`, and to `errors` the line that says why it ended early, as `run_program` does.
+pub fn run_threads<D: Sink, E: Sink, R: Threads + Wait + Sync>(
+    rt: &R,
+    alloc: Global,
+    words: Option<Vec<String>>,
+    output: &mut D,
+    errors: &mut E,
+) -> u8
+    ensures { (ended : PoolEnd) × (result ≡ exit_status (status_of ended))
+        × IsThreadsRun pool_meaning (asked_of (option_map (λ all. map string_bytes all.items) words)) ended
+        (record { holds = D.holds; faults = D.faults; old = output.old; new = output.new })
+        × WritesOnce (reason_line (status_of ended))
+        (record { holds = E.holds; faults = E.faults; old = errors.old; new = errors.new }) }
+{
+    let status = match words {
+        Some(all) => {
+            let words = after_name(all.as_slice());
+            run_pool(rt, alloc, words, &PoolGate { alloc }, output).status()
+        }
+        None => Status::Usage,
+    };
+    report(status, errors);
+    status.exit_status()
+}
