@@ -65,16 +65,18 @@ module _ (workers : ℕ) (some : 0 < workers) where
   worker_jobs : (first : ℕ) → first < workers → (at n from : ℕ) → ((j : ℕ) → at ≤ j → j % workers ≡ first → from ≤ j / workers)
       → AreWorkerJobs script_policy (pool_setup workers) pool_credential (pos 0) first from (jobs_from first at n)
   worker_jobs first lt at zero from above = tt
-  worker_jobs first lt at (suc n) from above = by_test (at % workers == first) refl
+  worker_jobs first lt at (suc n) from above = by_test (at % workers == first) refl (λ m k. worker_jobs first lt (at + 1) n m k)
     where
-      by_test : (t : Bool) → (at % workers == first) ≡ t → AreWorkerJobs script_policy (pool_setup workers) pool_credential (pos 0) first from (jobs_from first at (suc n))
-      by_test true t =
+      by_test : (t : Bool) → (at % workers == first) ≡ t
+          → ((m : ℕ) → ((j : ℕ) → at + 1 ≤ j → j % workers ≡ first → m ≤ j / workers) → AreWorkerJobs script_policy (pool_setup workers) pool_credential (pos 0) first m (jobs_from first (at + 1) n))
+          → AreWorkerJobs script_policy (pool_setup workers) pool_credential (pos 0) first from (jobs_from first at (suc n))
+      by_test true t later =
           let here : at % workers ≡ first = grind (arith, nat_tests) in
           rw t
           (worker_job first (at / workers) lt,
           above at (omega arith) here,
-          worker_jobs first lt (at + 1) n (suc (at / workers)) (λ j le same. quotient_rises workers at j some (omega arith) (here ∙ sym same)))
-      by_test false t = rw t (worker_jobs first lt (at + 1) n from (λ j le same. above j (omega arith) same))
+          later (suc (at / workers)) (λ j le same. quotient_rises workers at j some (omega arith) (here ∙ sym same)))
+      by_test false t later = rw t (later from (λ j le same. above j (omega arith) same))
 
   module _ (jobs : ℕ) where
     -- the lists from one worker on
