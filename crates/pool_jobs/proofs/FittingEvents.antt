@@ -5,6 +5,7 @@ use Rattle.sign_base.specs.declared.head.Head.{Head}
 use Rattle.wake_lock.specs.declared.CallId.{CallId}
 use Rattle.sequential_signer.specs.Policy.{Policy}
 use Rattle.sequential_signer.specs.Setup.{Setup, cache_of, rule_of}
+use Rattle.sequential_signer.specs.Transcript.{is_out_of_memory}
 use Rattle.sequential_signer.specs.Phase.{phase_of, is_waiting, is_loading, is_signing, is_new_number}
 use Rattle.sequential_signer.specs.Hold.{BeginInput, begin_of}
 use Rattle.sequential_signer.specs.LawsOfCaches.{serves_at}
@@ -36,3 +37,7 @@ module _ {K D : Type 0} (policy : Policy K D) (setup : Setup D) (c : K) (moment 
   Fits past (Provided call now answer) = HasBegun past call × (is_loading (phase_of past call) ≡ true) × (now ≡ moment) × (answer ≡ Found c)
   Fits past (Signed call verdict) = (cache_of setup call ≡ Some 0) × (is_signing (phase_of past call) ≡ true) × ((made : Head) × (verdict ≡ Accepted made))
   Fits past (Cancel call) = ⊥
+
+  -- after these entries, while all went well, the event is such a one; and no allocation failed at it
+  abbrev pub IsExpected : List (Entry K) → Entry K → Type 0
+  IsExpected past e = (is_out_of_memory e.reply ≡ false) × (all_well past ≡ true → Fits past e.event)

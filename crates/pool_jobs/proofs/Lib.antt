@@ -2,6 +2,7 @@ pub mod Dealing
 pub mod DeskSetup
 pub mod Dealt
 pub mod Picked
+pub mod CallPhases
 pub mod FittingEvents
 pub mod WorkerEvents
 pub mod WorkerCourses

@@ -26,7 +26,7 @@ use Rattle.pool_jobs.proofs.Dealt.{is_of, is_from, split_from, all_from}
 use Rattle.pool_jobs.proofs.Picked.{no_items}
 use Rattle.pool_jobs.specs.Laws.{goes_well}
 use Rattle.pool_jobs.proofs.FittingEvents.{all_well}
-use Rattle.pool_jobs.proofs.WorkerEvents.{AnswersAtOnce, AreWorkerJobs}
+use Rattle.pool_jobs.specs.PromptGates.{AnswersAtOnce, AreWorkerJobs, jobs_in}
 use Rattle.pool_jobs.proofs.WorkerCourses.{entries}
 use Rattle.pool_jobs.proofs.DealtPasses.{handle_of, IsDealt}
 use Rattle.pool_jobs.proofs.PoolStates.{PoolState, untouched, loading, loaded}
@@ -90,11 +90,6 @@ module _ {K : Type 0} where
   no_replies test f pass well =
       sym (entries_count test pass) ∙ ap length (none_pass (λ (e : Entry K). goes_well e.reply) (λ e. test e.reply) (λ e h. f e.reply h) (entries pass) well)
 
--- how many jobs the lists have
-abbrev pub jobs_in : List (List Job) → ℕ
-jobs_in [] = 0
-jobs_in (jobs ∷ lists) = length jobs + jobs_in lists
-
 -- the counts of a worker all of whose jobs were signed
 pub record SignedAll (jobs : ℕ) (counts : Served) : Type 0 where
   pub done : counts.done ≡ jobs
@@ -102,9 +97,9 @@ pub record SignedAll (jobs : ℕ) (counts : Served) : Type 0 where
   pub not_now : counts.not_now ≡ 0
   pub given_up : counts.given_up ≡ 0
 
-module _ {K D : Type 0} (policy : Policy K D) (setup : Setup D) (c : K) (moment : ℤ) (loads : slice_get setup.loaders 0 ≡ Some Single) (gate : GateMeaning K) (prompt : AnswersAtOnce policy setup c moment gate) where
+module _ {K D : Type 0} (policy : Policy K D) (setup : Setup D) (c : K) (moment : ℤ) (loads : slice_get setup.loaders 0 ≡ Some Single) (gate : GateMeaning K) (prompt : AnswersAtOnce c moment gate) (turns : ℕ) (more_turns : 0 < turns) where
   -- where all went well a worker signed all its jobs
-  pub signed_all : (jobs : List Job) (pass : List (Receipt K)) (counts : Served) → IsServing gate 1 jobs pass counts → counts.out_of_memory ≡ false → all_well (entries pass) ≡ true → SignedAll (length jobs) counts
+  pub signed_all : (jobs : List Job) (pass : List (Receipt K)) (counts : Served) → IsServing gate turns jobs pass counts → counts.out_of_memory ≡ false → all_well (entries pass) ≡ true → SignedAll (length jobs) counts
   signed_all jobs pass counts s m well =
       let refused : counts.refused ≡ 0 = s.refused ∙ no_replies is_refused (well_not_refused {K = K}) pass well in
       let not_now : counts.not_now ≡ 0 = s.not_now ∙ no_replies is_not_now (well_not_not_now {K = K}) pass well in
@@ -125,7 +120,7 @@ module _ {K D : Type 0} (policy : Policy K D) (setup : Setup D) (c : K) (moment 
       pub not_now : All (λ (s : Served). s.not_now ≡ 0) served
       pub given_up : All (λ (s : Served). s.given_up ≡ 0) served
 
-    pub counts : (first : ℕ) (lists : List (List Job)) (passes : List (List (Receipt K))) (served : List Served) → AreServed policy setup c moment loads gate prompt first lists passes served → IsDealt journal first passes
+    pub counts : (first : ℕ) (lists : List (List Job)) (passes : List (List (Receipt K))) (served : List Served) → AreServed policy setup c moment loads gate prompt turns more_turns first lists passes served → IsDealt journal first passes
         → Counts first lists served
     counts _ _ _ _ (no_more first) d = record {
       dones =
@@ -154,15 +149,15 @@ module _ {K D : Type 0} (policy : Policy K D) (setup : Setup D) (c : K) (moment 
           given_up = All-cons (λ (x : Served). x.given_up ≡ 0) own served all.given_up later.given_up;
         }
 
-  no_receipts : (jobs : List Job) (pass : List (Receipt K)) → ServesAll gate 1 jobs pass → length jobs ≡ 0 → pass ≡ []
+  no_receipts : (jobs : List Job) (pass : List (Receipt K)) → ServesAll gate turns jobs pass → length jobs ≡ 0 → pass ≡ []
   no_receipts [] pass s none = s
   no_receipts (j ∷ jobs) pass s none = absurd (omega arith)
 
   -- without jobs there are no receipts
-  pub no_jobs : (first : ℕ) (lists : List (List Job)) (passes : List (List (Receipt K))) (served : List Served) → AreServed policy setup c moment loads gate prompt first lists passes served → jobs_in lists ≡ 0 → length (all_receipts passes) ≡ 0
+  pub no_jobs : (first : ℕ) (lists : List (List Job)) (passes : List (List (Receipt K))) (served : List Served) → AreServed policy setup c moment loads gate prompt turns more_turns first lists passes served → jobs_in lists ≡ 0 → length (all_receipts passes) ≡ 0
   no_jobs _ _ _ _ (no_more first) none = refl
   no_jobs _ _ _ _ (one_more first jobs lists pass passes own served a s m more) none =
-      let empty : pass ≡ [] = no_receipts jobs pass (serves_all policy setup c moment loads gate prompt jobs pass own s m) (omega arith) in
+      let empty : pass ≡ [] = no_receipts jobs pass (serves_all policy setup c moment loads gate prompt turns more_turns jobs pass own s m) (omega arith) in
       let later : length (all_receipts passes) ≡ 0 = no_jobs (suc first) lists passes served more (omega arith) in
       ap (λ (p : List (Receipt K)). length (p ++ all_receipts passes)) empty ∙ later
 

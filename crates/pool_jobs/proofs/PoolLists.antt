@@ -15,9 +15,7 @@ use Rattle.pool_jobs.specs.Meaning.{pool_credential, pool_meaning, accepted_head
 use Rattle.pool_jobs.specs.Setup.{pool_setup}
 use Rattle.pool_jobs.specs.Work.{pool_job, jobs_of_worker, pool_work}
 use Rattle.pool_jobs.proofs.Dealt.{is_of, is_from, count_of, counts_all, all_from}
-use Rattle.pool_jobs.proofs.WorkerEvents.{AnswersAtOnce, IsWorkerJob, AreWorkerJobs}
-use Rattle.pool_jobs.proofs.PoolRuns.{AreLists}
-use Rattle.pool_jobs.proofs.PoolCounts.{jobs_in}
+use Rattle.pool_jobs.specs.PromptGates.{AnswersAtOnce, IsWorkerJob, AreWorkerJobs, AreWorkerLists, jobs_in}
 
 -- the handle of each worker
 abbrev pool_handle : Handle
@@ -29,8 +27,8 @@ handle_at (suc workers) zero lt = refl
 handle_at (suc workers) (suc n) lt = handle_at workers n (omega arith)
 
 -- the gate of a pool answers at once
-pub prompt : (workers : ℕ) → AnswersAtOnce script_policy (pool_setup workers) pool_credential (pos 0) pool_meaning
-prompt workers = record {
+pub prompt : AnswersAtOnce pool_credential (pos 0) pool_meaning
+prompt = record {
   ready = λ call provider. tt;
   gives = λ call provider answer h. h;
   judges = λ call k head verdict h. (accepted_head head, h);
@@ -81,15 +79,15 @@ module _ (workers : ℕ) (some : 0 < workers) where
   module _ (jobs : ℕ) where
     -- the lists from one worker on
     lists_from : (first n : ℕ) → first + n ≡ workers
-        → AreLists script_policy (pool_setup workers) pool_credential (pos 0) refl pool_meaning (prompt workers) first (map (jobs_of_worker workers jobs) (range_with_len first n))
+        → AreWorkerLists script_policy (pool_setup workers) pool_credential (pos 0) first (map (jobs_of_worker workers jobs) (range_with_len first n))
     lists_from first zero e = tt
     lists_from first (suc n) e =
         let next : first + 1 ≡ suc first = omega arith in
         (worker_jobs first (omega arith) 0 jobs 0 (λ j le same. omega arith),
-        subst (λ m. AreLists script_policy (pool_setup workers) pool_credential (pos 0) refl pool_meaning (prompt workers) m (map (jobs_of_worker workers jobs) (range_with_len (first + 1) n))) next
+        subst (λ m. AreWorkerLists script_policy (pool_setup workers) pool_credential (pos 0) m (map (jobs_of_worker workers jobs) (range_with_len (first + 1) n))) next
         (lists_from (first + 1) n (omega arith)))
 
-    pub pool_lists : AreLists script_policy (pool_setup workers) pool_credential (pos 0) refl pool_meaning (prompt workers) 0 (pool_work workers jobs)
+    pub pool_lists : AreWorkerLists script_policy (pool_setup workers) pool_credential (pos 0) 0 (pool_work workers jobs)
     pool_lists = lists_from 0 workers (omega arith)
 
     -- the worker of a job

@@ -29,9 +29,9 @@ use Rattle.signer_shared.specs.declared.job.Job.{Job}
 use Rattle.signer_shared.specs.declared.job.Served.{Served}
 use Rattle.pool_jobs.proofs.Dealt.{is_of, is_from, from_either, from_zero}
 use Rattle.pool_jobs.specs.Laws.{goes_well}
-use Rattle.pool_jobs.proofs.FittingEvents.{all_well, Fits}
-use Rattle.pool_jobs.proofs.WorkerEvents.{AnswersAtOnce, AreWorkerJobs}
-use Rattle.pool_jobs.proofs.WorkerCourses.{entries, Expects, pass_handle, pass_expected}
+use Rattle.pool_jobs.specs.PromptGates.{AnswersAtOnce, AreWorkerJobs, AreWorkerLists}
+use Rattle.pool_jobs.proofs.FittingEvents.{all_well, IsExpected}
+use Rattle.pool_jobs.proofs.WorkerCourses.{entries, pass_handle, pass_expected}
 use Rattle.pool_jobs.proofs.Spread.{EachAfter, AmongThose, Where, each-weaker, spread, either, nobody}
 use Rattle.pool_jobs.proofs.DealtPasses.{handle_of, AreOfHandles, IsDealt, pass_picked, settled_dealt}
 use Rattle.pool_jobs.proofs.HandleEntries.{own_fits}
@@ -65,9 +65,10 @@ module _ {K D : Type 0} (policy : Policy K D) (setup : Setup D) (c : K) (moment 
   unfolding sequential_cache poll_order phase_of phase_in entries_of
   nothing = record { run = start; well = refl; state = untouched refl refl refl (λ b at. refl) (λ b at. refl) }
 
-  module _ (loads : slice_get setup.loaders 0 ≡ Some Single) (gate : GateMeaning K) (prompt : AnswersAtOnce policy setup c moment gate) where
+  module _ (loads : slice_get setup.loaders 0 ≡ Some Single) (gate : GateMeaning K) (prompt : AnswersAtOnce c moment gate) (turns : ℕ) (more_turns : 0 < turns) where
+    -- an entry that is expected after those before it
     abbrev Expected : List (Entry K) → Entry K → Type 0
-    Expected before e = Expects policy setup c moment gate prompt before e
+    Expected before e = IsExpected policy setup c moment before e
 
     -- legal entries whose events fit leave a pool
     grows_by : (before rest : List (Entry K)) → IsPool policy setup c moment before → IsLegalAfter policy setup before rest → EachAfter Expected before rest → IsPool policy setup c moment (before ++ rest)
@@ -81,19 +82,14 @@ module _ {K D : Type 0} (policy : Policy K D) (setup : Setup D) (c : K) (moment 
     unfolding IsLegal
     journal_pool journal legal fits = grows_by [] journal nothing legal fits
 
-    -- lists of jobs, each of a handle of its own from this one on
-    abbrev pub AreLists : ℕ → List (List Job) → Type 0
-    AreLists first [] = Unit {0}
-    AreLists first (jobs ∷ lists) = AreWorkerJobs policy setup c moment first 0 jobs × AreLists (suc first) lists
-
-    -- such lists with the passes and the counts of their workers, none of which ran out of memory
+    -- lists of jobs, each of the next handle, with the passes and the counts of their workers, none of which ran out of memory
     pub data AreServed : ℕ → List (List Job) → List (List (Receipt K)) → List Served → Type 0 where
       no_more : (first : ℕ) → AreServed first [] [] []
       one_more : (first : ℕ) (jobs : List Job) (lists : List (List Job)) (pass : List (Receipt K)) (passes : List (List (Receipt K))) (counts : Served) (served : List Served)
-          → AreWorkerJobs policy setup c moment first 0 jobs → IsServing gate 1 jobs pass counts → counts.out_of_memory ≡ false → AreServed (suc first) lists passes served
+          → AreWorkerJobs policy setup c moment first 0 jobs → IsServing gate turns jobs pass counts → counts.out_of_memory ≡ false → AreServed (suc first) lists passes served
           → AreServed first (jobs ∷ lists) (pass ∷ passes) (counts ∷ served)
 
-    pub are_served : (first : ℕ) (lists : List (List Job)) (passes : List (List (Receipt K))) (served : List Served) → AreLists first lists → ServesLists gate 1 lists passes served → All (λ (s : Served). s.out_of_memory ≡ false) served
+    pub are_served : (first : ℕ) (lists : List (List Job)) (passes : List (List (Receipt K))) (served : List Served) → AreWorkerLists policy setup c moment first lists → ServesLists gate turns lists passes served → All (λ (s : Served). s.out_of_memory ≡ false) served
         → AreServed first lists passes served
     are_served first [] [] [] a s m = no_more first
     are_served first (jobs ∷ lists) (pass ∷ passes) (counts ∷ served) a s m =
@@ -107,8 +103,8 @@ module _ {K D : Type 0} (policy : Policy K D) (setup : Setup D) (c : K) (moment 
     are_served first (j ∷ js) (p ∷ ps) [] a s m = absurd s
 
     -- a worker that did not run out of memory served all its jobs
-    pub serves_all : (jobs : List Job) (pass : List (Receipt K)) (counts : Served) → IsServing gate 1 jobs pass counts → counts.out_of_memory ≡ false → ServesAll gate 1 jobs pass
-    serves_all jobs pass counts s m = subst (λ (b : Bool). MatchBool b (StopsAtAJob gate 1 jobs pass counts.given_up) (ServesAll gate 1 jobs pass)) m s.course
+    pub serves_all : (jobs : List Job) (pass : List (Receipt K)) (counts : Served) → IsServing gate turns jobs pass counts → counts.out_of_memory ≡ false → ServesAll gate turns jobs pass
+    serves_all jobs pass counts s m = subst (λ (b : Bool). MatchBool b (StopsAtAJob gate turns jobs pass counts.given_up) (ServesAll gate turns jobs pass)) m s.course
 
     module _ (journal : List (Entry K)) where
       -- the passes are of handles of their own
@@ -116,7 +112,7 @@ module _ {K D : Type 0} (policy : Policy K D) (setup : Setup D) (c : K) (moment 
       of_handles _ _ _ _ (no_more first) are rise = tt
       of_handles _ _ _ _ (one_more first jobs lists pass passes counts served a s m more) are rise =
           (pass_picked journal (is_of handle_of first) pass (All-head (All (IsEntryOf journal)) pass passes are) (All-head (λ (r : List (Receipt K)). IsStrictlyIncreasing (places r)) pass passes rise)
-          (pass_handle policy setup c moment gate prompt first 0 jobs pass a (serves_all jobs pass counts s m)),
+          (pass_handle policy setup c moment gate prompt turns more_turns first 0 jobs pass a (serves_all jobs pass counts s m)),
           of_handles (suc first) lists passes served more (All-tail (All (IsEntryOf journal)) pass passes are) (All-tail (λ (r : List (Receipt K)). IsStrictlyIncreasing (places r)) pass passes rise))
 
       -- each entry of a handle of theirs is expected after those before it
@@ -125,7 +121,7 @@ module _ {K D : Type 0} (policy : Policy K D) (setup : Setup D) (c : K) (moment 
       all_expected _ _ _ _ (no_more first) d = nobody Expected (is_from handle_of first) [] journal d
       all_expected _ _ _ _ (one_more first jobs lists pass passes counts served a s m more) d =
           let own : EachAfter Expected [] (filter (is_of handle_of first) journal) =
-          subst (λ (l : List (Entry K)). EachAfter Expected [] l) d.0 (pass_expected policy setup c moment gate prompt first 0 jobs [] pass a (serves_all jobs pass counts s m) refl) in
+          subst (λ (l : List (Entry K)). EachAfter Expected [] l) d.0 (pass_expected policy setup c moment gate prompt turns more_turns first 0 jobs [] pass a (serves_all jobs pass counts s m) refl) in
           let here : EachAfter (Where Expected (is_of handle_of first)) [] journal =
           each-weaker (AmongThose (is_of handle_of first) Expected) (Where Expected (is_of handle_of first))
           (λ before x h t. ((h t).0, λ well. own_fits policy setup c moment before first x.event t ((h t).1 (list_all-filter_of (λ (e : Entry K). goes_well e.reply) (is_of handle_of first) before well))))

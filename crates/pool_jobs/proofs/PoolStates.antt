@@ -42,35 +42,8 @@ use Rattle.sequential_signer.proofs.CacheRows.{one_turn}
 use Rattle.sequential_signer.proofs.HandedOut.{cache_own}
 use Rattle.signer_shared.specs.Serving.{is_done}
 use Rattle.pool_jobs.specs.Laws.{goes_well}
+use Rattle.pool_jobs.proofs.CallPhases.{waiting_lives, waiting_idles, queued_signing, begun_signs_not, phase-own, phase_is-in}
 use Rattle.pool_jobs.proofs.FittingEvents.{all_well, HasBegun, Fits}
-
-waiting_lives : (p : Phase) → is_waiting p ≡ true → is_live p ≡ true
-waiting_lives Unpolled h = refl
-waiting_lives Queued h = refl
-waiting_lives Unknown h = absurd (cc)
-waiting_lives Loading h = absurd (cc)
-waiting_lives Signing h = absurd (cc)
-waiting_lives Ended h = absurd (cc)
-
-waiting_idles : (p : Phase) → is_waiting p ≡ true → is_loading p ≡ false
-waiting_idles Unpolled h = refl
-waiting_idles Queued h = refl
-waiting_idles Unknown h = refl
-waiting_idles Loading h = absurd (cc)
-waiting_idles Signing h = refl
-waiting_idles Ended h = refl
-
-queued_signing : (p : Phase) → is_signing (to_queued p) ≡ is_signing p
-queued_signing Unknown = refl
-queued_signing Unpolled = refl
-queued_signing Queued = refl
-queued_signing Loading = refl
-queued_signing Signing = refl
-queued_signing Ended = refl
-
-begun_signs_not : (K : Type 0) (waited : Bool) → is_signing (phase_by {K = K} waited Begun) ≡ false
-begun_signs_not K true = refl
-begun_signs_not K false = refl
 
 -- a new number is of a call that was begun with nothing
 new_begins_nothing : {K : Type 0} (entries : List (Entry K)) (call : CallId) → is_new_number entries call ≡ true → is_some (begin_of entries call) ≡ false
@@ -220,20 +193,13 @@ module _ {K D : Type 0} (policy : Policy K D) (setup : Setup D) (c : K) (moment 
         by_call true s = ap is_signing (phase-own_mark setup entries 0 (record { event = event; reply = reply }) b s m) ∙ never _
         by_call false s = ap is_signing (phase-other setup entries 0 (record { event = event; reply = reply }) b s) ∙ idle b at
 
-  phase_own : (entries : List (Entry K)) (call : CallId) (e : Entry K) → same_call call (call_of e.event) ≡ true → phase_of (entries ++ e ∷ []) call ≡ phase_in (entries_of entries call ++ e ∷ [])
-  unfolding phase_of
-  phase_own entries call e own = ap phase_in (entries_of-own entries call e own)
-
-  phase_is : (entries : List (Entry K)) (call : CallId) → phase_in (entries_of entries call) ≡ phase_of entries call
-  unfolding phase_of
-  phase_is entries call = refl
-
+  -- nor does a poll that waits
   unsigned_pending : (entries : List (Entry K)) (call : CallId) (now : ℤ) → NobodySigns entries → NobodySigns (next entries (Poll call now) Pending)
   unsigned_pending entries call now idle b at = by_call (same_call b call) refl
     where
       by_call : (s : Bool) → same_call b call ≡ s → is_signing (phase_of (next entries (Poll call now) Pending) b) ≡ false
       by_call true s =
-          ap is_signing (phase_own entries b (record { event = Poll call now; reply = Pending }) s ∙ phase_in-pending (entries_of entries b) call now ∙ ap to_queued (phase_is entries b))
+          ap is_signing (phase-own entries b (record { event = Poll call now; reply = Pending }) s ∙ phase_in-pending (entries_of entries b) call now ∙ ap to_queued (phase_is-in entries b))
           ∙ queued_signing (phase_of entries b) ∙ idle b at
       by_call false s = ap is_signing (phase-other setup entries 0 (record { event = Poll call now; reply = Pending }) b s) ∙ idle b at
 

@@ -50,8 +50,3 @@ module _ {E : Type 0} where
     pub nobody : (q : E → Bool) (before xs : List E) → length (filter q xs) ≡ 0 → EachAfter (Where q) before xs
     nobody q before [] h = tt
     nobody q before (x ∷ xs) h = nobody_step q before x xs (λ b k. nobody q b xs k) (q x) refl h
-
--- a test that all pass keeps all
-pub filter_all : {E : Type 0} (q : E → Bool) (xs : List E) → ((x : E) → q x ≡ true) → filter q xs ≡ xs
-filter_all q [] h = refl
-filter_all q (x ∷ xs) h = rw (h x, filter_all q xs h) refl

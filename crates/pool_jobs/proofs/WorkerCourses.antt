@@ -28,8 +28,9 @@ use Rattle.signer_shared.specs.declared.next.JobEnd.TheVariants as ended
 use Rattle.signer_shared.specs.declared.next.Next.{Next}
 use Rattle.signer_shared.specs.declared.next.Next.TheVariants as next
 use Rattle.pool_jobs.specs.Laws.{goes_well}
-use Rattle.pool_jobs.proofs.FittingEvents.{all_well, Fits}
-use Rattle.pool_jobs.proofs.WorkerEvents.{AnswersAtOnce, IsWorkerJob, AreWorkerJobs, Stands, next_fits, stands_after}
+use Rattle.pool_jobs.specs.PromptGates.{AnswersAtOnce, IsWorkerJob, AreWorkerJobs}
+use Rattle.pool_jobs.proofs.FittingEvents.{all_well, IsExpected}
+use Rattle.pool_jobs.proofs.WorkerEvents.{Stands, next_fits, stands_after}
 
 -- the entries of receipts
 abbrev pub entries : {K : Type 0} → List (Receipt K) → List (Entry K)
@@ -49,16 +50,16 @@ list_all-append p (x ∷ xs) ys h k =
     let here : p x ≡ true = and_left (p x) (list_all p xs) h in
     rw here (list_all-append p xs ys (and_right (p x) (list_all p xs) h) k)
 
-module _ {K : Type 0} (gate : GateMeaning K) (job : Job) where
+module _ {K : Type 0} (gate : GateMeaning K) (turns : ℕ) (job : Job) where
   -- a course that goes on with a receipt
   record Opens (at : Next K) (r : Receipt K) (rest : List (Receipt K)) (end : JobEnd) : Type 0 where
     pub kind : is_reply_to r.entry.event r.entry.reply ≡ true
     pub kept : r.entry.reply ≢ reply.OutOfMemory
     pub after : Next K
-    pub step : IsStep gate 1 job at r.entry after
-    pub course : IsCourse gate 1 job after rest end
+    pub step : IsStep gate turns job at r.entry after
+    pub course : IsCourse gate turns job after rest end
 
-  opens : (at : Next K) (r : Receipt K) (rest : List (Receipt K)) (end : JobEnd) → IsCourse gate 1 job at (r ∷ rest) end → Opens at r rest end
+  opens : (at : Next K) (r : Receipt K) (rest : List (Receipt K)) (end : JobEnd) → IsCourse gate turns job at (r ∷ rest) end → Opens at r rest end
   opens next.Begin r rest end c = record { kind = c.0; kept = c.1; after = c.2.0; step = c.2.1; course = c.2.2 }
   opens next.Poll r rest end c = record { kind = c.0; kept = c.1; after = c.2.0; step = c.2.1; course = c.2.2 }
   opens (next.Load provider) r rest end c = record { kind = c.0; kept = c.1; after = c.2.0; step = c.2.1; course = c.2.2 }
@@ -73,13 +74,13 @@ module _ {K : Type 0} (gate : GateMeaning K) (job : Job) where
   next_call (next.Sign credential) event n = ap call_of n.2
   next_call (next.Over end) event n = absurd n
 
-  step_call : (at after : Next K) (e : Entry K) → IsStep gate 1 job at e after → call_of e.event ≡ job.call
+  step_call : (at after : Next K) (e : Entry K) → IsStep gate turns job at e after → call_of e.event ≡ job.call
   step_call at after e (goes_on n a) = next_call at e.event n
   step_call at after e (gives_up u c a) = ap call_of c
   step_call at after e (runs_out l c a) = ap call_of c
 
   -- so are all of a course
-  pub course_calls : (at : Next K) (own : List (Receipt K)) (end : JobEnd) → IsCourse gate 1 job at own end → (p : CallId → Bool) → p job.call ≡ true
+  pub course_calls : (at : Next K) (own : List (Receipt K)) (end : JobEnd) → IsCourse gate turns job at own end → (p : CallId → Bool) → p job.call ≡ true
       → list_all (λ (e : Entry K). p (call_of e.event)) (entries own) ≡ true
   course_calls at [] end c p passed = refl
   course_calls at (r ∷ rest) end c p passed =
@@ -87,44 +88,40 @@ module _ {K : Type 0} (gate : GateMeaning K) (job : Job) where
       let here : p (call_of r.entry.event) ≡ true = ap p (step_call at o.after r.entry o.step) ∙ passed in
       rw here (course_calls o.after rest end o.course p passed)
 
-module _ {K D : Type 0} (policy : Policy K D) (setup : Setup D) (c : K) (moment : ℤ) (gate : GateMeaning K) (prompt : AnswersAtOnce policy setup c moment gate) where
+module _ {K D : Type 0} (policy : Policy K D) (setup : Setup D) (c : K) (moment : ℤ) (gate : GateMeaning K) (prompt : AnswersAtOnce c moment gate) (turns : ℕ) (more : 0 < turns) where
   -- the next event, and what is next after its reply
   record GoesOn (job : Job) (at : Next K) (e : Entry K) (after : Next K) : Type 0 where
     pub event : IsNext gate job at e.event
     pub after_is : after ≡ next_after e.reply
 
-  not_given_up : (job : Job) (at : Next K) → IsGivenUp gate 1 job at → ⊥
+  not_given_up : (job : Job) (at : Next K) → IsGivenUp gate turns job at → ⊥
   not_given_up job next.Begin u = u
   not_given_up job next.Poll u = u
-  not_given_up job (next.Load provider) u = u 0 (omega arith) (prompt.ready job.call provider)
+  not_given_up job (next.Load provider) u = u 0 more (prompt.ready job.call provider)
   not_given_up job (next.Sign credential) u = u
   not_given_up job (next.Over end) u = u
 
   -- where no allocation failed each step is the next event
-  goes : (job : Job) (at after : Next K) (e : Entry K) (rest : List (Receipt K)) (end : JobEnd) → IsStep gate 1 job at e after → IsCourse gate 1 job after rest end → ran_out end ≡ false → GoesOn job at e after
+  goes : (job : Job) (at after : Next K) (e : Entry K) (rest : List (Receipt K)) (end : JobEnd) → IsStep gate turns job at e after → IsCourse gate turns job after rest end → ran_out end ≡ false → GoesOn job at e after
   goes job at after e rest end (goes_on n a) course to_end = record { event = n; after_is = a }
   goes job at after e rest end (gives_up u c a) course to_end = absurd (not_given_up job at u)
   goes job at after e rest end (runs_out l c a) course to_end =
-      let over : IsCourse gate 1 job (next.Over (ended.OutOfMemory (is_not_now e.reply))) rest end = subst (λ (n : Next K). IsCourse gate 1 job n rest end) a course in
+      let over : IsCourse gate turns job (next.Over (ended.OutOfMemory (is_not_now e.reply))) rest end = subst (λ (n : Next K). IsCourse gate turns job n rest end) a course in
       let out : ran_out end ≡ true = ap ran_out over.1 in
       absurd (false≢true (sym to_end ∙ out))
-
-  -- after these entries, while all went well, the event is the worker's and fits; and no allocation failed
-  abbrev pub Expects : List (Entry K) → Entry K → Type 0
-  Expects past e = (is_out_of_memory e.reply ≡ false) × (all_well past ≡ true → Fits policy setup c moment past e.event)
 
   in_memory : (r : Reply K) → r ≢ reply.OutOfMemory → is_out_of_memory r ≡ false
   in_memory r kept = false_by (is_out_of_memory r) (λ h. kept (out_of_memory-is r h))
 
   module _ (handle : ℕ) (job : Job) (known : IsWorkerJob policy setup c moment handle job) where
     -- the entries of a course
-    pub course_expected : (at : Next K) (past : List (Entry K)) (own : List (Receipt K)) (end : JobEnd) → IsCourse gate 1 job at own end → ran_out end ≡ false
-        → (all_well past ≡ true → Stands policy setup c moment job at past) → AreLegalAfter (λ x. x) Expects past (entries own)
+    pub course_expected : (at : Next K) (past : List (Entry K)) (own : List (Receipt K)) (end : JobEnd) → IsCourse gate turns job at own end → ran_out end ≡ false
+        → (all_well past ≡ true → Stands policy setup c moment job at past) → AreLegalAfter (λ x. x) (IsExpected policy setup c moment) past (entries own)
     course_expected at past [] end course to_end stands = tt
     course_expected at past (r ∷ rest) end course to_end stands =
-        let o = opens gate job at r rest end course in
+        let o = opens gate turns job at r rest end course in
         let g = goes job at o.after r.entry rest end o.step o.course to_end in
-        let here : Expects past r.entry =
+        let here : IsExpected policy setup c moment past r.entry =
         (in_memory r.entry.reply o.kept, λ well. next_fits policy setup c moment handle job known gate prompt past at r.entry.event g.event (stands well)) in
         let later : all_well (past ++ r.entry ∷ []) ≡ true → Stands policy setup c moment job o.after (past ++ r.entry ∷ []) = λ well.
             let both : (all_well past && goes_well r.entry.reply) ≡ true = sym (list_all-more (λ (e : Entry K). goes_well e.reply) past r.entry) ∙ well in
@@ -153,25 +150,25 @@ module _ {K D : Type 0} (policy : Policy K D) (setup : Setup D) (c : K) (moment 
       (λ e h. let lt : nat_lt (call_of e.event).number call.number ≡ true = below_le n call.number le (call_of e.event).number h in rw lt (or_true _)) past below
 
   -- the entries of a worker's pass are of its handle
-  pub pass_handle : (handle from : ℕ) (jobs : List Job) (added : List (Receipt K)) → AreWorkerJobs policy setup c moment handle from jobs → ServesAll gate 1 jobs added
+  pub pass_handle : (handle from : ℕ) (jobs : List Job) (added : List (Receipt K)) → AreWorkerJobs policy setup c moment handle from jobs → ServesAll gate turns jobs added
       → list_all (λ (e : Entry K). (call_of e.event).handle == handle) (entries added) ≡ true
   pass_handle handle from [] added a s = ap (λ (l : List (Receipt K)). list_all (λ (e : Entry K). (call_of e.event).handle == handle) (entries l)) s
   pass_handle handle from (job ∷ jobs) added a s =
       let of_job : (job.call.handle == handle) ≡ true = ap (λ (n : ℕ). n == handle) a.0.under ∙ number_refl handle in
-      let first : list_all (λ (e : Entry K). (call_of e.event).handle == handle) (entries s.0) ≡ true = course_calls gate job next.Begin s.0 s.2 s.4 (λ call. call.handle == handle) of_job in
+      let first : list_all (λ (e : Entry K). (call_of e.event).handle == handle) (entries s.0) ≡ true = course_calls gate turns job next.Begin s.0 s.2 s.4 (λ call. call.handle == handle) of_job in
       let later : list_all (λ (e : Entry K). (call_of e.event).handle == handle) (entries s.1) ≡ true = pass_handle handle (suc job.call.number) jobs s.1 a.2 s.6 in
       rw (s.3, map-append (λ (r : Receipt K). r.entry) s.0 s.1) (list_all-append (λ (e : Entry K). (call_of e.event).handle == handle) (entries s.0) (entries s.1) first later)
 
   -- and each of them is expected after those before it
-  pub pass_expected : (handle from : ℕ) (jobs : List Job) (past : List (Entry K)) (added : List (Receipt K)) → AreWorkerJobs policy setup c moment handle from jobs → ServesAll gate 1 jobs added
-      → list_all (is_numbered_below from) past ≡ true → AreLegalAfter (λ x. x) Expects past (entries added)
-  pass_expected handle from [] past added a s below = subst (λ (l : List (Receipt K)). AreLegalAfter (λ x. x) Expects past (entries l)) (sym s) tt
+  pub pass_expected : (handle from : ℕ) (jobs : List Job) (past : List (Entry K)) (added : List (Receipt K)) → AreWorkerJobs policy setup c moment handle from jobs → ServesAll gate turns jobs added
+      → list_all (is_numbered_below from) past ≡ true → AreLegalAfter (λ x. x) (IsExpected policy setup c moment) past (entries added)
+  pass_expected handle from [] past added a s below = subst (λ (l : List (Receipt K)). AreLegalAfter (λ x. x) (IsExpected policy setup c moment) past (entries l)) (sym s) tt
   pass_expected handle from (job ∷ jobs) past added a s below =
       let n : ℕ = job.call.number in
-      let first : AreLegalAfter (λ x. x) Expects past (entries s.0) =
+      let first : AreLegalAfter (λ x. x) (IsExpected policy setup c moment) past (entries s.0) =
       course_expected handle job a.0 next.Begin past s.0 s.2 s.4 s.5 (λ well. new_above from past job.call a.1 below) in
-      let own : list_all (is_numbered_below (suc n)) (entries s.0) ≡ true = course_calls gate job next.Begin s.0 s.2 s.4 (λ call. nat_lt call.number (suc n)) (below_self n) in
+      let own : list_all (is_numbered_below (suc n)) (entries s.0) ≡ true = course_calls gate turns job next.Begin s.0 s.2 s.4 (λ call. nat_lt call.number (suc n)) (below_self n) in
       let old : list_all (is_numbered_below (suc n)) past ≡ true = list_all-by (is_numbered_below from) (is_numbered_below (suc n)) (λ e h. below_more from n a.1 (call_of e.event).number h) past below in
-      let later : AreLegalAfter (λ x. x) Expects (past ++ entries s.0) (entries s.1) =
+      let later : AreLegalAfter (λ x. x) (IsExpected policy setup c moment) (past ++ entries s.0) (entries s.1) =
       pass_expected handle (suc n) jobs (past ++ entries s.0) s.1 a.2 s.6 (list_all-append (is_numbered_below (suc n)) past (entries s.0) old own) in
-      rw (s.3, map-append (λ (r : Receipt K). r.entry) s.0 s.1) (legal_join (λ x. x) Expects past (entries s.0) (entries s.1) first later)
+      rw (s.3, map-append (λ (r : Receipt K). r.entry) s.0 s.1) (legal_join (λ x. x) (IsExpected policy setup c moment) past (entries s.0) (entries s.1) first later)

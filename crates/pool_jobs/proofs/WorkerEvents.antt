@@ -31,54 +31,15 @@ use Rattle.signer_shared.specs.declared.job.Job.{Job}
 use Rattle.signer_shared.specs.declared.next.Next.{Next}
 use Rattle.signer_shared.specs.declared.next.Next.TheVariants as next
 use Rattle.pool_jobs.specs.Laws.{goes_well}
+use Rattle.pool_jobs.specs.PromptGates.{AnswersAtOnce, IsWorkerJob}
+use Rattle.pool_jobs.proofs.CallPhases.{queued_waits, begun_waits, phase-own, phase_is-in}
 use Rattle.pool_jobs.proofs.FittingEvents.{all_well, HasBegun, Fits}
 
 -- what a job's call is begun with
 abbrev pub job_begin : Job → BeginInput
 job_begin job = record { head = job.head; duration = option_map as_nanos job.expires_in }
 
-queued_waits : (p : Phase) → is_waiting p ≡ true → is_waiting (to_queued p) ≡ true
-queued_waits Unpolled h = refl
-queued_waits Queued h = refl
-queued_waits Unknown h = absurd (cc)
-queued_waits Loading h = absurd (cc)
-queued_waits Signing h = absurd (cc)
-queued_waits Ended h = absurd (cc)
-
-begun_waits : (K : Type 0) (waited : Bool) → is_waiting (phase_by {K = K} waited Begun) ≡ true
-begun_waits K true = refl
-begun_waits K false = refl
-
--- the phase after an entry of the call itself
-phase-own : {K : Type 0} (entries : List (Entry K)) (call : CallId) (e : Entry K) → same_call call (call_of e.event) ≡ true → phase_of (entries ++ e ∷ []) call ≡ phase_in (entries_of entries call ++ e ∷ [])
-unfolding phase_of
-phase-own entries call e own = ap phase_in (entries_of-own entries call e own)
-
-phase_is-in : {K : Type 0} (entries : List (Entry K)) (call : CallId) → phase_in (entries_of entries call) ≡ phase_of entries call
-unfolding phase_of
-phase_is-in entries call = refl
-
 module _ {K D : Type 0} (policy : Policy K D) (setup : Setup D) (c : K) (moment : ℤ) where
-  -- the gate answers each load at once with this credential, accepts each head, and shows one moment
-  pub record AnswersAtOnce (gate : GateMeaning K) : Type 0 where
-    pub ready : (call : CallId) (provider : ℕ) → gate.ready call provider 0
-    pub gives : (call : CallId) (provider : ℕ) (answer : Answer K) → gate.gives call provider answer → answer ≡ Found c
-    pub judges : (call : CallId) (k : K) (head : Head) (verdict : Verdict) → gate.judges call k head verdict → (made : Head) × (verdict ≡ Accepted made)
-    pub tells : (now : ℤ) → gate.tells now → now ≡ moment
-
-  -- a job of this handle, whose call is of cache 0, and which the credential serves at the moment
-  pub record IsWorkerJob (handle : ℕ) (job : Job) : Type 0 where
-    pub under : job.call.handle ≡ handle
-    pub cache : cache_of setup job.call ≡ Some 0
-    pub rule : D
-    pub ruled : rule_of setup job.call ≡ Some rule
-    pub lasts : serves_at policy c rule (job_begin job).duration moment ≡ true
-
-  -- jobs of one handle, whose calls have numbers that rise from this one on
-  abbrev pub AreWorkerJobs : ℕ → ℕ → List Job → Type 0
-  AreWorkerJobs handle from [] = Unit {0}
-  AreWorkerJobs handle from (job ∷ jobs) = IsWorkerJob handle job × (from ≤ job.call.number) × AreWorkerJobs handle (suc job.call.number) jobs
-
   -- how far the job's call is after these entries, by what is next for it
   abbrev pub Stands : Job → Next K → List (Entry K) → Type 0
   Stands job next.Begin past = is_new_number past job.call ≡ true
@@ -87,12 +48,12 @@ module _ {K D : Type 0} (policy : Policy K D) (setup : Setup D) (c : K) (moment 
   Stands job (next.Sign credential) past = is_signing (phase_of past job.call) ≡ true
   Stands job (next.Over end) past = Unit {0}
 
-  module _ (handle : ℕ) (job : Job) (known : IsWorkerJob handle job) where
+  module _ (handle : ℕ) (job : Job) (known : IsWorkerJob policy setup c moment handle job) where
     has_begun : (past : List (Entry K)) → begin_of past job.call ≡ Some (job_begin job) → HasBegun policy setup c moment past job.call
     has_begun past b = record { cache = known.cache; rule = known.rule; ruled = known.ruled; begin = job_begin job; begun = b; lasts = known.lasts }
 
     -- the event that is next fits
-    pub next_fits : (gate : GateMeaning K) → AnswersAtOnce gate → (past : List (Entry K)) (at : Next K) (event : Event K) → IsNext gate job at event → Stands job at past → Fits policy setup c moment past event
+    pub next_fits : (gate : GateMeaning K) → AnswersAtOnce c moment gate → (past : List (Entry K)) (at : Next K) (event : Event K) → IsNext gate job at event → Stands job at past → Fits policy setup c moment past event
     next_fits gate prompt past next.Begin event n s = subst (λ (e : Event K). Fits policy setup c moment past e) (sym n) (known.cache, s)
     next_fits gate prompt past next.Poll event n s = subst (λ (e : Event K). Fits policy setup c moment past e) (sym n.2) (has_begun past s.0, s.1, prompt.tells n.0 n.1)
     next_fits gate prompt past (next.Load provider) event n s =
