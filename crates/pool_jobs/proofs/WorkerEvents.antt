@@ -28,8 +28,6 @@ use Rattle.sign_desk.specs.ReplyKinds.{is_reply_to}
 use Rattle.signer_shared.specs.Gates.{GateMeaning}
 use Rattle.signer_shared.specs.Serving.{IsNext, next_after}
 use Rattle.signer_shared.specs.declared.job.Job.{Job}
-use Rattle.signer_shared.specs.declared.next.Next.{Next}
-use Rattle.signer_shared.specs.declared.next.Next.TheVariants as next
 use Rattle.pool_jobs.specs.Laws.{goes_well}
 use Rattle.pool_jobs.specs.PromptGates.{AnswersAtOnce, IsWorkerJob}
 use Rattle.pool_jobs.proofs.CallPhases.{queued_waits, begun_waits, phase-own, phase_is-in}
@@ -40,27 +38,36 @@ abbrev pub job_begin : Job → BeginInput
 job_begin job = record { head = job.head; duration = option_map as_nanos job.expires_in }
 
 module _ {K D : Type 0} (policy : Policy K D) (setup : Setup D) (c : K) (moment : ℤ) where
-  -- how far the job's call is after these entries, by what is next for it
-  abbrev pub Stands : Job → Next K → List (Entry K) → Type 0
-  Stands job next.Begin past = is_new_number past job.call ≡ true
-  Stands job next.Poll past = (begin_of past job.call ≡ Some (job_begin job)) × (is_waiting (phase_of past job.call) ≡ true)
-  Stands job (next.Load provider) past = (begin_of past job.call ≡ Some (job_begin job)) × (is_loading (phase_of past job.call) ≡ true)
-  Stands job (next.Sign credential) past = is_signing (phase_of past job.call) ≡ true
-  Stands job (next.Over end) past = Unit {0}
+  -- how far the job's call is after these entries, the last of its own with this reply
+  abbrev pub StandsAt : Job → Reply K → List (Entry K) → Type 0
+  StandsAt job Begun past = (begin_of past job.call ≡ Some (job_begin job)) × (is_waiting (phase_of past job.call) ≡ true)
+  StandsAt job Pending past = (begin_of past job.call ≡ Some (job_begin job)) × (is_waiting (phase_of past job.call) ≡ true)
+  StandsAt job (Ask provider) past = (begin_of past job.call ≡ Some (job_begin job)) × (is_loading (phase_of past job.call) ≡ true)
+  StandsAt job (Sign credential wake) past = is_signing (phase_of past job.call) ≡ true
+  StandsAt job _ past = Unit {0}
 
   module _ (handle : ℕ) (job : Job) (known : IsWorkerJob policy setup c moment handle job) where
     has_begun : (past : List (Entry K)) → begin_of past job.call ≡ Some (job_begin job) → HasBegun policy setup c moment past job.call
     has_begun past b = record { cache = known.cache; rule = known.rule; ruled = known.ruled; begin = job_begin job; begun = b; lasts = known.lasts }
 
-    -- the event that is next fits
-    pub next_fits : (gate : GateMeaning K) → AnswersAtOnce c moment gate → (past : List (Entry K)) (at : Next K) (event : Event K) → IsNext gate job at event → Stands job at past → Fits policy setup c moment past event
-    next_fits gate prompt past next.Begin event n s = subst (λ (e : Event K). Fits policy setup c moment past e) (sym n) (known.cache, s)
-    next_fits gate prompt past next.Poll event n s = subst (λ (e : Event K). Fits policy setup c moment past e) (sym n.2) (has_begun past s.0, s.1, prompt.tells n.0 n.1)
-    next_fits gate prompt past (next.Load provider) event n s =
-        subst (λ (e : Event K). Fits policy setup c moment past e) (sym n.4) (has_begun past s.0, s.1, prompt.tells n.0 n.2, prompt.gives job.call provider n.1 n.3)
-    next_fits gate prompt past (next.Sign credential) event n s =
-        subst (λ (e : Event K). Fits policy setup c moment past e) (sym n.2) (known.cache, s, prompt.judges job.call credential job.head n.0 n.1)
-    next_fits gate prompt past (next.Over end) event n s = absurd n
+    -- a begin with a new number fits
+    pub begin_fits : (past : List (Entry K)) (event : Event K) → event ≡ Begin job.call job.head job.expires_in → is_new_number past job.call ≡ true → Fits policy setup c moment past event
+    begin_fits past event n new = subst (λ (e : Event K). Fits policy setup c moment past e) (sym n) (known.cache, new)
+
+    module _ (gate : GateMeaning K) (prompt : AnswersAtOnce c moment gate) (past : List (Entry K)) (event : Event K) where
+      -- so does the event that is next after a reply
+      pub next_fits : (r : Reply K) → IsNext gate job (next_after r) event → StandsAt job r past → Fits policy setup c moment past event
+      next_fits Begun n s = subst (λ (e : Event K). Fits policy setup c moment past e) (sym n.2) (has_begun past s.0, s.1, prompt.tells n.0 n.1)
+      next_fits Pending n s = subst (λ (e : Event K). Fits policy setup c moment past e) (sym n.2) (has_begun past s.0, s.1, prompt.tells n.0 n.1)
+      next_fits (Ask provider) n s =
+          subst (λ (e : Event K). Fits policy setup c moment past e) (sym n.4) (has_begun past s.0, s.1, prompt.tells n.0 n.2, prompt.gives job.call provider n.1 n.3)
+      next_fits (Sign credential wake) n s =
+          subst (λ (e : Event K). Fits policy setup c moment past e) (sym n.2) (known.cache, s, prompt.judges job.call credential job.head n.0 n.1)
+      next_fits NotNow n s = absurd n
+      next_fits OutOfMemory n s = absurd n
+      next_fits (Refused why wake) n s = absurd n
+      next_fits (Done head) n s = absurd n
+      next_fits (Cancelled wake) n s = absurd n
 
   module _ (job : Job) (past : List (Entry K)) where
     begin_kept : (e : Entry K) → same_call job.call (call_of e.event) ≡ true → begin_of past job.call ≡ Some (job_begin job) → begin_of (past ++ e ∷ []) job.call ≡ Some (job_begin job)
@@ -78,8 +85,8 @@ module _ {K D : Type 0} (policy : Policy K D) (setup : Setup D) (c : K) (moment 
         ap is_signing (phase-own_mark setup past 0 e job.call own mark ∙ ap (phase_by (list_any is_waiting_poll (entries_of past job.call) || is_waiting_poll e)) h)
 
     -- how far the call is after its begin, a poll, an answer of a provider, and one of the service
-    after_begin : (reply : Reply K) → is_reply_to (Begin job.call job.head job.expires_in) reply ≡ true → goes_well reply ≡ true → Stands job next.Begin past
-        → Stands job (next_after reply) (past ++ record { event = Begin job.call job.head job.expires_in; reply = reply } ∷ [])
+    after_begin : (reply : Reply K) → is_reply_to (Begin job.call job.head job.expires_in) reply ≡ true → goes_well reply ≡ true → is_new_number past job.call ≡ true
+        → StandsAt job reply (past ++ record { event = Begin job.call job.head job.expires_in; reply = reply } ∷ [])
     after_begin Begun kind well s =
         let made : Entry K = record { event = Begin job.call job.head job.expires_in; reply = Begun } in
         (begin_new made refl s,
@@ -93,8 +100,8 @@ module _ {K D : Type 0} (policy : Policy K D) (setup : Setup D) (c : K) (moment 
     after_begin (Done h) kind well s = absurd (cc)
     after_begin (Cancelled w) kind well s = absurd (cc)
 
-    after_poll : (now : ℤ) (reply : Reply K) → is_reply_to (Poll job.call now) reply ≡ true → goes_well reply ≡ true → Stands job next.Poll past
-        → Stands job (next_after reply) (past ++ record { event = Poll job.call now; reply = reply } ∷ [])
+    after_poll : (now : ℤ) (reply : Reply K) → is_reply_to (Poll job.call now) reply ≡ true → goes_well reply ≡ true → (begin_of past job.call ≡ Some (job_begin job)) × (is_waiting (phase_of past job.call) ≡ true)
+        → StandsAt job reply (past ++ record { event = Poll job.call now; reply = reply } ∷ [])
     after_poll now Pending kind well s =
         let made : Entry K = record { event = Poll job.call now; reply = Pending } in
         (begin_kept made (same_call-refl job.call) s.0,
@@ -112,7 +119,7 @@ module _ {K D : Type 0} (policy : Policy K D) (setup : Setup D) (c : K) (moment 
     after_poll now (Cancelled w) kind well s = absurd (cc)
 
     after_answer : (now : ℤ) (answer : Answer K) (reply : Reply K) → is_reply_to (Provided job.call now answer) reply ≡ true → goes_well reply ≡ true → (begin_of past job.call ≡ Some (job_begin job))
-        → Stands job (next_after reply) (past ++ record { event = Provided job.call now answer; reply = reply } ∷ [])
+        → StandsAt job reply (past ++ record { event = Provided job.call now answer; reply = reply } ∷ [])
     after_answer now answer (Ask p) kind well b =
         let made : Entry K = record { event = Provided job.call now answer; reply = Ask p } in
         (begin_kept made (same_call-refl job.call) b, loads-own_mark setup past 0 made job.call (same_call-refl job.call) refl)
@@ -126,7 +133,7 @@ module _ {K D : Type 0} (policy : Policy K D) (setup : Setup D) (c : K) (moment 
     after_answer now answer (Cancelled w) kind well b = absurd (cc)
 
     after_verdict : (verdict : Verdict) (reply : Reply K) → is_reply_to (Signed job.call verdict) reply ≡ true → goes_well reply ≡ true
-        → Stands job (next_after reply) (past ++ record { event = Signed job.call verdict; reply = reply } ∷ [])
+        → StandsAt job reply (past ++ record { event = Signed job.call verdict; reply = reply } ∷ [])
     after_verdict verdict (Done h) kind well = tt
     after_verdict verdict Begun kind well = absurd (cc)
     after_verdict verdict Pending kind well = absurd (cc)
@@ -138,18 +145,20 @@ module _ {K D : Type 0} (policy : Policy K D) (setup : Setup D) (c : K) (moment 
     after_verdict verdict (Cancelled w) kind well = absurd (cc)
 
     -- so after each event that was next and went well the call is as far as its reply says
-    pub stands_after : (gate : GateMeaning K) (at : Next K) (event : Event K) (reply : Reply K) → IsNext gate job at event → is_reply_to event reply ≡ true → goes_well reply ≡ true → Stands job at past
-        → Stands job (next_after reply) (past ++ record { event = event; reply = reply } ∷ [])
-    stands_after gate next.Begin event reply n kind well s =
-        subst (λ (e : Event K). is_reply_to e reply ≡ true → Stands job (next_after reply) (past ++ record { event = e; reply = reply } ∷ [])) (sym n)
-        (λ k. after_begin reply k well s) kind
-    stands_after gate next.Poll event reply n kind well s =
-        subst (λ (e : Event K). is_reply_to e reply ≡ true → Stands job (next_after reply) (past ++ record { event = e; reply = reply } ∷ [])) (sym n.2)
-        (λ k. after_poll n.0 reply k well s) kind
-    stands_after gate (next.Load provider) event reply n kind well s =
-        subst (λ (e : Event K). is_reply_to e reply ≡ true → Stands job (next_after reply) (past ++ record { event = e; reply = reply } ∷ [])) (sym n.4)
-        (λ k. after_answer n.0 n.1 reply k well s.0) kind
-    stands_after gate (next.Sign credential) event reply n kind well s =
-        subst (λ (e : Event K). is_reply_to e reply ≡ true → Stands job (next_after reply) (past ++ record { event = e; reply = reply } ∷ [])) (sym n.2)
-        (λ k. after_verdict n.0 reply k well) kind
-    stands_after gate (next.Over end) event reply n kind well s = absurd n
+    module _ (event : Event K) (reply : Reply K) (kind : is_reply_to event reply ≡ true) (well : goes_well reply ≡ true) where
+      abbrev From : Event K → Type 0
+      From e = is_reply_to e reply ≡ true → StandsAt job reply (past ++ record { event = e; reply = reply } ∷ [])
+
+      pub stands_begun : event ≡ Begin job.call job.head job.expires_in → is_new_number past job.call ≡ true → StandsAt job reply (past ++ record { event = event; reply = reply } ∷ [])
+      stands_begun n new = subst (λ (e : Event K). From e) (sym n) (λ k. after_begin reply k well new) kind
+
+      pub stands_after : (gate : GateMeaning K) (r : Reply K) → IsNext gate job (next_after r) event → StandsAt job r past → StandsAt job reply (past ++ record { event = event; reply = reply } ∷ [])
+      stands_after gate Begun n s = subst (λ (e : Event K). From e) (sym n.2) (λ k. after_poll n.0 reply k well s) kind
+      stands_after gate Pending n s = subst (λ (e : Event K). From e) (sym n.2) (λ k. after_poll n.0 reply k well s) kind
+      stands_after gate (Ask provider) n s = subst (λ (e : Event K). From e) (sym n.4) (λ k. after_answer n.0 n.1 reply k well s.0) kind
+      stands_after gate (Sign credential wake) n s = subst (λ (e : Event K). From e) (sym n.2) (λ k. after_verdict n.0 reply k well) kind
+      stands_after gate NotNow n s = absurd n
+      stands_after gate OutOfMemory n s = absurd n
+      stands_after gate (Refused why wake) n s = absurd n
+      stands_after gate (Done head) n s = absurd n
+      stands_after gate (Cancelled wake) n s = absurd n
