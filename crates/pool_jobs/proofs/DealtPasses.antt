@@ -1,12 +1,12 @@
 -- A settled journal of passes that each have a handle of their own: the entries of a handle are those of its pass.
-use Rattle.std.proofs.Common.{◌≡◌, ℕ, zero, suc, ◌+◌, ◌≤◌, ◌<◌, ◌==◌, Bool, true, false, List, [], ◌∷◌, ◌++◌, Some, filter, length, map, slice_get, get_or, refl, sym, ◌∙◌, ap, subst, arith, length-append}
+use Rattle.std.proofs.Common.{◌≡◌, ℕ, suc, ◌+◌, ◌≤◌, ◌<◌, Bool, true, List, [], ◌∷◌, ◌++◌, filter, length, get_or, ap, subst, arith, length-append}
 use Rattle.std.specs.Prelude.{All}
 use Rattle.std.specs.List.{list_all}
 use Rattle.std.specs.List.Sorted.{IsStrictlyIncreasing}
 use Rattle.std.proofs.lemmas.List.Elements.{All-head, All-tail}
 use Rattle.sequential_signer.specs.Transcript.{call_of}
 use Rattle.sequential_signer.specs.declared.event.Entry.{Entry}
-use Rattle.signer_book.specs.Settled.{IsSettled, IsEntryOf, AreEntriesOf, AreRising, places, all_receipts}
+use Rattle.signer_book.specs.Settled.{IsEntryOf, places, all_receipts}
 use Rattle.signer_book.specs.declared.pass.Receipt.{Receipt}
 use Rattle.wake_lock.proofs.Truth.{and_left, and_right}
 use Rattle.pool_jobs.proofs.Dealt.{is_of, is_from, split_from, all_from}
@@ -25,20 +25,22 @@ module _ {K : Type 0} (journal : List (Entry K)) (passes : Entry K → Bool) whe
   picked_behind : (r : Receipt K) (rest : List (Receipt K)) → All (IsEntryOf journal) rest → IsStrictlyIncreasing (places (r ∷ rest)) → list_all passes (entries rest) ≡ true
       → ArePicked passes journal (suc r.place) rest
   picked_behind r [] are rise pass = tt
-  picked_behind r (s ∷ rest) are rise pass =
-      (rise 0 (omega arith),
-      All-head (IsEntryOf journal) s rest are,
-      and_left (passes s.entry) (list_all passes (entries rest)) pass,
-      picked_behind s rest (All-tail (IsEntryOf journal) s rest are) (next_place 0 r.place (places (s ∷ rest)) rise) (and_right (passes s.entry) (list_all passes (entries rest)) pass))
+  picked_behind r (s ∷ rest) are rise pass = (
+    rise 0 (omega arith),
+    All-head (IsEntryOf journal) s rest are,
+    and_left (passes s.entry) (list_all passes (entries rest)) pass,
+    picked_behind s rest (All-tail (IsEntryOf journal) s rest are) (next_place 0 r.place (places (s ∷ rest)) rise) (and_right (passes s.entry) (list_all passes (entries rest)) pass),
+  )
 
   -- the receipts of a pass are picked out of the journal
   pub pass_picked : (pass : List (Receipt K)) → All (IsEntryOf journal) pass → IsStrictlyIncreasing (places pass) → list_all passes (entries pass) ≡ true → ArePicked passes journal 0 pass
   pass_picked [] are rise pass = tt
-  pass_picked (r ∷ rest) are rise pass =
-      (omega arith,
-      All-head (IsEntryOf journal) r rest are,
-      and_left (passes r.entry) (list_all passes (entries rest)) pass,
-      picked_behind r rest (All-tail (IsEntryOf journal) r rest are) rise (and_right (passes r.entry) (list_all passes (entries rest)) pass))
+  pass_picked (r ∷ rest) are rise pass = (
+    omega arith,
+    All-head (IsEntryOf journal) r rest are,
+    and_left (passes r.entry) (list_all passes (entries rest)) pass,
+    picked_behind r rest (All-tail (IsEntryOf journal) r rest are) rise (and_right (passes r.entry) (list_all passes (entries rest)) pass),
+  )
 
 module _ {K : Type 0} (journal : List (Entry K)) where
   -- each pass has a handle of its own, from this one on, and its receipts are picked out of the journal

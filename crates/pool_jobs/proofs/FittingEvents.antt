@@ -1,5 +1,5 @@
 -- The events of calls that are to be signed, and when they fit.
-use Rattle.std.proofs.Common.{◌≡◌, ℕ, ℤ, Bool, true, false, List, Some}
+use Rattle.std.proofs.Common.{◌≡◌, ℤ, Bool, true, false, List, Some}
 use Rattle.std.specs.List.{list_all}
 use Rattle.sign_base.specs.declared.head.Head.{Head}
 use Rattle.wake_lock.specs.declared.CallId.{CallId}

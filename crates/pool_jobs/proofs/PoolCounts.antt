@@ -1,6 +1,6 @@
 -- What the journal and the workers of a pool count.
-use Rattle.std.proofs.Common.{◌≡◌, ℕ, ℤ, zero, suc, ◌+◌, ◌≤◌, ◌<◌, ◌==◌, min, Bool, true, false, not, cond, List, [], ◌∷◌, ◌++◌, Some, filter, length, map, slice_get, refl, sym, ◌∙◌, ap, subst, arith, length-append}
-use Rattle.std.specs.Prelude.{All, count_by, sum_by}
+use Rattle.std.proofs.Common.{◌≡◌, ℕ, ℤ, zero, suc, ◌+◌, ◌<◌, min, Bool, true, false, cond, List, [], ◌∷◌, ◌++◌, Some, filter, length, map, slice_get, refl, sym, ◌∙◌, ap, arith}
+use Rattle.std.specs.Prelude.{All, sum_by}
 use Rattle.std.specs.List.{list_all}
 use Rattle.std.proofs.lemmas.List.Elements.{All-nil, All-cons}
 use Rattle.std.proofs.lemmas.List.Sums.{length-filter, sum_by-cons}
@@ -22,11 +22,11 @@ use Rattle.signer_shared.specs.Gates.{GateMeaning}
 use Rattle.signer_shared.specs.Serving.{IsServing, ServesAll, is_done, is_refused, replies}
 use Rattle.signer_shared.specs.declared.job.Job.{Job}
 use Rattle.signer_shared.specs.declared.job.Served.{Served}
-use Rattle.pool_jobs.proofs.Dealt.{is_of, is_from, split_from, all_from}
+use Rattle.pool_jobs.proofs.Dealt.{is_of, is_from, split_from}
 use Rattle.pool_jobs.proofs.Picked.{no_items}
 use Rattle.pool_jobs.specs.Laws.{goes_well}
 use Rattle.pool_jobs.proofs.FittingEvents.{all_well}
-use Rattle.pool_jobs.specs.PromptGates.{AnswersAtOnce, AreWorkerJobs, jobs_in}
+use Rattle.pool_jobs.specs.PromptGates.{AnswersAtOnce, jobs_in}
 use Rattle.pool_jobs.proofs.WorkerCourses.{entries}
 use Rattle.pool_jobs.proofs.DealtPasses.{handle_of, IsDealt}
 use Rattle.pool_jobs.proofs.PoolStates.{PoolState, untouched, loading, loaded}

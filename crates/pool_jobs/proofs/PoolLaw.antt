@@ -1,6 +1,5 @@
 -- Each call of a pool whose gate answers at once is signed, and the provider is asked at most once.
-use Rattle.std.proofs.Common.{◌≡◌, ℕ, ℤ, pos, ◌<◌, false, List, [], Some, filter, length, slice_get, refl, sym, ◌∙◌, ap, subst, arith}
-use Rattle.std.specs.Prelude.{All}
+use Rattle.std.proofs.Common.{◌≡◌, ℕ, ℤ, pos, ◌<◌, List, [], Some, filter, length, slice_get, refl, sym, ◌∙◌, ap, subst, arith}
 use Rattle.std.proofs.lemmas.List.Sums.{length-filter, AllPass-from_list_all}
 use Rattle.sequential_signer.specs.Policy.{Policy}
 use Rattle.sequential_signer.specs.Setup.{Setup}
@@ -9,17 +8,15 @@ use Rattle.sequential_signer.specs.LawsOfCaches.{is_ask}
 use Rattle.sequential_signer.specs.declared.event.Entry.{Entry}
 use Rattle.sequential_signer.specs.declared.event.Loader.TheVariants.{Single}
 use Rattle.signctl_format.specs.Policy.{script_policy}
-use Rattle.signctl_format.specs.declared.credential.ScriptCredential.{ScriptCredential}
 use Rattle.signer_book.specs.Settled.{IsSettled, all_receipts}
 use Rattle.signer_book.specs.declared.pass.Receipt.{Receipt}
 use Rattle.signer_shared.specs.Gates.{GateMeaning}
-use Rattle.signer_shared.specs.Pools.{ServesLists}
 use Rattle.signer_shared.specs.Serving.{is_done}
 use Rattle.signer_shared.specs.declared.job.Job.{Job}
 use Rattle.signer_shared.specs.declared.job.Served.{Served}
 use Rattle.pool_jobs.specs.Laws.{goes_well, SignsAll, PromptCallsAreSigned, EveryPoolCallIsSigned}
 use Rattle.pool_jobs.specs.Meaning.{pool_credential, pool_meaning}
-use Rattle.pool_jobs.specs.PromptGates.{AnswersAtOnce, AreWorkerLists, jobs_in}
+use Rattle.pool_jobs.specs.PromptGates.{AnswersAtOnce, jobs_in}
 use Rattle.pool_jobs.specs.Setup.{pool_setup}
 use Rattle.pool_jobs.specs.Work.{pool_work}
 use Rattle.pool_jobs.proofs.Dealt.{all_from}
@@ -43,9 +40,9 @@ module _ {K D : Type 0} (policy : Policy K D) (setup : Setup D) (c : K) (moment 
       let dones : length (filter (λ (e : Entry K). is_done e.reply) journal) ≡ jobs_in lists =
       ap length (sym (all_from handle_of (filter (λ (e : Entry K). is_done e.reply) journal))) ∙ all.dones in
       let empty : jobs_in lists ≡ 0 → journal ≡ [] = λ none.
-          let receipts : length (all_receipts passes) ≡ 0 = no_jobs policy setup c moment loads gate at_once turns some 0 lists passes served are none in
-          let counted : length (all_receipts passes) ≡ length journal = settled.counted in
-          no_items journal (omega arith) in
+      let receipts : length (all_receipts passes) ≡ 0 = no_jobs policy setup c moment loads gate at_once turns some 0 lists passes served are none in
+      let counted : length (all_receipts passes) ≡ length journal = settled.counted in
+      no_items journal (omega arith) in
       record {
         well = AllPass-from_list_all (λ (e : Entry K). goes_well e.reply) journal pool.well;
         signed = sym (length-filter (λ (e : Entry K). is_done e.reply) journal) ∙ dones;

@@ -1,11 +1,10 @@
 -- The lists of a pool: each is of its worker's handle, with numbers that rise, and together they have all jobs.
-use Rattle.std.proofs.Common.{◌≡◌, ℕ, ℤ, pos, zero, suc, ◌+◌, ◌*◌, ◌/◌, ◌%◌, ◌≤◌, ◌<◌, ◌==◌, nat_lt, Bool, true, false, not, List, [], ◌∷◌, Option, Some, None, filter, length, map, replicate, slice_get, option_map, option_and_then, refl, sym, ◌∙◌, ap, subst, arith}
+use Rattle.std.proofs.Common.{◌≡◌, ℕ, pos, zero, suc, ◌+◌, ◌*◌, ◌/◌, ◌%◌, ◌≤◌, ◌<◌, ◌==◌, nat_lt, Bool, true, false, List, [], ◌∷◌, Some, filter, length, map, replicate, slice_get, option_map, option_and_then, refl, sym, ◌∙◌, ap, subst, arith}
 use Rattle.std.specs.List.{range_with_len}
 use Rattle.std.proofs.Math.Nat.{mul-le-mul_left}
 use Rattle.std.proofs.lemmas.Bool.Decides.{nat_tests}
 use Rattle.std.proofs.lemmas.List.{length-map}
 use Rattle.std.proofs.lemmas.Nat.{mod_below}
-use Rattle.wake_lock.specs.declared.CallId.{CallId}
 use Rattle.sequential_signer.specs.Setup.{Handle}
 use Rattle.signctl_format.specs.Policy.{script_policy}
 use Rattle.signctl_format.specs.declared.credential.ScriptRule.{ScriptRule}
@@ -70,10 +69,11 @@ module _ (workers : ℕ) (some : 0 < workers) where
           → AreWorkerJobs script_policy (pool_setup workers) pool_credential (pos 0) first from (jobs_from first at (suc n))
       by_test true t later =
           let here : at % workers ≡ first = grind (arith, nat_tests) in
-          rw t
-          (worker_job first (at / workers) lt,
-          above at (omega arith) here,
-          later (suc (at / workers)) (λ j le same. quotient_rises workers at j some (omega arith) (here ∙ sym same)))
+          rw t (
+            worker_job first (at / workers) lt,
+            above at (omega arith) here,
+            later (suc (at / workers)) (λ j le same. quotient_rises workers at j some (omega arith) (here ∙ sym same)),
+          )
       by_test false t later = rw t (later from (λ j le same. above j (omega arith) same))
 
   module _ (jobs : ℕ) where
@@ -82,10 +82,11 @@ module _ (workers : ℕ) (some : 0 < workers) where
         → AreWorkerLists script_policy (pool_setup workers) pool_credential (pos 0) first (map (jobs_of_worker workers jobs) (range_with_len first n))
     lists_from first zero e = tt
     lists_from first (suc n) e =
-        let next : first + 1 ≡ suc first = omega arith in
-        (worker_jobs first (omega arith) 0 jobs 0 (λ j le same. omega arith),
-        subst (λ m. AreWorkerLists script_policy (pool_setup workers) pool_credential (pos 0) m (map (jobs_of_worker workers jobs) (range_with_len (first + 1) n))) next
-        (lists_from (first + 1) n (omega arith)))
+        let next : first + 1 ≡ suc first = omega arith in (
+          worker_jobs first (omega arith) 0 jobs 0 (λ j le same. omega arith),
+          subst (λ m. AreWorkerLists script_policy (pool_setup workers) pool_credential (pos 0) m (map (jobs_of_worker workers jobs) (range_with_len (first + 1) n))) next
+              (lists_from (first + 1) n (omega arith)),
+        )
 
     pub pool_lists : AreWorkerLists script_policy (pool_setup workers) pool_credential (pos 0) 0 (pool_work workers jobs)
     pool_lists = lists_from 0 workers (omega arith)

@@ -1,14 +1,13 @@
 -- A settled, legal journal of workers whose calls are of one cache, at a gate that answers at once.
-use Rattle.std.proofs.Common.{◌≡◌, ℕ, ℤ, zero, suc, ◌+◌, ◌≤◌, ◌<◌, ◌==◌, Bool, true, false, not, List, [], ◌∷◌, ◌++◌, Option, Some, None, filter, length, map, slice_get, refl, sym, ◌∙◌, ap, subst, arith, length-append}
+use Rattle.std.proofs.Common.{◌≡◌, ℕ, ℤ, suc, ◌<◌, Bool, true, false, not, List, [], ◌∷◌, ◌++◌, Some, filter, slice_get, refl, sym, ap, subst}
 use Rattle.std.specs.Prelude.{All, MatchBool}
 use Rattle.std.specs.List.{list_all}
 use Rattle.std.proofs.lemmas.List.{append-nil, append_assoc}
 use Rattle.std.proofs.lemmas.List.Elements.{All-head, All-tail}
 use Rattle.std.specs.List.Sorted.{IsStrictlyIncreasing}
-use Rattle.wake_lock.specs.declared.CallId.{CallId}
 use Rattle.sequential_signer.specs.Policy.{Policy}
-use Rattle.sequential_signer.specs.Setup.{Setup, cache_of}
-use Rattle.sequential_signer.specs.Transcript.{call_of, entries_of, is_out_of_memory, committed_entries}
+use Rattle.sequential_signer.specs.Setup.{Setup}
+use Rattle.sequential_signer.specs.Transcript.{entries_of, is_out_of_memory, committed_entries}
 use Rattle.sequential_signer.specs.Phase.{phase_of, phase_in}
 use Rattle.sequential_signer.specs.Turn.{poll_order}
 use Rattle.sequential_signer.specs.SequentialCache.{sequential_cache}
@@ -20,7 +19,7 @@ use Rattle.sequential_signer.specs.declared.event.Reply.TheVariants as reply
 use Rattle.wake_lock.proofs.Truth.{and_left, and_right}
 use Rattle.sequential_signer.proofs.Distinct.{list_all-filter_of}
 use Rattle.sequential_signer.proofs.Run.{start}
-use Rattle.signer_book.specs.Settled.{IsSettled, IsEntryOf, AreEntriesOf, AreRising, places, all_receipts}
+use Rattle.signer_book.specs.Settled.{IsSettled, IsEntryOf, AreEntriesOf, AreRising, places}
 use Rattle.signer_book.specs.declared.pass.Receipt.{Receipt}
 use Rattle.signer_shared.specs.Gates.{GateMeaning}
 use Rattle.signer_shared.specs.Serving.{IsServing, ServesAll, StopsAtAJob}
@@ -35,7 +34,7 @@ use Rattle.pool_jobs.proofs.WorkerCourses.{entries, pass_handle, pass_expected}
 use Rattle.pool_jobs.proofs.Spread.{EachAfter, AmongThose, Where, each-weaker, spread, either, nobody}
 use Rattle.pool_jobs.proofs.DealtPasses.{handle_of, AreOfHandles, IsDealt, pass_picked, settled_dealt}
 use Rattle.pool_jobs.proofs.HandleEntries.{own_fits}
-use Rattle.pool_jobs.proofs.PoolStates.{IsPool, PoolState, untouched, event_pool}
+use Rattle.pool_jobs.proofs.PoolStates.{IsPool, untouched, event_pool}
 
 -- entries that went well are all committed
 well_in_memory : {K : Type 0} (r : Reply K) → goes_well r ≡ true → is_out_of_memory r ≡ false
@@ -110,10 +109,11 @@ module _ {K D : Type 0} (policy : Policy K D) (setup : Setup D) (c : K) (moment 
       -- the passes are of handles of their own
       pub of_handles : (first : ℕ) (lists : List (List Job)) (passes : List (List (Receipt K))) (served : List Served) → AreServed first lists passes served → AreEntriesOf journal passes → AreRising passes → AreOfHandles journal first passes
       of_handles _ _ _ _ (no_more first) are rise = tt
-      of_handles _ _ _ _ (one_more first jobs lists pass passes counts served a s m more) are rise =
-          (pass_picked journal (is_of handle_of first) pass (All-head (All (IsEntryOf journal)) pass passes are) (All-head (λ (r : List (Receipt K)). IsStrictlyIncreasing (places r)) pass passes rise)
-          (pass_handle policy setup c moment gate prompt turns more_turns first 0 jobs pass a (serves_all jobs pass counts s m)),
-          of_handles (suc first) lists passes served more (All-tail (All (IsEntryOf journal)) pass passes are) (All-tail (λ (r : List (Receipt K)). IsStrictlyIncreasing (places r)) pass passes rise))
+      of_handles _ _ _ _ (one_more first jobs lists pass passes counts served a s m more) are rise = (
+        pass_picked journal (is_of handle_of first) pass (All-head (All (IsEntryOf journal)) pass passes are) (All-head (λ (r : List (Receipt K)). IsStrictlyIncreasing (places r)) pass passes rise)
+            (pass_handle policy setup c moment gate prompt turns more_turns first 0 jobs pass a (serves_all jobs pass counts s m)),
+        of_handles (suc first) lists passes served more (All-tail (All (IsEntryOf journal)) pass passes are) (All-tail (λ (r : List (Receipt K)). IsStrictlyIncreasing (places r)) pass passes rise),
+      )
 
       -- each entry of a handle of theirs is expected after those before it
       pub all_expected : (first : ℕ) (lists : List (List Job)) (passes : List (List (Receipt K))) (served : List Served) → AreServed first lists passes served → IsDealt journal first passes

@@ -1,6 +1,5 @@
 -- How the one cache of a pool stands after events that fit: untouched, loading, or loaded for good.
-use Rattle.std.proofs.Common.{◌≡◌, ℕ, ℤ, suc, ◌+◌, Bool, true, false, not, ◌&&◌, ◌||◌, cond, List, [], ◌∷◌, ◌++◌, Option, Some, None, is_some, inl, inr, filter, length, slice_get, refl, sym, ◌∙◌, ap, subst, arith, length-append}
-use Rattle.std.specs.List.{list_any, list_all}
+use Rattle.std.proofs.Common.{◌≡◌, ℕ, ℤ, suc, ◌+◌, Bool, true, false, List, [], ◌∷◌, ◌++◌, Option, Some, None, is_some, inl, inr, filter, length, slice_get, refl, sym, ◌∙◌, ap, subst, arith, length-append}
 use Rattle.std.specs.Option.{option_or}
 use Rattle.std.proofs.lemmas.Bool.{false≢true}
 use Rattle.sign_base.specs.declared.head.Head.{Head}
@@ -8,12 +7,12 @@ use Rattle.wake_lock.specs.declared.CallId.{CallId}
 use Rattle.wake_lock.specs.Calls.{same_call}
 use Rattle.sequential_signer.specs.Lookup.{Outcome, HandOut, cache_lookup, lookup_by, check_by, check_refreshed}
 use Rattle.sequential_signer.specs.Policy.{Policy}
-use Rattle.sequential_signer.specs.SequentialCall.{HoldInput, Progress, Over, sequential_call, after_lookup, found_progress, load_progress}
+use Rattle.sequential_signer.specs.SequentialCall.{HoldInput, sequential_call, after_lookup, found_progress, load_progress}
 use Rattle.sequential_signer.specs.Setup.{Setup, cache_of, rule_of}
-use Rattle.sequential_signer.specs.Transcript.{call_of, entries_of, last_of, is_out_of_memory}
-use Rattle.sequential_signer.specs.Phase.{Phase, Unknown, Unpolled, Queued, Loading, Signing, Ended, is_mark, phase_of, phase_in, phase_by, is_waiting, is_live, is_loading, is_signing, is_new_number, is_waiting_poll, is_begun}
+use Rattle.sequential_signer.specs.Transcript.{call_of, entries_of, is_out_of_memory}
+use Rattle.sequential_signer.specs.Phase.{is_mark, phase_of, phase_by, is_waiting, is_loading, is_signing, is_new_number}
 use Rattle.sequential_signer.specs.Turn.{has_turn}
-use Rattle.sequential_signer.specs.Hold.{BeginInput, begin_of, begin_in, begun_with, answers_of, turn_moment}
+use Rattle.sequential_signer.specs.Hold.{BeginInput, begin_of, begin_in, answers_of, turn_moment}
 use Rattle.sequential_signer.specs.SequentialCache.{sequential_cache}
 use Rattle.sequential_signer.specs.ExpectedReply.{expected_reply, progress_reply, waking, done_head}
 use Rattle.sequential_signer.specs.Legal.{IsLegalEntry}
@@ -25,14 +24,14 @@ use Rattle.sequential_signer.specs.declared.event.Event.{Event}
 use Rattle.sequential_signer.specs.declared.event.Event.TheVariants.{Begin, Poll, Provided, Signed, Cancel}
 use Rattle.sequential_signer.specs.declared.event.Loader.TheVariants.{Single}
 use Rattle.sequential_signer.specs.declared.event.Reply.{Reply}
-use Rattle.sequential_signer.specs.declared.event.Reply.TheVariants.{Begun, Pending, OutOfMemory, Ask, Sign, Done}
+use Rattle.sequential_signer.specs.declared.event.Reply.TheVariants.{Begun, Pending, Ask, Sign, Done}
 use Rattle.sequential_signer.specs.declared.event.Verdict.{Verdict}
 use Rattle.sequential_signer.specs.declared.event.Verdict.TheVariants.{Accepted}
 use Rattle.std.specs.declared.time.Duration.{Duration}
 use Rattle.wake_lock.proofs.Calls.{same_call-eq, same_call-refl}
 use Rattle.wake_lock.proofs.Truth.{and_left, and_right}
 use Rattle.sequential_signer.proofs.Lists.{last_of-more, filter-more_yes, filter-more_no, list_all-more, false_by}
-use Rattle.sequential_signer.proofs.OwnEntries.{entries_of-own, to_queued, phase_in-pending}
+use Rattle.sequential_signer.proofs.OwnEntries.{to_queued, phase_in-pending}
 use Rattle.sequential_signer.proofs.NewNumbers.{new_is_unbegun}
 use Rattle.sequential_signer.proofs.LegalStep.{LegalStep}
 use Rattle.sequential_signer.proofs.Run.{IsRun, more, legal_entry_step}
@@ -101,10 +100,12 @@ module _ {K D : Type 0} (policy : Policy K D) (setup : Setup D) (loads : slice_g
     -- a look at one that serves hands it out
     signs_look : (c : K) (now : ℤ) → is_waiting (phase_of entries call) ≡ true → has_turn setup entries 0 call ≡ true → sequential_cache policy setup entries 0 ≡ Some c
         → serves_at policy c rule begin.duration now ≡ true → (wake : Option CallId) × (expected_reply policy setup entries (Poll call now) ≡ Sign c wake)
-    signs_look c now w t full lasts =
-        (_, expected_look now w t
-        ∙ ap (λ (v : Option K). waking setup entries 0 (Poll call now) (progress_reply (sequential_call policy v Single (look_with now)))) full
-        ∙ ap (λ (o : Option (Outcome K)). waking setup entries 0 (Poll call now) (progress_reply (after_lookup o (Some c) (load_progress (check_refreshed policy rule begin.duration) Single (Some c) 0 None)))) (serving_look policy c rule begin.duration now lasts))
+    signs_look c now w t full lasts = (
+      _,
+      expected_look now w t
+          ∙ ap (λ (v : Option K). waking setup entries 0 (Poll call now) (progress_reply (sequential_call policy v Single (look_with now)))) full
+          ∙ ap (λ (o : Option (Outcome K)). waking setup entries 0 (Poll call now) (progress_reply (after_lookup o (Some c) (load_progress (check_refreshed policy rule begin.duration) Single (Some c) 0 None)))) (serving_look policy c rule begin.duration now lasts),
+    )
 
     abbrev answered : K → ℤ → ℤ → HoldInput K D
     answered c now turn = record { rule = rule; duration = begin.duration; now = turn; answers = answers_of entries call ++ (Found c, now) ∷ [] }
@@ -117,11 +118,13 @@ module _ {K D : Type 0} (policy : Policy K D) (setup : Setup D) (loads : slice_g
     -- what is found for an empty cache is handed out
     signs_answer : (c : K) (now turn : ℤ) → is_loading (phase_of entries call) ≡ true → turn_moment setup entries 0 call ≡ Some turn → sequential_cache policy setup entries 0 ≡ None
         → serves_at policy c rule begin.duration now ≡ true → (wake : Option CallId) × (expected_reply policy setup entries (Provided call now (Found c)) ≡ Sign c wake)
-    signs_answer c now turn l h empty lasts =
-        (_, expected_answer c now turn l h
-        ∙ ap (λ (v : Option K). waking setup entries 0 (Provided call now (Found c)) (progress_reply (sequential_call policy v Single (answered c now turn)))) empty
-        ∙ ap (λ (o : Option (Answer K × ℤ)). waking setup entries 0 (Provided call now (Found c)) (progress_reply (load_progress (check_refreshed policy rule begin.duration) Single None (length (answers_of entries call ++ (Found c, now) ∷ [])) o))) (last_of-more (answers_of entries call) (Found c, now))
-        ∙ ap (λ (o : Outcome K). waking setup entries 0 (Provided call now (Found c)) (progress_reply (found_progress o None))) (serving_check policy c rule begin.duration now lasts))
+    signs_answer c now turn l h empty lasts = (
+      _,
+      expected_answer c now turn l h
+          ∙ ap (λ (v : Option K). waking setup entries 0 (Provided call now (Found c)) (progress_reply (sequential_call policy v Single (answered c now turn)))) empty
+          ∙ ap (λ (o : Option (Answer K × ℤ)). waking setup entries 0 (Provided call now (Found c)) (progress_reply (load_progress (check_refreshed policy rule begin.duration) Single None (length (answers_of entries call ++ (Found c, now) ∷ [])) o))) (last_of-more (answers_of entries call) (Found c, now))
+          ∙ ap (λ (o : Outcome K). waking setup entries 0 (Provided call now (Found c)) (progress_reply (found_progress o None))) (serving_check policy c rule begin.duration now lasts),
+    )
 
 module _ {K D : Type 0} (policy : Policy K D) (setup : Setup D) (c : K) (moment : ℤ) where
   -- how many entries ask a provider, and how many are done
@@ -226,9 +229,9 @@ module _ {K D : Type 0} (policy : Policy K D) (setup : Setup D) (c : K) (moment 
     begun_state call head expires_in step at new (loading x atx l empty a d unsigned) =
         let e : Event K = Begin call head expires_in in
         let others : same_call x call ≡ false = false_by (same_call x call) (λ s.
-            let had : is_some (begin_of entries x) ≡ true = (run_loads policy setup entries pool.run x 0 atx l).begun in
-            let none : is_some (begin_of entries call) ≡ false = new_begins_nothing entries call new in
-            false≢true (sym none ∙ ap (λ v. is_some (begin_of entries v)) (sym (same_call-eq x call s)) ∙ had)) in
+        let had : is_some (begin_of entries x) ≡ true = (run_loads policy setup entries pool.run x 0 atx l).begun in
+        let none : is_some (begin_of entries call) ≡ false = new_begins_nothing entries call new in
+        false≢true (sym none ∙ ap (λ v. is_some (begin_of entries v)) (sym (same_call-eq x call s)) ∙ had)) in
         loading x atx (ap is_loading (phase-other setup entries 0 (record { event = e; reply = Begun }) x others) ∙ l)
         (cache_next e Begun step at ∙ empty) (asks_same entries e Begun refl ∙ a) (dones_same entries e Begun refl ∙ d) (unsigned_mark entries e Begun refl (begun_signs_not K) unsigned)
     begun_state call head expires_in step at new (loaded full a idle) =

@@ -1,5 +1,5 @@
 -- What holds of each entry after those before it, read from some of the entries alone.
-use Rattle.std.proofs.Common.{◌≡◌, ◌⊎◌, inl, inr, Bool, true, false, cond, List, [], ◌∷◌, ◌++◌, filter, length, refl, sym, ◌∙◌, ap, subst, arith}
+use Rattle.std.proofs.Common.{◌≡◌, ◌⊎◌, inl, inr, Bool, true, false, cond, List, [], ◌∷◌, ◌++◌, filter, length, refl, sym, ◌∙◌, subst, arith}
 use Rattle.std.proofs.lemmas.Bool.{false≢true}
 use Rattle.sequential_signer.specs.Legal.{AreLegalAfter}
 use Rattle.sequential_signer.proofs.Lists.{filter-more_yes, filter-more_no}

@@ -1,5 +1,5 @@
 -- The receipts of a worker at a gate that answers at once: they are of its handle, and each event fits after those before it.
-use Rattle.std.proofs.Common.{◌≡◌, ◌≢◌, ℕ, ℤ, suc, ◌<◌, ◌≤◌, Bool, true, false, not, ◌||◌, ◌&&◌, cond, List, [], ◌∷◌, ◌++◌, Option, Some, None, map, refl, sym, ◌∙◌, ap, subst, nat_lt, ◌==◌, arith}
+use Rattle.std.proofs.Common.{◌≡◌, ◌≢◌, ℕ, ℤ, suc, ◌<◌, ◌≤◌, Bool, true, false, not, ◌||◌, ◌&&◌, List, [], ◌∷◌, ◌++◌, map, refl, sym, ◌∙◌, ap, subst, nat_lt, ◌==◌, arith}
 use Rattle.std.specs.List.{list_all}
 use Rattle.std.proofs.lemmas.Bool.{false≢true}
 use Rattle.std.proofs.lemmas.Bool.Decides.{nat_tests}
@@ -8,21 +8,20 @@ use Rattle.wake_lock.specs.declared.CallId.{CallId}
 use Rattle.sequential_signer.specs.Policy.{Policy}
 use Rattle.sequential_signer.specs.Setup.{Setup}
 use Rattle.sequential_signer.specs.Transcript.{call_of, is_out_of_memory}
-use Rattle.sequential_signer.specs.Phase.{is_new_number, is_begin_under, is_not_now}
+use Rattle.sequential_signer.specs.Phase.{is_new_number, is_begin_under}
 use Rattle.sequential_signer.specs.Legal.{AreLegalAfter}
 use Rattle.sequential_signer.specs.declared.event.Entry.{Entry}
 use Rattle.sequential_signer.specs.declared.event.Event.{Event}
 use Rattle.sequential_signer.specs.declared.event.Event.TheVariants.{Begin}
 use Rattle.sequential_signer.specs.declared.event.Reply.{Reply}
 use Rattle.sequential_signer.specs.declared.event.Reply.TheVariants as reply
-use Rattle.wake_lock.proofs.Calls.{same_call-refl}
 use Rattle.wake_lock.proofs.Truth.{and_left, and_right, number_refl}
 use Rattle.sequential_signer.proofs.Lists.{list_all-more, list_all-by, false_by, or_true}
 use Rattle.sequential_signer.proofs.Run.{out_of_memory-is}
 use Rattle.sign_desk.specs.ReplyKinds.{is_reply_to}
 use Rattle.signer_book.specs.declared.pass.Receipt.{Receipt}
 use Rattle.signer_shared.specs.Gates.{GateMeaning}
-use Rattle.signer_shared.specs.Serving.{IsNext, IsGivenUp, IsLive, IsStep, goes_on, gives_up, runs_out, IsCourse, ServesAll, next_after, ran_out}
+use Rattle.signer_shared.specs.Serving.{IsNext, IsGivenUp, IsStep, goes_on, gives_up, runs_out, IsCourse, ServesAll, next_after, ran_out}
 use Rattle.signer_shared.specs.declared.job.Job.{Job}
 use Rattle.pool_jobs.specs.Laws.{goes_well}
 use Rattle.pool_jobs.specs.PromptGates.{AnswersAtOnce, IsWorkerJob, AreWorkerJobs}
@@ -152,8 +151,8 @@ module _ {K D : Type 0} (policy : Policy K D) (setup : Setup D) (c : K) (moment 
         let here : IsExpected policy setup c moment past x.entry =
         (in_memory x.entry.reply g.kept, λ well. next_fits policy setup c moment handle job known gate prompt past x.entry.event r g.event (stands well)) in
         let later : all_well (past ++ x.entry ∷ []) ≡ true → StandsAt policy setup c moment job x.entry.reply (past ++ x.entry ∷ []) = λ well.
-            let both : (all_well past && goes_well x.entry.reply) ≡ true = sym (list_all-more (λ (e : Entry K). goes_well e.reply) past x.entry) ∙ well in
-            stands_after policy setup c moment job past x.entry.event x.entry.reply g.kind (and_right (all_well past) (goes_well x.entry.reply) both) gate r g.event (stands (and_left (all_well past) (goes_well x.entry.reply) both)) in
+        let both : (all_well past && goes_well x.entry.reply) ≡ true = sym (list_all-more (λ (e : Entry K). goes_well e.reply) past x.entry) ∙ well in
+        stands_after policy setup c moment job past x.entry.event x.entry.reply g.kind (and_right (all_well past) (goes_well x.entry.reply) both) gate r g.event (stands (and_left (all_well past) (goes_well x.entry.reply) both)) in
         (here, expected_after x.entry.reply (past ++ x.entry ∷ []) rest g.course later)
 
     -- so are those of a whole course, whose call has a new number
@@ -163,8 +162,8 @@ module _ {K D : Type 0} (policy : Policy K D) (setup : Setup D) (c : K) (moment 
         let here : IsExpected policy setup c moment past x.entry =
         (in_memory x.entry.reply course.kept, λ well. begin_fits policy setup c moment handle job known past x.entry.event course.event new) in
         let later : all_well (past ++ x.entry ∷ []) ≡ true → StandsAt policy setup c moment job x.entry.reply (past ++ x.entry ∷ []) = λ well.
-            let both : (all_well past && goes_well x.entry.reply) ≡ true = sym (list_all-more (λ (e : Entry K). goes_well e.reply) past x.entry) ∙ well in
-            stands_begun policy setup c moment job past x.entry.event x.entry.reply course.kind (and_right (all_well past) (goes_well x.entry.reply) both) course.event new in
+        let both : (all_well past && goes_well x.entry.reply) ≡ true = sym (list_all-more (λ (e : Entry K). goes_well e.reply) past x.entry) ∙ well in
+        stands_begun policy setup c moment job past x.entry.event x.entry.reply course.kind (and_right (all_well past) (goes_well x.entry.reply) both) course.event new in
         (here, expected_after x.entry.reply (past ++ x.entry ∷ []) rest course.course later)
 
   -- whether the number of an entry's call is below this one

@@ -1,25 +1,21 @@
 -- What the events of a worker are at a gate that answers at once, and that each of them fits after those of its handle.
-use Rattle.std.proofs.Common.{◌≡◌, ◌≢◌, ℕ, ℤ, suc, ◌<◌, ◌≤◌, Bool, true, false, not, ◌||◌, cond, List, [], ◌∷◌, ◌++◌, Option, Some, None, is_some, option_map, map, refl, sym, ◌∙◌, ap, subst, nat_lt, ◌==◌, arith}
-use Rattle.std.specs.List.{list_any, list_all}
+use Rattle.std.proofs.Common.{◌≡◌, ℕ, ℤ, true, ◌||◌, List, [], ◌∷◌, ◌++◌, Option, Some, is_some, option_map, refl, sym, ◌∙◌, ap, subst}
+use Rattle.std.specs.List.{list_any}
 use Rattle.std.specs.Duration.{as_nanos}
-use Rattle.sign_base.specs.declared.head.Head.{Head}
 use Rattle.wake_lock.specs.declared.CallId.{CallId}
 use Rattle.wake_lock.specs.Calls.{same_call}
 use Rattle.sequential_signer.specs.Policy.{Policy}
-use Rattle.sequential_signer.specs.Setup.{Setup, cache_of, rule_of}
-use Rattle.sequential_signer.specs.Transcript.{call_of, entries_of, is_out_of_memory}
-use Rattle.sequential_signer.specs.Phase.{Phase, Unknown, Unpolled, Queued, Loading, Signing, Ended, is_mark, phase_of, phase_in, phase_by, is_waiting, is_loading, is_signing, is_new_number, is_waiting_poll}
+use Rattle.sequential_signer.specs.Setup.{Setup}
+use Rattle.sequential_signer.specs.Transcript.{call_of, entries_of}
+use Rattle.sequential_signer.specs.Phase.{is_mark, phase_of, phase_by, is_waiting, is_loading, is_signing, is_new_number, is_waiting_poll}
 use Rattle.sequential_signer.specs.Hold.{BeginInput, begin_of, begin_in}
-use Rattle.sequential_signer.specs.LawsOfCaches.{serves_at}
 use Rattle.sequential_signer.specs.declared.event.Answer.{Answer}
-use Rattle.sequential_signer.specs.declared.event.Answer.TheVariants.{Found}
 use Rattle.sequential_signer.specs.declared.event.Entry.{Entry}
 use Rattle.sequential_signer.specs.declared.event.Event.{Event}
-use Rattle.sequential_signer.specs.declared.event.Event.TheVariants.{Begin, Poll, Provided, Signed, Cancel}
+use Rattle.sequential_signer.specs.declared.event.Event.TheVariants.{Begin, Poll, Provided, Signed}
 use Rattle.sequential_signer.specs.declared.event.Reply.{Reply}
 use Rattle.sequential_signer.specs.declared.event.Reply.TheVariants.{Begun, Pending, NotNow, OutOfMemory, Ask, Sign, Refused, Done, Cancelled}
 use Rattle.sequential_signer.specs.declared.event.Verdict.{Verdict}
-use Rattle.sequential_signer.specs.declared.event.Verdict.TheVariants.{Accepted}
 use Rattle.wake_lock.proofs.Calls.{same_call-refl}
 use Rattle.sequential_signer.proofs.OwnEntries.{entries_of-own, to_queued, phase_in-pending, begin_in-new}
 use Rattle.sequential_signer.proofs.NewNumbers.{new_is_unbegun}
@@ -31,7 +27,7 @@ use Rattle.signer_shared.specs.declared.job.Job.{Job}
 use Rattle.pool_jobs.specs.Laws.{goes_well}
 use Rattle.pool_jobs.specs.PromptGates.{AnswersAtOnce, IsWorkerJob}
 use Rattle.pool_jobs.proofs.CallPhases.{queued_waits, begun_waits, phase-own, phase_is-in}
-use Rattle.pool_jobs.proofs.FittingEvents.{all_well, HasBegun, Fits}
+use Rattle.pool_jobs.proofs.FittingEvents.{HasBegun, Fits}
 
 -- what a job's call is begun with
 abbrev pub job_begin : Job → BeginInput
@@ -88,9 +84,10 @@ module _ {K D : Type 0} (policy : Policy K D) (setup : Setup D) (c : K) (moment 
     after_begin : (reply : Reply K) → is_reply_to (Begin job.call job.head job.expires_in) reply ≡ true → goes_well reply ≡ true → is_new_number past job.call ≡ true
         → StandsAt job reply (past ++ record { event = Begin job.call job.head job.expires_in; reply = reply } ∷ [])
     after_begin Begun kind well s =
-        let made : Entry K = record { event = Begin job.call job.head job.expires_in; reply = Begun } in
-        (begin_new made refl s,
-        ap is_waiting (phase-own_mark setup past 0 made job.call (same_call-refl job.call) refl) ∙ begun_waits K _)
+        let made : Entry K = record { event = Begin job.call job.head job.expires_in; reply = Begun } in (
+          begin_new made refl s,
+          ap is_waiting (phase-own_mark setup past 0 made job.call (same_call-refl job.call) refl) ∙ begun_waits K _,
+        )
     after_begin Pending kind well s = absurd (cc)
     after_begin NotNow kind well s = absurd (cc)
     after_begin OutOfMemory kind well s = absurd (cc)
@@ -103,10 +100,11 @@ module _ {K D : Type 0} (policy : Policy K D) (setup : Setup D) (c : K) (moment 
     after_poll : (now : ℤ) (reply : Reply K) → is_reply_to (Poll job.call now) reply ≡ true → goes_well reply ≡ true → (begin_of past job.call ≡ Some (job_begin job)) × (is_waiting (phase_of past job.call) ≡ true)
         → StandsAt job reply (past ++ record { event = Poll job.call now; reply = reply } ∷ [])
     after_poll now Pending kind well s =
-        let made : Entry K = record { event = Poll job.call now; reply = Pending } in
-        (begin_kept made (same_call-refl job.call) s.0,
-        ap is_waiting (phase-own past job.call made (same_call-refl job.call) ∙ phase_in-pending (entries_of past job.call) job.call now ∙ ap to_queued (phase_is-in past job.call))
-        ∙ queued_waits (phase_of past job.call) s.1)
+        let made : Entry K = record { event = Poll job.call now; reply = Pending } in (
+          begin_kept made (same_call-refl job.call) s.0,
+          ap is_waiting (phase-own past job.call made (same_call-refl job.call) ∙ phase_in-pending (entries_of past job.call) job.call now ∙ ap to_queued (phase_is-in past job.call))
+              ∙ queued_waits (phase_of past job.call) s.1,
+        )
     after_poll now (Ask p) kind well s =
         let made : Entry K = record { event = Poll job.call now; reply = Ask p } in
         (begin_kept made (same_call-refl job.call) s.0, loads-own_mark setup past 0 made job.call (same_call-refl job.call) refl)

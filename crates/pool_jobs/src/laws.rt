@@ -10,11 +10,7 @@ use signer_shared::Gate;
 /// the gate answers at once and none of them ran out of memory: no event misfits, no call is refused or
 /// given up, and the provider is asked once, or not at all where there is no job. So it is in every order
 /// in which the workers' steps may come.
-pub fn prompt_calls_are_signed<
-    K: SigningCredential,
-    D: DeadlineRule<Credential = K>,
-    G: Gate<K>,
->()
+pub fn prompt_calls_are_signed<K: SigningCredential, D: DeadlineRule<Credential = K>, G: Gate<K>>()
     ensures { (gate : G) → PromptCallsAreSigned (policy_of K.valid K.valid_at D.deadline) (G.meaning gate) }
 {}
 

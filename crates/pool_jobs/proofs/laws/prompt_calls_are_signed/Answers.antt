@@ -1,4 +1,3 @@
-use Rattle.sequential_signer.specs.Policy.{policy_of}
 use Rattle.pool_jobs.proofs.PoolLaw.{prompt_calls_are_signed}
 use Rattle.pool_jobs.proofs.laws.prompt_calls_are_signed.Goals as goal
 
