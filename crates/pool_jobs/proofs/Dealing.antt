@@ -63,6 +63,7 @@ module _ {X : Type 0} (item : ℕ → ℕ → X) (lists : ℕ) where
     where
       new : List X
       new = get_or (dealt n) next [] ++ item next n ∷ []
+
       by_test : (k : ℕ) → k < lists → (b : Bool) → (n % lists == k) ≡ b → get_or (dealt (n + 1)) k [] ≡ get_or (set (dealt n) next new) k []
       by_test k kl true t =
           let e : k ≡ next = grind (arith, nat_tests) in
@@ -71,7 +72,6 @@ module _ {X : Type 0} (item : ℕ → ℕ → X) (lists : ℕ) where
       by_test k kl false t =
           let e : k ≡ next → ⊥ = λ same. grind (arith, nat_tests) in
           at (n + 1) k kl ∙ keeps n k t ∙ sym (at n k kl) ∙ sym (get_or-set_other (dealt n) next k new [] e)
-
 
   -- so many empty lists are dealt out, seen through a view
   pub empties_len : {V : Type 0} (view : V → List X) (work : List V) (n : ℕ)

@@ -1,2 +1,16 @@
 pub mod Dealing
 pub mod DeskSetup
+pub mod Dealt
+pub mod Picked
+pub mod CallPhases
+pub mod FittingEvents
+pub mod WorkerEvents
+pub mod WorkerCourses
+pub mod Spread
+pub mod DealtPasses
+pub mod HandleEntries
+pub mod PoolStates
+pub mod PoolRuns
+pub mod PoolCounts
+pub mod PoolLists
+pub mod PoolLaw

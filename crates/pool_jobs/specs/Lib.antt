@@ -2,3 +2,5 @@ pub mod Setup
 pub mod Work
 pub mod Meaning
 pub mod Run
+pub mod PromptGates
+pub mod Laws

@@ -1,5 +1,5 @@
 -- What the gate of a pool may answer.
-use Rattle.std.specs.Prelude.{◌≡◌, ⊤, ℤ, pos, ◌*◌, [], ◌∷◌, ◌++◌, codes}
+use Rattle.std.specs.Prelude.{◌≡◌, ⊤, pos, ◌*◌, [], ◌∷◌, ◌++◌, codes}
 use Rattle.sign_base.specs.declared.head.Head.{Head}
 use Rattle.sign_base.specs.declared.head.Field.{Field}
 use Rattle.sequential_signer.specs.declared.event.Answer.TheVariants.{Found}

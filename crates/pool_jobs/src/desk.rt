@@ -31,9 +31,7 @@ pub fn pool_desk(
 }
 
 /// A desk with one cache of one provider, and the rule `now`.
-fn desk_without_handles(
-    alloc: Global,
-) -> Result<Desk<ScriptCredential, ScriptRule>, NoMemory<()>>
+fn desk_without_handles(alloc: Global) -> Result<Desk<ScriptCredential, ScriptRule>, NoMemory<()>>
     ensures setup { IfOk result (λ desk. setup_of desk ≡ pool_setup 0) }
     ensures fresh { IfOk result (λ desk. Represents script_policy desk []) }
 {

@@ -5,6 +5,7 @@
 mod desk;
 mod gate;
 mod head;
+pub mod laws;
 mod work;
 
 pub use desk::pool_desk;

@@ -13,3 +13,4 @@ pub mod Grammar
 pub mod Reading
 pub mod Readers
 pub mod Carrying
+pub mod SameCredential

@@ -44,9 +44,9 @@ impl SigningCredential for ScriptCredential {
 }
 
 impl EqualByValue for ScriptCredential {
-    ghost use Rattle.std.proofs.Common.{rules};
+    ghost use Rattle.signctl_format.specs.SameCredential.{same_credential};
 
-    ghost by_value = { Prim.search rules };
+    ghost by_value = { same_credential };
 }
 
 /// How long a credential has to last.

@@ -1,4 +1,4 @@
-use Rattle.std.proofs.Common.{◌≡◌, ◌<◌, ℕ, ◌%◌, ◌/◌, arith, ap, sym, ◌∙◌, [], ◌∷◌, ◌++◌}
+use Rattle.std.proofs.Common.{ℕ, ◌%◌, ◌/◌, arith, ap, sym, ◌∙◌, [], ◌∷◌, ◌++◌}
 use Rattle.signer_shared.specs.declared.job.Job.{Job}
 use Rattle.pool_jobs.specs.Work.{pool_job}
 use Rattle.pool_jobs.proofs.Dealing.{next_below, next_list, deals_through}

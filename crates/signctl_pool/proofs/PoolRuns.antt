@@ -1,0 +1,137 @@
+-- How runs of a pool end.
+use Rattle.std.proofs.Common.{◌≡◌, ℕ, Bool, true, false, ◌||◌, List, [], ◌∷◌, Option, Some, None, refl, sym, ◌∙◌, ap, subst}
+use Rattle.std.specs.Prelude.{All}
+use Rattle.std.specs.List.{list_any}
+use Rattle.sign_base.specs.Faults.{CountsFault}
+use Rattle.sequential_signer.specs.Setup.{Setup}
+use Rattle.sequential_signer.specs.Legal.{IsLegal}
+use Rattle.desk_parts.specs.Tables.{setup_of}
+use Rattle.sign_desk.specs.DeskState.{DeskState, Represents}
+use Rattle.signer_book.specs.Close.{IsCloseCause}
+use Rattle.signer_book.specs.Settled.{IsSettled}
+use Rattle.signer_book.specs.declared.settled.CloseRefused.{CloseRefused}
+use Rattle.signer_book.specs.declared.settled.Settled.{Settled}
+use Rattle.signer_shared.specs.Gates.{GateMeaning}
+use Rattle.signer_shared.specs.Pools.{ServesLists}
+use Rattle.signer_shared.specs.declared.job.Job.{Job}
+use Rattle.signer_shared.specs.declared.job.Served.{Served}
+use Rattle.signctl_driver.specs.Status.{is_write_fault}
+use Rattle.signctl_driver.specs.declared.status.Status.TheVariants as status
+use Rattle.signctl_format.specs.Policy.{script_policy}
+use Rattle.signctl_format.specs.declared.credential.ScriptCredential.{ScriptCredential}
+use Rattle.signctl_format.specs.declared.credential.ScriptRule.{ScriptRule}
+use Rattle.pool_jobs.specs.Setup.{pool_setup}
+use Rattle.pool_jobs.specs.Work.{pool_work}
+use Rattle.pool_jobs.specs.Run.{ServesPool, IsPoolRun}
+use Rattle.signctl_pool.specs.Ends.{status_of}
+use Rattle.signctl_pool.specs.Pool.{Written, IsSettledPool, IsRefusedPool, EndsEarly, EndsPool, IsThreadsRun}
+use Rattle.signctl_pool.specs.declared.end.PoolEnd.{PoolEnd}
+use Rattle.signctl_pool.specs.declared.end.PoolEnd.TheVariants as end
+use Rattle.signctl_pool.specs.declared.words.PoolCommand.{PoolCommand}
+use Rattle.signctl_pool.specs.declared.words.PoolCommand.TheVariants.{Pool}
+
+left_false : (a b : Bool) → (a || b) ≡ false → a ≡ false
+left_false false b h = refl
+left_false true b h = h
+
+right_false : (a b : Bool) → (a || b) ≡ false → b ≡ false
+right_false false b h = h
+right_false true b h = absurd (cc)
+
+-- where no worker ran out of memory, each did not
+none_ran_out : (served : List Served) → list_any (λ s. s.out_of_memory) served ≡ false → All (λ s. s.out_of_memory ≡ false) served
+none_ran_out [] h = tt
+none_ran_out (s ∷ rest) h =
+    (left_false s.out_of_memory (list_any (λ x. x.out_of_memory) rest) h,
+        none_ran_out rest (right_false s.out_of_memory (list_any (λ x. x.out_of_memory) rest) h))
+
+module _ (gate : GateMeaning ScriptCredential) (workers jobs : ℕ) where
+  serves_pool : (work : List (List Job)) (passes : _) (served : List Served) → work ≡ pool_work workers jobs
+      → ServesLists gate 1 work passes served → list_any (λ s. s.out_of_memory) served ≡ false → ServesPool gate workers jobs passes served
+  serves_pool work passes served is serves none =
+      (subst (λ w. ServesLists gate 1 w passes served) is serves, none_ran_out served none)
+
+  -- a signer of the pool's plan that was closed
+  pub settles : (settled : Settled ScriptCredential ScriptRule) (plan : DeskState ScriptCredential ScriptRule) (work : List (List Job)) (served : List Served)
+      → setup_of plan ≡ pool_setup workers → work ≡ pool_work workers jobs
+      → IsSettled settled.journal.items settled.passes.items
+      → (setup_of settled.desk ≡ setup_of plan) × Represents script_policy settled.desk settled.journal.items
+      → ServesLists gate 1 work settled.passes.items served → list_any (λ s. s.out_of_memory) served ≡ false
+      → IsSettledPool gate workers jobs settled
+  settles settled plan work served planned dealt settles desk serves none =
+      let setup : setup_of settled.desk ≡ pool_setup workers = desk.0 ∙ planned in
+      record {
+        setup = setup;
+        represents = desk.1;
+        run = (served, record {
+              settled = settles;
+              legal = subst (λ (s : Setup ScriptRule). IsLegal script_policy s settled.journal.items) setup desk.1.legal;
+              serves = serves_pool work settled.passes.items served dealt serves none;
+            });
+      }
+
+  -- a signer of the pool's plan that was not closed
+  pub refuses : (refused : CloseRefused ScriptCredential ScriptRule) (plan : DeskState ScriptCredential ScriptRule) (work : List (List Job)) (served : List Served)
+      → setup_of plan ≡ pool_setup workers → work ≡ pool_work workers jobs → refused.plan ≡ plan
+      → Represents script_policy refused.book.desk refused.book.journal
+      → IsCloseCause plan refused.book refused.passes.items refused.why
+      → ServesLists gate 1 work refused.passes.items served → list_any (λ s. s.out_of_memory) served ≡ false
+      → IsRefusedPool gate workers jobs refused
+  refuses refused plan work served planned dealt same book cause serves none = record {
+    setup = ap (λ (d : DeskState ScriptCredential ScriptRule). setup_of d) same ∙ planned;
+    book = book;
+    cause = subst (λ (d : DeskState ScriptCredential ScriptRule). IsCloseCause d refused.book refused.passes.items refused.why) (sym same) cause;
+    serves = (served, serves_pool work refused.passes.items served dealt serves none);
+  }
+
+  module _ {D : Type 0} (holds : D → Option (List ℕ)) (faults : D → ℕ) where
+    -- a run that ended early wrote nothing
+    pub ends_early : (sink : D) (ended : PoolEnd) → EndsEarly gate workers jobs ended
+        → EndsPool gate workers jobs ended (record { holds = holds; faults = faults; old = sink; new = sink })
+    ends_early sink (end.Disagreed refused) h = (h, refl)
+    ends_early sink (end.Ended status.OutOfMemory) h = refl
+    ends_early sink (end.Ended status.Done) h = h
+    ends_early sink (end.Ended status.Usage) h = h
+    ends_early sink (end.Ended status.Refused) h = h
+    ends_early sink (end.Ended status.ReadFault) h = h
+    ends_early sink (end.Ended status.WriteFault) h = absurd h
+    ends_early sink (end.Done settled) h = absurd h
+
+    -- and no write of it failed
+    pub no_fault : (sink : D) (ended : PoolEnd) → EndsEarly gate workers jobs ended
+        → CountsFault (is_write_fault (status_of ended)) (faults sink) (faults sink)
+    no_fault sink (end.Disagreed refused) h = refl
+    no_fault sink (end.Ended status.OutOfMemory) h = refl
+    no_fault sink (end.Ended status.Done) h = refl
+    no_fault sink (end.Ended status.Usage) h = refl
+    no_fault sink (end.Ended status.Refused) h = refl
+    no_fault sink (end.Ended status.ReadFault) h = refl
+    no_fault sink (end.Ended status.WriteFault) h = absurd h
+    no_fault sink (end.Done settled) h = refl
+
+    not_usage : (sink : Written D) (ended : PoolEnd) → EndsPool gate workers jobs ended sink → ended ≡ end.Ended status.Usage → ⊥
+    not_usage sink ended h e = subst (λ x. EndsPool gate workers jobs x sink) e h
+
+    -- a pool that was asked for
+    pub pool_ran : (old new : D) (ended : PoolEnd)
+        → EndsPool gate workers jobs ended (record { holds = holds; faults = faults; old = old; new = new })
+        → CountsFault (is_write_fault (status_of ended)) (faults old) (faults new)
+        → IsThreadsRun gate (Some (Pool workers jobs)) ended (record { holds = holds; faults = faults; old = old; new = new })
+    pool_ran old new ended h writes =
+        let sink : Written D = record { holds = holds; faults = faults; old = old; new = new } in
+        record {
+          usage = (λ e. absurd (not_usage sink ended h e), λ e. absurd (cc));
+          untouched = λ e. absurd (not_usage sink ended h e);
+          gives = h;
+          writes = writes;
+        }
+
+-- nothing was asked for
+pub nothing_asked : {D : Type 0} (gate : GateMeaning ScriptCredential) (holds : D → Option (List ℕ)) (faults : D → ℕ) (sink : D)
+    → IsThreadsRun gate None (end.Ended status.Usage) (record { holds = holds; faults = faults; old = sink; new = sink })
+nothing_asked gate holds faults sink = record {
+  usage = (λ _. refl, λ _. refl);
+  untouched = λ _. refl;
+  gives = tt;
+  writes = refl;
+}
