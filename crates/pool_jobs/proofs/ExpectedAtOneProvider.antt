@@ -1,48 +1,28 @@
 -- The expected replies at a cache with one provider, whose credential is good for the calls.
-use Rattle.std.proofs.Common.{◌≡◌, ℕ, ℤ, suc, ◌+◌, Bool, true, false, List, [], ◌∷◌, ◌++◌, Option, Some, None, is_some, inl, inr, filter, length, slice_get, refl, sym, ◌∙◌, ap, subst, arith, length-append}
-use Rattle.std.specs.Option.{option_or}
-use Rattle.std.proofs.lemmas.Bool.{false≢true}
+use Rattle.std.proofs.Common.{◌≡◌, ℕ, ℤ, true, false, List, [], ◌∷◌, ◌++◌, Option, Some, None, length, slice_get, refl, ◌∙◌, ap}
 use Rattle.sign_base.specs.declared.head.Head.{Head}
 use Rattle.wake_lock.specs.declared.CallId.{CallId}
-use Rattle.wake_lock.specs.Calls.{same_call}
 use Rattle.sequential_signer.specs.Lookup.{Outcome, HandOut, cache_lookup, lookup_by, check_by, check_refreshed}
 use Rattle.sequential_signer.specs.Policy.{Policy}
 use Rattle.sequential_signer.specs.SequentialCall.{HoldInput, sequential_call, after_lookup, found_progress, load_progress}
 use Rattle.sequential_signer.specs.Setup.{Setup, cache_of, rule_of}
-use Rattle.sequential_signer.specs.Transcript.{call_of, entries_of, is_out_of_memory}
-use Rattle.sequential_signer.specs.Phase.{is_mark, phase_of, phase_by, is_waiting, is_loading, is_signing, is_new_number}
+use Rattle.sequential_signer.specs.Phase.{phase_of, is_waiting, is_loading, is_signing, is_new_number}
 use Rattle.sequential_signer.specs.Turn.{has_turn}
-use Rattle.sequential_signer.specs.Hold.{BeginInput, begin_of, begin_in, answers_of, turn_moment}
+use Rattle.sequential_signer.specs.Hold.{BeginInput, begin_of, answers_of, turn_moment}
 use Rattle.sequential_signer.specs.SequentialCache.{sequential_cache}
 use Rattle.sequential_signer.specs.ExpectedReply.{expected_reply, progress_reply, waking, done_head}
-use Rattle.sequential_signer.specs.Legal.{IsLegalEntry}
-use Rattle.sequential_signer.specs.LawsOfCaches.{is_ask, handed_out, lasts_to, serves_at}
+use Rattle.sequential_signer.specs.LawsOfCaches.{lasts_to, serves_at}
 use Rattle.sequential_signer.specs.declared.event.Answer.{Answer}
 use Rattle.sequential_signer.specs.declared.event.Answer.TheVariants.{Found}
 use Rattle.sequential_signer.specs.declared.event.Entry.{Entry}
-use Rattle.sequential_signer.specs.declared.event.Event.{Event}
-use Rattle.sequential_signer.specs.declared.event.Event.TheVariants.{Begin, Poll, Provided, Signed, Cancel}
+use Rattle.sequential_signer.specs.declared.event.Event.TheVariants.{Begin, Poll, Provided, Signed}
 use Rattle.sequential_signer.specs.declared.event.Loader.TheVariants.{Single}
-use Rattle.sequential_signer.specs.declared.event.Reply.{Reply}
 use Rattle.sequential_signer.specs.declared.event.Reply.TheVariants.{Begun, Pending, Ask, Sign, Done}
-use Rattle.sequential_signer.specs.declared.event.Verdict.{Verdict}
 use Rattle.sequential_signer.specs.declared.event.Verdict.TheVariants.{Accepted}
 use Rattle.std.specs.declared.time.Duration.{Duration}
-use Rattle.wake_lock.proofs.Calls.{same_call-eq, same_call-refl}
 use Rattle.wake_lock.proofs.Truth.{and_left, and_right}
-use Rattle.sequential_signer.proofs.Lists.{last_of-more, filter-more_yes, filter-more_no, list_all-more, false_by}
-use Rattle.sequential_signer.proofs.OwnEntries.{to_queued, phase_in-pending}
-use Rattle.sequential_signer.proofs.NewNumbers.{new_is_unbegun}
-use Rattle.sequential_signer.proofs.LegalStep.{LegalStep}
-use Rattle.sequential_signer.proofs.Run.{IsRun, more, legal_entry_step}
-use Rattle.sequential_signer.proofs.CallInvariant.{Waits, Loads, HadTurn, phase-other, phase-own_mark, loads-own_mark, loads-own_unmarked}
-use Rattle.sequential_signer.proofs.CallInvariantSteps.{run_waits, run_loads}
-use Rattle.sequential_signer.proofs.CacheRows.{one_turn}
-use Rattle.sequential_signer.proofs.HandedOut.{cache_own}
-use Rattle.signer_shared.specs.Serving.{is_done}
-use Rattle.pool_jobs.specs.Laws.{goes_well}
-use Rattle.pool_jobs.proofs.CallPhases.{waiting_lives, waiting_idles, queued_signing, begun_signs_not, phase-own, phase_is-in}
-use Rattle.pool_jobs.proofs.FittingEvents.{all_well, HasBegun, Fits}
+use Rattle.sequential_signer.proofs.Lists.{last_of-more}
+use Rattle.pool_jobs.proofs.CallPhases.{waiting_lives}
 
 module _ {K D : Type 0} (policy : Policy K D) where
   -- a credential that lasts passes the look and the check

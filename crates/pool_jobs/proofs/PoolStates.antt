@@ -5,18 +5,16 @@ use Rattle.std.proofs.lemmas.Bool.{false≢true}
 use Rattle.sign_base.specs.declared.head.Head.{Head}
 use Rattle.wake_lock.specs.declared.CallId.{CallId}
 use Rattle.wake_lock.specs.Calls.{same_call}
-use Rattle.sequential_signer.specs.Lookup.{Outcome, HandOut, cache_lookup, lookup_by, check_by, check_refreshed}
 use Rattle.sequential_signer.specs.Policy.{Policy}
-use Rattle.sequential_signer.specs.SequentialCall.{HoldInput, sequential_call, after_lookup, found_progress, load_progress}
-use Rattle.sequential_signer.specs.Setup.{Setup, cache_of, rule_of}
+use Rattle.sequential_signer.specs.Setup.{Setup, cache_of}
 use Rattle.sequential_signer.specs.Transcript.{call_of, entries_of, is_out_of_memory}
 use Rattle.sequential_signer.specs.Phase.{is_mark, phase_of, phase_by, is_waiting, is_loading, is_signing, is_new_number}
 use Rattle.sequential_signer.specs.Turn.{has_turn}
-use Rattle.sequential_signer.specs.Hold.{BeginInput, begin_of, begin_in, answers_of, turn_moment}
+use Rattle.sequential_signer.specs.Hold.{begin_of, begin_in}
 use Rattle.sequential_signer.specs.SequentialCache.{sequential_cache}
-use Rattle.sequential_signer.specs.ExpectedReply.{expected_reply, progress_reply, waking, done_head}
+use Rattle.sequential_signer.specs.ExpectedReply.{expected_reply, done_head}
 use Rattle.sequential_signer.specs.Legal.{IsLegalEntry}
-use Rattle.sequential_signer.specs.LawsOfCaches.{is_ask, handed_out, lasts_to, serves_at}
+use Rattle.sequential_signer.specs.LawsOfCaches.{is_ask, handed_out, serves_at}
 use Rattle.sequential_signer.specs.declared.event.Answer.{Answer}
 use Rattle.sequential_signer.specs.declared.event.Answer.TheVariants.{Found}
 use Rattle.sequential_signer.specs.declared.event.Entry.{Entry}
@@ -29,8 +27,7 @@ use Rattle.sequential_signer.specs.declared.event.Verdict.{Verdict}
 use Rattle.sequential_signer.specs.declared.event.Verdict.TheVariants.{Accepted}
 use Rattle.std.specs.declared.time.Duration.{Duration}
 use Rattle.wake_lock.proofs.Calls.{same_call-eq, same_call-refl}
-use Rattle.wake_lock.proofs.Truth.{and_left, and_right}
-use Rattle.sequential_signer.proofs.Lists.{last_of-more, filter-more_yes, filter-more_no, list_all-more, false_by}
+use Rattle.sequential_signer.proofs.Lists.{filter-more_yes, filter-more_no, list_all-more, false_by}
 use Rattle.sequential_signer.proofs.OwnEntries.{to_queued, phase_in-pending}
 use Rattle.sequential_signer.proofs.NewNumbers.{new_is_unbegun}
 use Rattle.sequential_signer.proofs.LegalStep.{LegalStep}
@@ -41,7 +38,7 @@ use Rattle.sequential_signer.proofs.CacheRows.{one_turn}
 use Rattle.sequential_signer.proofs.HandedOut.{cache_own}
 use Rattle.signer_shared.specs.Serving.{is_done}
 use Rattle.pool_jobs.specs.Laws.{goes_well}
-use Rattle.pool_jobs.proofs.CallPhases.{waiting_lives, waiting_idles, queued_signing, begun_signs_not, phase-own, phase_is-in}
+use Rattle.pool_jobs.proofs.CallPhases.{waiting_idles, queued_signing, begun_signs_not, phase-own, phase_is-in}
 use Rattle.pool_jobs.proofs.ExpectedAtOneProvider.{expected_begin, expected_wait, expected_done, asks_look, signs_look, signs_answer}
 use Rattle.pool_jobs.proofs.FittingEvents.{all_well, HasBegun, Fits}
 
