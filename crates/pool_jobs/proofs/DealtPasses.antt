@@ -17,8 +17,9 @@ use Rattle.pool_jobs.proofs.WorkerCourses.{entries}
 abbrev pub handle_of : {K : Type 0} → Entry K → ℕ
 handle_of e = (call_of e.event).handle
 
-next_place : (k p : ℕ) (ps : List ℕ) → IsStrictlyIncreasing (p ∷ ps) → IsStrictlyIncreasing ps
-next_place k p ps h = λ i lt. let e : suc i + 1 ≡ suc (i + 1) = omega arith in subst (λ n. get_or (p ∷ ps) (suc i) 0 < get_or (p ∷ ps) n 0) e (h (suc i) (omega arith))
+-- places that rise rise behind the first
+next_place : (p : ℕ) (ps : List ℕ) → IsStrictlyIncreasing (p ∷ ps) → IsStrictlyIncreasing ps
+next_place p ps h = λ i lt. let e : suc i + 1 ≡ suc (i + 1) = omega arith in subst (λ n. get_or (p ∷ ps) (suc i) 0 < get_or (p ∷ ps) n 0) e (h (suc i) (omega arith))
 
 module _ {K : Type 0} (journal : List (Entry K)) (passes : Entry K → Bool) where
   -- the receipts behind one of them
@@ -29,7 +30,7 @@ module _ {K : Type 0} (journal : List (Entry K)) (passes : Entry K → Bool) whe
     rise 0 (omega arith),
     All-head (IsEntryOf journal) s rest are,
     and_left (passes s.entry) (list_all passes (entries rest)) pass,
-    picked_behind s rest (All-tail (IsEntryOf journal) s rest are) (next_place 0 r.place (places (s ∷ rest)) rise) (and_right (passes s.entry) (list_all passes (entries rest)) pass),
+    picked_behind s rest (All-tail (IsEntryOf journal) s rest are) (next_place r.place (places (s ∷ rest)) rise) (and_right (passes s.entry) (list_all passes (entries rest)) pass),
   )
 
   -- the receipts of a pass are picked out of the journal

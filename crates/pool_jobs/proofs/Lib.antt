@@ -9,6 +9,7 @@ pub mod WorkerCourses
 pub mod Spread
 pub mod DealtPasses
 pub mod HandleEntries
+pub mod ExpectedAtOneProvider
 pub mod PoolStates
 pub mod PoolRuns
 pub mod PoolCounts

@@ -69,9 +69,9 @@ module _ {K D : Type 0} (policy : Policy K D) (setup : Setup D) (c : K) (moment 
     begin_kept : (e : Entry K) → same_call job.call (call_of e.event) ≡ true → begin_of past job.call ≡ Some (job_begin job) → begin_of (past ++ e ∷ []) job.call ≡ Some (job_begin job)
     begin_kept e own b = begin-stays setup past 0 e job.call own (ap is_some b) ∙ b
 
-    begin_new : (e : Entry K) → e ≡ record { event = Begin job.call job.head job.expires_in; reply = Begun } → is_new_number past job.call ≡ true
+    begin_new : is_new_number past job.call ≡ true
         → begin_of (past ++ record { event = Begin job.call job.head job.expires_in; reply = Begun } ∷ []) job.call ≡ Some (job_begin job)
-    begin_new e is new =
+    begin_new new =
         let made : Entry K = record { event = Begin job.call job.head job.expires_in; reply = Begun } in
         ap begin_in (entries_of-own past job.call made (same_call-refl job.call)) ∙ begin_in-new (entries_of past job.call) made (new_is_unbegun job.call past new) refl
 
@@ -85,7 +85,7 @@ module _ {K D : Type 0} (policy : Policy K D) (setup : Setup D) (c : K) (moment 
         → StandsAt job reply (past ++ record { event = Begin job.call job.head job.expires_in; reply = reply } ∷ [])
     after_begin Begun kind well s =
         let made : Entry K = record { event = Begin job.call job.head job.expires_in; reply = Begun } in (
-          begin_new made refl s,
+          begin_new s,
           ap is_waiting (phase-own_mark setup past 0 made job.call (same_call-refl job.call) refl) ∙ begun_waits K _,
         )
     after_begin Pending kind well s = absurd (cc)
