@@ -68,21 +68,19 @@ pub struct Meeting {
     pub steady: Steady,
 }
 
-impl Meeting {
-    /// Whether the load of the other handle is asked too. It is looked at so often that a thread has time
-    /// to start.
-    fn meets(&self, mine: usize, other: usize) -> bool
-        requires mine { mine < 2 }
-        requires other { other < 2 }
-    {
-        self.asked[mine].store(1, Ordering::SeqCst);
-        for _ in 0..1_000_000_000u64 {
-            if self.asked[other].load(Ordering::SeqCst) == 1 {
-                return true;
-            }
+/// Notes that one of two was asked, and waits until the other is. It is looked at so often that a thread has time
+/// to start.
+pub fn meets(asked: &[AtomicU64; 2], mine: usize, other: usize) -> bool
+    requires mine { mine < 2 }
+    requires other { other < 2 }
+{
+    asked[mine].store(1, Ordering::SeqCst);
+    for _ in 0..1_000_000_000u64 {
+        if asked[other].load(Ordering::SeqCst) == 1 {
+            return true;
         }
-        false
     }
+    false
 }
 
 impl Gate<Key> for Meeting {
@@ -95,9 +93,9 @@ impl Gate<Key> for Meeting {
 
     fn load(&self, call: CallId, provider: u32, turn: u64) -> GateLoad<Key> {
         let met = if call.handle == 0 {
-            self.meets(0, 1)
+            meets(&self.asked, 0, 1)
         } else {
-            self.meets(1, 0)
+            meets(&self.asked, 1, 0)
         };
         if met {
             self.steady.load(call, provider, turn)

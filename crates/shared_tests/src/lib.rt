@@ -6,5 +6,6 @@ mod closing;
 mod gates;
 mod key;
 mod meeting;
+mod pool;
 mod serving;
 mod signers;

@@ -38,7 +38,6 @@ fn push_count(text: &mut Vec<u8>, kind: &[u8], count: u64) -> Result<(), NoMemor
 }
 
 /// How many heads were signed.
-#[tactic(auto, using(crate::proofs::Counts::count_is))]
 fn signed(journal: &[Entry<ScriptCredential>]) -> u64
     ensures { result ≡ signed journal.now }
 {
@@ -46,7 +45,6 @@ fn signed(journal: &[Entry<ScriptCredential>]) -> u64
 }
 
 /// How often the provider was asked.
-#[tactic(auto, using(crate::proofs::Counts::count_is))]
 fn loads(journal: &[Entry<ScriptCredential>]) -> u64
     ensures { result ≡ loads journal.now }
 {
