@@ -41,9 +41,10 @@ right_false true b h = absurd (cc)
 -- where no worker ran out of memory, each did not
 none_ran_out : (served : List Served) → list_any (λ s. s.out_of_memory) served ≡ false → All (λ s. s.out_of_memory ≡ false) served
 none_ran_out [] h = tt
-none_ran_out (s ∷ rest) h =
-    (left_false s.out_of_memory (list_any (λ x. x.out_of_memory) rest) h,
-        none_ran_out rest (right_false s.out_of_memory (list_any (λ x. x.out_of_memory) rest) h))
+none_ran_out (s ∷ rest) h = (
+  left_false s.out_of_memory (list_any (λ x. x.out_of_memory) rest) h,
+  none_ran_out rest (right_false s.out_of_memory (list_any (λ x. x.out_of_memory) rest) h),
+)
 
 module _ (gate : GateMeaning ScriptCredential) (workers jobs : ℕ) where
   serves_pool : (work : List (List Job)) (passes : _) (served : List Served) → work ≡ pool_work workers jobs
@@ -63,11 +64,14 @@ module _ (gate : GateMeaning ScriptCredential) (workers jobs : ℕ) where
       record {
         setup = setup;
         represents = desk.1;
-        run = (served, record {
-              settled = settles;
-              legal = subst (λ (s : Setup ScriptRule). IsLegal script_policy s settled.journal.items) setup desk.1.legal;
-              serves = serves_pool work settled.passes.items served dealt serves none;
-            });
+        run = (
+          served,
+          record {
+            settled = settles;
+            legal = subst (λ (s : Setup ScriptRule). IsLegal script_policy s settled.journal.items) setup desk.1.legal;
+            serves = serves_pool work settled.passes.items served dealt serves none;
+          },
+        );
       }
 
   -- a signer of the pool's plan that was not closed

@@ -2,3 +2,4 @@ pub mod Words
 pub mod Ends
 pub mod Line
 pub mod Pool
+pub mod Laws

@@ -3,6 +3,7 @@
 #![tactic(auto)]
 
 mod end;
+pub mod laws;
 mod line;
 mod pool;
 mod words;
