@@ -1,5 +1,5 @@
 //! The line of a pool: how many calls there were, how many were signed, and how often the provider was asked.
-ghost use Rattle.std.specs.Prelude.{◌≡◌, ◌++◌, ◌∷◌, [], IfOk, OnOk, decimal, length, filter};
+ghost use Rattle.std.specs.Prelude.{◌≡◌, ◌++◌, ◌∷◌, [], IfOk, OnOk, decimal};
 ghost use Rattle.sequential_signer.specs.LawsOfCaches.{is_ask};
 ghost use Rattle.signer_shared.specs.Serving.{is_done};
 ghost use Rattle.signctl_format.specs.Words.{spaced_words};
@@ -38,31 +38,25 @@ fn push_count(text: &mut Vec<u8>, kind: &[u8], count: u64) -> Result<(), NoMemor
 }
 
 /// How many heads were signed.
-#[tactic(auto, using(crate::proofs::Counts::count_is))]
 fn signed(journal: &[Entry<ScriptCredential>]) -> u64
     ensures { result ≡ signed journal.now }
 {
-    count_done(journal) as u64
+    let mut count: u64 = 0;
+    for entry in journal {
+        count += u64::from(is_done(&entry.reply));
+    }
+    count
 }
 
 /// How often the provider was asked.
-#[tactic(auto, using(crate::proofs::Counts::count_is))]
 fn loads(journal: &[Entry<ScriptCredential>]) -> u64
     ensures { result ≡ loads journal.now }
 {
-    count_asks(journal) as u64
-}
-
-fn count_done(journal: &[Entry<ScriptCredential>]) -> usize
-    ensures { result ≡ length (filter (λ e. is_done e.reply) journal.now) }
-{
-    journal.iter().filter(|e| is_done(&e.reply)).count()
-}
-
-fn count_asks(journal: &[Entry<ScriptCredential>]) -> usize
-    ensures { result ≡ length (filter (λ e. is_ask e.reply) journal.now) }
-{
-    journal.iter().filter(|e| is_ask(&e.reply)).count()
+    let mut count: u64 = 0;
+    for entry in journal {
+        count += u64::from(is_ask(&entry.reply));
+    }
+    count
 }
 
 fn is_done(reply: &Reply<ScriptCredential>) -> bool

@@ -21,7 +21,7 @@ returns-in-Ok-serve_all g c =
 pub returns-in-Err-Close : goal.returns-in-Err-Close
 returns-in-Err-Close g c =
     let none : list_any (λ (s : Served). s.out_of_memory) c.in-Err-Close.served.items ≡ false = cc in
-    let h = where_refused c.in-Err-Close.field-0 c.in-Err-Close.refused c.in-Err-Close.served c.in-Err-Close.field-0-is c.in-Err-Close.ensures.refused in
+    let h = where_refused _ _ c.in-Err-Close.field-0 c.in-Err-Close.refused c.in-Err-Close.served c.in-Err-Close.field-0-is c.in-Err-Close.ensures.refused in
     refuses (g.G.Gate.meaning c.args.gate.now) c.args.workers c.args.jobs c.in-Err-Close.refused c.in-Ok.shared
     (map (λ l. l.items) c.as_slice.result.now) c.in-Err-Close.served.items c.in-Ok.ensures
     (ap (map (λ l. l.items)) c.as_slice.ensures.value ∙ c.in-Ok-pool_work.ensures) h.0 h.1 h.2 h.3 none
