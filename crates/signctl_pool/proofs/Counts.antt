@@ -1,7 +1,8 @@
--- How many of a list pass a test.
-use Rattle.std.proofs.Common.{◌≡◌, Bool, List, filter, length}
+-- How many of the first elements of a list pass a test.
+use Rattle.std.proofs.Common.{◌≡◌, ℕ, ◌+◌, ◌≤◌, ◌<◌, Bool, cond, List, length, take, arith}
 use Rattle.std.specs.List.{count_by}
-use Rattle.std.proofs.lemmas.List.Sums.{length-filter}
+use Rattle.std.proofs.lemmas.Grind.{common_steps}
 
-pub count_is : {X : Type 0} (p : X → Bool) (xs : List X) → length (filter p xs) ≡ count_by p xs
-count_is p xs = length-filter p xs
+-- no more than there are
+pub counts_few : {X : Type 0} (p : X → Bool) (xs : List X) (n : ℕ) → count_by p (take n xs) ≤ length xs
+counts_few p xs n = grind (arith, common_steps)

@@ -41,14 +41,22 @@ fn push_count(text: &mut Vec<u8>, kind: &[u8], count: u64) -> Result<(), NoMemor
 fn signed(journal: &[Entry<ScriptCredential>]) -> u64
     ensures { result ≡ signed journal.now }
 {
-    journal.iter().filter(|e| is_done(&e.reply)).count() as u64
+    let mut count: u64 = 0;
+    for entry in journal {
+        count += u64::from(is_done(&entry.reply));
+    }
+    count
 }
 
 /// How often the provider was asked.
 fn loads(journal: &[Entry<ScriptCredential>]) -> u64
     ensures { result ≡ loads journal.now }
 {
-    journal.iter().filter(|e| is_ask(&e.reply)).count() as u64
+    let mut count: u64 = 0;
+    for entry in journal {
+        count += u64::from(is_ask(&entry.reply));
+    }
+    count
 }
 
 fn is_done(reply: &Reply<ScriptCredential>) -> bool
