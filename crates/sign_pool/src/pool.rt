@@ -1,5 +1,5 @@
 //! A pool, and its seats.
-ghost use Rattle.std.specs.Prelude.{◌≡◌, ◌<◌, ◌≤◌, ◌+◌, [], true, false, length, replicate, slice_set, slice_get, Some, IfOk, IfErr, OnErr};
+ghost use Rattle.std.specs.Prelude.{◌≡◌, ◌<◌, ◌≤◌, ◌+◌, [], true, false, length, replicate, slice_set, slice_get, Some, MatchOption, IfOk, IfErr, OnErr};
 ghost use Rattle.crossbeam_queue.specs.Passes.{view, IsPassOf, ruled_capacity};
 
 use crate::job::JobQueue;
@@ -109,29 +109,41 @@ impl<K: SigningCredential, D: DeadlineRule<Credential = K>> Pool<K, D> {
         ensures made { IfOk result (λ w. (self.new.submitters ≡ self.old.submitters)
             × (self.new.workers ≡ self.old.workers + 1)
             × (self.new.taken.items ≡ slice_set self.old.taken.items handle true)) }
-        ensures refused { IfErr result (λ why. IsWorkerRefusal (length self.old.shared.handles) self.old.taken.items handle why) }
+        ensures refused { IfErr result (λ why. IsWorkerRefusal (length self.old.taken.items) self.old.taken.items handle why) }
         ensures unchanged { OnErr result (self.new ≡ self.old) }
     {
-        let at = handle as usize;
-        if at >= self.taken.len() {
-            return Err(WorkerRefused::NoHandle(handle));
-        }
-        if self.taken[at] {
-            return Err(WorkerRefused::HandleTaken(handle));
+        if let Some(why) = self.refusal(handle) {
+            return Err(why);
         }
         let Ok(pass) = self.shared.pass() else {
             return Err(WorkerRefused::OutOfMemory);
         };
-        if self.workers >= MOST_WORKERS {
-            return Err(WorkerRefused::OutOfMemory);
-        }
-        self.taken[at] = true;
+        let seat = self.queue.pass();
+        self.taken[handle as usize] = true;
         self.workers += 1;
         Ok(Worker {
-            seat: self.queue.pass(),
+            seat,
             handle,
             pass,
             answers: Vec::new(self.alloc),
         })
+    }
+
+    /// Why no worker may have the handle, if there is a cause.
+    fn refusal(&self, handle: u32) -> Option<WorkerRefused>
+        ensures { MatchOption result ((handle < length self.now.taken.items)
+            × (slice_get self.now.taken.items handle ≡ Some false) × (self.now.workers < 4294967294))
+            (λ why. IsWorkerRefusal (length self.now.taken.items) self.now.taken.items handle why) }
+    {
+        let Some(taken) = self.taken.get(handle as usize) else {
+            return Some(WorkerRefused::NoHandle(handle));
+        };
+        if *taken {
+            return Some(WorkerRefused::HandleTaken(handle));
+        }
+        if self.workers >= MOST_WORKERS {
+            return Some(WorkerRefused::OutOfMemory);
+        }
+        None
     }
 }
