@@ -1,9 +1,8 @@
 -- The last of some receipts.
-use Rattle.std.proofs.Common.{◌≡◌, ℕ, zero, suc, ◌<◌, ◌+◌, ◌-◌, Bool, List, [], ◌∷◌, ◌++◌, Option, Some, length, get_or, take, drop, length-append, arith, refl, sym, ap, ◌∙◌}
+use Rattle.std.proofs.Common.{◌≡◌, ℕ, zero, suc, ◌<◌, ◌+◌, ◌-◌, Bool, List, [], ◌∷◌, ◌++◌, Option, Some, length, get_or, take, drop, length-append, arith, refl, ap, ◌∙◌}
 use Rattle.std.specs.Option.{option_map}
 use Rattle.std.proofs.lemmas.List.{take_all}
 use Rattle.sequential_signer.specs.Transcript.{last_of}
-use Rattle.sequential_signer.specs.declared.event.Reply.{Reply}
 use Rattle.signer_book.specs.declared.pass.Receipt.{Receipt}
 use Rattle.sign_pool.specs.Work.{last_place, last_reply, outcome_of}
 use Rattle.sign_pool.specs.declared.answer.Answer.{Answer}

@@ -1,5 +1,5 @@
 -- What a worker adds for one job.
-use Rattle.std.specs.Prelude.{◌≡◌, ◌+◌, ◌-◌, ◌++◌, ◌∷◌, ℕ, Bool, true, false, List, [], Option, Some, None, length, option_map, if◌then◌else◌}
+use Rattle.std.specs.Prelude.{◌≡◌, ◌+◌, ◌-◌, ◌++◌, ◌∷◌, ℕ, Bool, List, [], Option, Some, length, option_map, if◌then◌else◌}
 use Rattle.crossbeam_queue.specs.Passes.{view}
 use Rattle.sequential_signer.specs.Transcript.{last_of}
 use Rattle.sequential_signer.specs.declared.event.Reply.{Reply}
@@ -10,7 +10,6 @@ use Rattle.signer_shared.specs.Serving.{IsServing}
 use Rattle.signer_shared.specs.declared.job.Job.{Job}
 use Rattle.signer_shared.specs.declared.job.Served.{Served}
 use Rattle.sign_pool.specs.Seats.{HeldAtOnce}
-use Rattle.sign_pool.specs.declared.answer.Answer.{Answer}
 use Rattle.sign_pool.specs.declared.answer.Outcome.{Outcome}
 use Rattle.sign_pool.specs.declared.answer.Outcome.TheVariants as ended
 use Rattle.sign_pool.specs.declared.job.PoolJob.{PoolJob}
