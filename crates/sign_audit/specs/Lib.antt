@@ -1,6 +1,0 @@
-pub mod Counts
-pub mod AuditState
-pub mod LineChange
-pub mod IsAudit
-pub mod Blockers
-pub mod Answers
