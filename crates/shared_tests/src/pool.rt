@@ -19,10 +19,30 @@ use wake_lock::CallId;
 type Row = (&'static str, usize, &'static str, Status);
 
 const ROWS: [Row; 14] = [
-    ("pool 4 8", 99, "calls 8 signed 8 loads 1 settled\n", Status::Done),
-    ("pool 1 0", 99, "calls 0 signed 0 loads 0 settled\n", Status::Done),
-    ("pool 3 1", 99, "calls 1 signed 1 loads 1 settled\n", Status::Done),
-    ("pool 64 65", 99, "calls 65 signed 65 loads 1 settled\n", Status::Done),
+    (
+        "pool 4 8",
+        99,
+        "calls 8 signed 8 loads 1 settled\n",
+        Status::Done,
+    ),
+    (
+        "pool 1 0",
+        99,
+        "calls 0 signed 0 loads 0 settled\n",
+        Status::Done,
+    ),
+    (
+        "pool 3 1",
+        99,
+        "calls 1 signed 1 loads 1 settled\n",
+        Status::Done,
+    ),
+    (
+        "pool 64 65",
+        99,
+        "calls 65 signed 65 loads 1 settled\n",
+        Status::Done,
+    ),
     ("pool 4 8", 0, "", Status::WriteFault),
     ("pool 4 8", 9, "calls 8 s", Status::WriteFault),
     ("pool 0 1", 99, "", Status::Usage),
@@ -108,7 +128,12 @@ impl Gate<ScriptCredential> for MeetingVerdicts {
     }
 }
 
-const BOTH_SIGNED: Row = ("pool 2 2", 99, "calls 2 signed 2 loads 1 settled\n", Status::Done);
+const BOTH_SIGNED: Row = (
+    "pool 2 2",
+    99,
+    "calls 2 signed 2 loads 1 settled\n",
+    Status::Done,
+);
 
 #[test]
 fn two_workers_of_a_pool_meet(rt: HostRuntime) {

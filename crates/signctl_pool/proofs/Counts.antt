@@ -1,5 +1,5 @@
 -- How many of the first elements of a list pass a test.
-use Rattle.std.proofs.Common.{◌≡◌, ℕ, ◌+◌, ◌≤◌, ◌<◌, Bool, cond, List, length, take, arith}
+use Rattle.std.proofs.Common.{ℕ, ◌≤◌, Bool, List, length, take, arith}
 use Rattle.std.specs.List.{count_by}
 use Rattle.std.proofs.lemmas.Grind.{common_steps}
 

@@ -28,12 +28,11 @@ use Rattle.signctl_format.specs.declared.credential.ScriptCredential.{ScriptCred
 use Rattle.signctl_format.specs.declared.credential.ScriptRule.{ScriptRule}
 use Rattle.pool_jobs.specs.Setup.{pool_setup}
 use Rattle.pool_jobs.specs.Work.{pool_work, jobs_of_worker}
-use Rattle.pool_jobs.specs.Run.{ServesPool, IsPoolRun}
+use Rattle.pool_jobs.specs.Run.{ServesPool}
 use Rattle.signctl_pool.specs.Ends.{status_of}
 use Rattle.signctl_pool.specs.Pool.{Written, IsSettledPool, IsRefusedPool, EndsEarly, EndsPool, IsThreadsRun}
 use Rattle.signctl_pool.specs.declared.end.PoolEnd.{PoolEnd}
 use Rattle.signctl_pool.specs.declared.end.PoolEnd.TheVariants as end
-use Rattle.signctl_pool.specs.declared.words.PoolCommand.{PoolCommand}
 use Rattle.signctl_pool.specs.declared.words.PoolCommand.TheVariants.{Pool}
 
 left_false : (a b : Bool) → (a || b) ≡ false → a ≡ false
@@ -46,9 +45,10 @@ right_false true b h = absurd (cc)
 
 each_did_not : (served : List Served) → list_any (λ s. s.out_of_memory) served ≡ false → AllByRecursion (λ (s : Served). s.out_of_memory ≡ false) served
 each_did_not [] h = tt
-each_did_not (s ∷ rest) h =
-    (left_false s.out_of_memory (list_any (λ x. x.out_of_memory) rest) h,
-        each_did_not rest (right_false s.out_of_memory (list_any (λ x. x.out_of_memory) rest) h))
+each_did_not (s ∷ rest) h = (
+  left_false s.out_of_memory (list_any (λ x. x.out_of_memory) rest) h,
+  each_did_not rest (right_false s.out_of_memory (list_any (λ x. x.out_of_memory) rest) h),
+)
 
 -- where no worker ran out of memory, each did not
 none_ran_out : (served : List Served) → list_any (λ s. s.out_of_memory) served ≡ false → All (λ s. s.out_of_memory ≡ false) served
@@ -85,11 +85,14 @@ module _ (gate : GateMeaning ScriptCredential) (workers jobs : ℕ) where
       record {
         setup = setup;
         represents = desk.1;
-        run = (served, record {
-              settled = steps;
-              legal = subst (λ (s : Setup ScriptRule). IsLegal script_policy s settled.journal.items) setup desk.1.legal;
-              serves = serves_pool work settled.passes.items served dealt serves none;
-            });
+        run = (
+          served,
+          record {
+            settled = steps;
+            legal = subst (λ (s : Setup ScriptRule). IsLegal script_policy s settled.journal.items) setup desk.1.legal;
+            serves = serves_pool work settled.passes.items served dealt serves none;
+          },
+        );
       }
 
   -- a signer of the pool's plan that was not closed

@@ -1,6 +1,5 @@
-use Rattle.std.proofs.Common.{◌≡◌, map, false, List, ap, ◌∙◌}
+use Rattle.std.proofs.Common.{◌≡◌, map, false, ap, ◌∙◌}
 use Rattle.std.specs.List.{list_any}
-use Rattle.signer_shared.specs.declared.job.Job.{Job}
 use Rattle.signer_shared.specs.declared.job.Served.{Served}
 use Rattle.signctl_pool.proofs.PoolRuns.{few_lists, where_refused, settles, refuses}
 use Rattle.signctl_pool.proofs.pool.run_workers.Goals as goal
