@@ -12,7 +12,7 @@ use pool_jobs::PoolGate;
 use sign_base::Sink;
 use signctl_core::Status;
 use signctl_core::program::{after_name, report};
-use signctl_pool::{names_pool, run_pool};
+use signctl_pool::{PoolEnd, names_pool, run_pool};
 use std::alloc::Global;
 use std::sync::Wait;
 use std::thread::Threads;
@@ -45,13 +45,30 @@ pub fn run_threads<D: Sink, E: Sink, R: Threads + Wait + Sync>(
         × WritesOnce (reason_line (status_of ended))
         (record { holds = E.holds; faults = E.faults; old = errors.old; new = errors.new }) }
 {
-    let status = match words {
-        Some(all) => {
-            let words = after_name(all.as_slice());
-            run_pool(rt, alloc, words, &PoolGate { alloc }, output).status()
-        }
-        None => Status::Usage,
-    };
+    let ended = serve(rt, alloc, words, output);
+    let status = ended.status();
     report(status, errors);
     status.exit_status()
+}
+
+/// Runs the command that a command line asks for.
+fn serve<D: Sink, R: Threads + Wait + Sync>(
+    rt: &R,
+    alloc: Global,
+    words: Option<Vec<String>>,
+    output: &mut D,
+) -> PoolEnd
+    ensures { IsThreadsRun pool_meaning (asked_of (option_map (λ all. map string_bytes all.items) words)) result
+        (record { holds = D.holds; faults = D.faults; old = output.old; new = output.new }) }
+{
+    match words {
+        Some(all) => run_pool(
+            rt,
+            alloc,
+            after_name(all.as_slice()),
+            &PoolGate { alloc },
+            output,
+        ),
+        None => PoolEnd::Ended(Status::Usage),
+    }
 }
