@@ -1,15 +1,12 @@
 -- What the calls make of a head is its target, or why it has none.
-use Rattle.std.proofs.Common.{◌≡◌, ◌⊎◌, ◌∙◌, Bool, true, false, inr, ap, List, ℕ, Option, Some, None, Result, Err, Ok, refl}
+use Rattle.std.proofs.Common.{◌≡◌, ◌⊎◌, ◌∙◌, Bool, true, false, inl, inr, sym, ap, List, ℕ, Option, Some, None, Result, Err, Ok, refl}
 use Rattle.std.specs.Prelude.{if◌then◌else◌, is_some, IfOk, IfErr, MatchResult}
-use Rattle.http.specs.declared.request.Parts.{Parts}
 use Rattle.http_uri.specs.Grammar.{path_of}
 use Rattle.http_uri.specs.Uri.{uri_authority, uri_data}
 use Rattle.http_uri.specs.declared.uri.Uri.{Uri}
 use Rattle.sign_base.specs.declared.head.Head.{Head}
-use Rattle.sign_request.specs.PlainHead.{ArePartsOf, RefusesHead}
-use Rattle.sign_request.specs.PlainTarget.{plain_target}
-use Rattle.sign_request.proofs.AcceptedHeads.{is_accepted_head-fails, is_accepted_head-true}
-use Rattle.sign_request.proofs.TargetOf.{target_of-Spells}
+use Rattle.sign_request.specs.AcceptedHead.{is_accepted_head}
+use Rattle.sign_request.specs.PlainTarget.{plain_target, target_of}
 use Rattle.sigv4_core.specs.Scope.{Scope}
 use Rattle.sigv4_core.specs.SignedHead.{target_to_sign, by_target, unless_refused, target_refusal, is_refused_path}
 use Rattle.sigv4_core.specs.declared.sig_error.SigError.{SigError}
@@ -42,21 +39,24 @@ module _ (scope : Scope) (uri : Uri) where
       → by_target scope (Some (plain_target uri)) ≡ unless_refused (plain_target uri) (if refused then Some refusal.Path else None)
   by_target-path refused some path = some_at (uri_authority uri) refused refl some path
 
--- a refused head has none
-pub target_to_sign-refused : (scope : Scope) (head : Head) → RefusesHead head → target_to_sign scope head ≡ Err refusal.Head
+-- a head that is not accepted has none
+pub target_to_sign-none : (scope : Scope) (head : Head) (why : SigError)
+    → (why ≡ refusal.OutOfMemory) ⊎ ((why ≡ refusal.Head) × (is_accepted_head head ≡ false))
+    → (why ≡ refusal.OutOfMemory) ⊎ (target_to_sign scope head ≡ Err why)
 unfolding target_to_sign
-target_to_sign-refused scope head refused = rw ((is_accepted_head-fails head).1 refused)
+target_to_sign-none scope head why (inl memory) = inl memory
+target_to_sign-none scope head why (inr h) = inr (rw h.1 (ap Err (sym h.0)))
 
-module _ (scope : Scope) (head : Head) (parts : Parts) (are : ArePartsOf head parts) (fine : ¬ (RefusesHead head)) where
+module _ (scope : Scope) (head : Head) (uri : Uri) (fine : is_accepted_head head ≡ true) (is : target_of head.uri ≡ Some (plain_target uri)) where
   -- that of an accepted head is the target of its URI
-  accepted : target_to_sign scope head ≡ by_target scope (Some (plain_target parts.uri))
+  accepted : target_to_sign scope head ≡ by_target scope (Some (plain_target uri))
   unfolding target_to_sign
-  accepted = rw (is_accepted_head-true head fine, target_of-Spells head.uri parts.uri are.uri)
+  accepted = rw (fine, is) refl
 
   abbrev Signable : Result Uri SigError → Type 0
   Signable answer = MatchResult answer
-      (λ target. by_target scope (Some (plain_target parts.uri)) ≡ Ok (plain_target target))
-      (λ why. by_target scope (Some (plain_target parts.uri)) ≡ Err why)
+      (λ target. by_target scope (Some (plain_target uri)) ≡ Ok (plain_target target))
+      (λ why. by_target scope (Some (plain_target uri)) ≡ Err why)
 
   -- so what is said of that target is said of the head
   pub target_to_sign-Ok : (answer : Result Uri SigError) → Signable answer → IfOk answer (λ uri. target_to_sign scope head ≡ Ok (plain_target uri))

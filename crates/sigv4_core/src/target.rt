@@ -1,22 +1,21 @@
 //! The target of a head that is to be signed, and why there is none.
-ghost use Rattle.std.specs.Prelude.{◌≡◌, ◌≢◌, ◌⊎◌, ◌==◌, Ok, Err, Some, [], IfOk, IfErr, MatchResult, is_some, unwrap_or};
+ghost use Rattle.std.specs.Prelude.{◌≡◌, ◌⊎◌, ◌==◌, Ok, Err, Some, [], IfOk, IfErr, MatchResult, is_some, unwrap_or};
 ghost use Rattle.std.specs.List.{list_any};
 ghost use Rattle.http_uri.specs.Grammar.{path_of, query_of};
 ghost use Rattle.http_uri.specs.Uri.{uri_authority, uri_data};
 ghost use Rattle.percent_encoding.specs.Percent.{percent_sign};
-ghost use Rattle.sign_base.specs.declared.error_kind.ErrorKind.TheVariants.{OutOfMemory};
 ghost use Rattle.sign_request.specs.PlainTarget.{plain_target};
 ghost use Rattle.sigv4_core.specs.SignedHead.{target_to_sign, by_target, is_refused_path};
 
+use crate::accepted_target::accepted_target;
 use crate::{SigError, SigScope};
 use http::uri::Uri;
-use sign_base::{Error, ErrorKind, Head};
-use sign_request::{HeaderKeys, parts_of_keyed};
+use sign_base::Head;
+use sign_request::HeaderKeys;
 use std::alloc::Global;
 
 /// The target of a head that can be signed for this scope: the head is accepted, its URI names an
-/// authority, and its path has no `%` unless the service is `s3`. The keys are for the names of the
-/// headers; no answer depends on them.
+/// authority, and its path has no `%` unless the service is `s3`. No answer depends on the keys.
 pub fn target_to_sign(
     alloc: Global,
     head: &Head,
@@ -27,10 +26,8 @@ pub fn target_to_sign(
     ensures err { IfErr result (λ why. (why ≡ SigError.OutOfMemory)
         ⊎ (target_to_sign scope.now head.now ≡ Err why)) }
 {
-    match parts_of_keyed(alloc, head, keys) {
-        Ok(parts) => signable(parts.uri, scope),
-        Err(e) => Err(head_refused(&e)),
-    }
+    let uri = accepted_target(alloc, head, keys)?;
+    signable(uri, scope)
 }
 
 /// The target of an accepted head, if it can be signed for this scope.
@@ -89,14 +86,4 @@ fn has_escape(path: &[u8]) -> bool
     ensures { result ≡ list_any (λ b. b == percent_sign) path.now }
 {
     path.iter().any(|b| *b == b'%')
-}
-
-fn head_refused(error: &Error) -> SigError
-    ensures memory { error.now.kind ≡ OutOfMemory → result ≡ SigError.OutOfMemory }
-    ensures other { error.now.kind ≢ OutOfMemory → result ≡ SigError.Head }
-{
-    match error.kind() {
-        ErrorKind::OutOfMemory => SigError::OutOfMemory,
-        _ => SigError::Head,
-    }
 }
