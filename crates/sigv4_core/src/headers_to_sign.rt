@@ -34,7 +34,8 @@ pub(crate) fn headers_to_sign(
 fn kept_headers(alloc: Global, headers: &Fields) -> Result<Vec<Field>, NoMemory<()>>
     ensures { IfOk result (λ fields. fields.items ≡ kept_headers headers.now) }
 {
-    let mut fields = Vec::new(alloc);
+    let room = headers.as_slice().len().saturating_add(3);
+    let mut fields = Vec::with_capacity(alloc, room)?;
     for field in headers.as_slice() {
         if !is_replaced(field) {
             fields.push(field.try_clone(alloc)?)?;
