@@ -22,11 +22,7 @@ use std::alloc::Global;
 
 /// The target of an accepted head. The keys are for the names of the headers where those are more
 /// than a map may have; no answer depends on them.
-pub(crate) fn accepted_target(
-    alloc: Global,
-    head: &Head,
-    keys: HeaderKeys,
-) -> Result<Uri, SigError>
+pub(crate) fn accepted_target(alloc: Global, head: &Head, keys: HeaderKeys) -> Result<Uri, SigError>
     ensures accepted { OnOk result (is_accepted_head head.now ≡ true) }
     ensures target { IfOk result (λ uri. target_of head.now.uri ≡ Some (plain_target uri)) }
     ensures err { IfErr result (λ why. (why ≡ SigError.OutOfMemory)
@@ -113,10 +109,15 @@ fn is_token(bytes: &[u8]) -> bool
     http_header::is_token(bytes)
 }
 
+// The loop has no early exit, so that it may be compiled to vector code.
 fn is_field_value(value: &[u8]) -> bool
     ensures { result ≡ list_all is_value_byte value.now }
 {
-    value.iter().all(|b| is_value_byte(*b))
+    let mut valid = true;
+    for b in value {
+        valid &= is_value_byte(*b);
+    }
+    valid
 }
 
 fn is_value_byte(b: u8) -> bool

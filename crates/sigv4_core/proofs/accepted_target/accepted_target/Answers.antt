@@ -22,4 +22,4 @@ pub returns-clause-err : goal.returns-clause-err
 returns-clause-err c =
     target_refuses c.args.head.now c.target_of.result
     (subst (λ (text : List ℕ). IfErr c.target_of.result (λ why. (why ≡ refusal.OutOfMemory) ⊎ ((why ≡ refusal.Head) × (target_of text ≡ None))))
-      c.as_slice-2.ensures c.target_of.ensures.err)
+    c.as_slice-2.ensures c.target_of.ensures.err)
