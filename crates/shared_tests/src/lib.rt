@@ -7,5 +7,6 @@ mod gates;
 mod key;
 mod meeting;
 mod pool;
+mod refused_memory;
 mod serving;
 mod signers;
