@@ -1,5 +1,5 @@
 -- A map has room for each of few headers, so a head with few is accepted exactly if each is well formed.
-use Rattle.std.proofs.Common.{◌≡◌, ℕ, ◌+◌, ◌<◌, ◌≤◌, ◌⊎◌, inl, inr, Bool, true, false, ◌&&◌, ◌||◌, leb, ltb, List, [], ◌∷◌, ◌++◌, length, Option, Some, None, Result, Ok, Err, Decides, refl, sym, ◌∙◌, ap, subst, arith}
+use Rattle.std.proofs.Common.{◌≡◌, ℕ, ◌+◌, ◌<◌, ◌≤◌, ◌⊎◌, inl, inr, Bool, true, false, ◌&&◌, ◌||◌, leb, ltb, List, [], ◌∷◌, ◌++◌, length, Some, None, Result, Ok, Err, Decides, refl, sym, ap, subst, arith}
 use Rattle.std.specs.Prelude.{IsTrue, IfOk, IfErr, OnOk, bytes_eq, is_some, ◌↔◌}
 use Rattle.std.specs.List.{list_all, list_any}
 use Rattle.std.proofs.lemmas.Bool.{cases_Bool}
@@ -9,8 +9,8 @@ use Rattle.std.proofs.lemmas.List.Sums.{sum_by-cons}
 use Rattle.http_header.specs.FieldName.{is_field_name}
 use Rattle.http_header.specs.FieldValue.{FieldValue, plain_value}
 use Rattle.http_header.specs.HeaderMap.{Entry, Entries, append, keys, value_count}
-use Rattle.http_header.specs.Token.{IsToken, token_test, is_token_byte, is_value_byte, lowercase}
-use Rattle.http_uri.specs.Error.{IsOutOfMemory, is_out_of_memory}
+use Rattle.http_header.specs.Token.{IsToken, is_token_byte, is_value_byte, lowercase}
+use Rattle.http_uri.specs.Error.{IsOutOfMemory}
 use Rattle.http_uri.specs.declared.error.InvalidUri.{InvalidUri}
 use Rattle.http_uri.specs.declared.error.UriError.{UriError}
 use Rattle.http_uri.specs.declared.error.UriError.TheVariants.{Invalid}

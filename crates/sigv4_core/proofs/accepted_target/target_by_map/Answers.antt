@@ -1,7 +1,7 @@
-use Rattle.std.proofs.Common.{◌≡◌, ◌∙◌, ap, subst, sym, inl, inr, Some}
+use Rattle.std.proofs.Common.{◌∙◌, ap, sym, inl, inr, Some}
 use Rattle.http_uri.specs.declared.uri.Uri.{Uri}
 use Rattle.sign_base.specs.Error.{ErrorParts}
-use Rattle.sign_request.specs.PlainTarget.{plain_target, target_of}
+use Rattle.sign_request.specs.PlainTarget.{plain_target}
 use Rattle.sign_request.proofs.AcceptedHeads.{is_accepted_head-fails, is_accepted_head-true}
 use Rattle.sign_request.proofs.TargetOf.{target_of-Spells}
 use Rattle.sigv4_core.proofs.accepted_target.target_by_map.Goals as goal

@@ -2,7 +2,7 @@ use Rattle.std.proofs.Common.{◌≡◌, List, ℕ, map, codes, sym, subst, ap, 
 use Rattle.sign_request.specs.CanonicalText.{canonical_text, sorted_pairs, joined_texts, header_text}
 use Rattle.sign_request.specs.Query.{query_pieces}
 use Rattle.sigv4_core.specs.CanonicalTarget.{canonical_query, encoded_pair}
-use Rattle.sigv4_core.specs.EncodedPairs.{shown_pairs, cut_pairs, sides_text, side_lengths, IsCut}
+use Rattle.sigv4_core.specs.EncodedPairs.{shown_pairs, cut_pairs, sides_text, IsCut}
 use Rattle.sigv4_core.proofs.EncodedPairs.{cut_pairs-sides, IsCut-sides, sorted_pairs-from_sort}
 use Rattle.sigv4_core.proofs.query.canonical_query.Goals as goal
 
