@@ -1,0 +1,33 @@
+-- What the private steps of a session of `audit` do.
+use Rattle.std.specs.Prelude.{◌≡◌, ◌<◌, ℕ, List, None, length}
+use Rattle.sign_base.specs.Lines.{input_limit}
+use Rattle.signctl_format.specs.ScriptEvents.{ScriptItem}
+use Rattle.signctl_audit.specs.Account.{Account, with_item, with_claim, subject_in}
+use Rattle.signctl_audit.specs.AuditReading.{audit_item_error, claim_error}
+use Rattle.signctl_audit.specs.SessionState.{SessionState, RepresentsAccount}
+use Rattle.signctl_audit.specs.declared.claimed_reply.ClaimedReply.{ClaimedReply}
+
+-- there is room for one line more, of lines that come to this
+pub record HasRoom (so_far : Account) : Type 0 where
+  pub lines : so_far.lines < input_limit
+  pub items : length so_far.items < input_limit
+  pub entries : length so_far.entries < input_limit
+
+-- the session represents some lines, after which this item is good, and there is room for it
+abbrev pub CanTake : SessionState → ScriptItem → Type 0
+CanTake session item =
+    (so_far : Account) × RepresentsAccount session so_far × (audit_item_error so_far item ≡ None) × HasRoom so_far
+
+-- the item is taken into account
+abbrev pub TakesItem : ScriptItem → SessionState → SessionState → Type 0
+TakesItem item old new =
+    (so_far : Account) → RepresentsAccount old so_far → audit_item_error so_far item ≡ None → RepresentsAccount new (with_item so_far item)
+
+-- in some words the claim is right after lines that come to this
+abbrev pub IsRightClaim : Account → ClaimedReply → Type 0
+IsRightClaim so_far claimed = (text : List ℕ) × (claim_error so_far (subject_in so_far) claimed text ≡ None)
+
+-- the claim is taken into account
+abbrev pub TakesClaim : ClaimedReply → SessionState → SessionState → Type 0
+TakesClaim claimed old new =
+    (so_far : Account) → RepresentsAccount old so_far → IsRightClaim so_far claimed → RepresentsAccount new (with_claim so_far claimed)
