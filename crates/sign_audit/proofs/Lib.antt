@@ -9,3 +9,4 @@ pub mod Missing
 pub mod Blocking
 pub mod Accepting
 pub mod Claiming
+pub mod ClaimedEntries

@@ -151,10 +151,12 @@ impl<K: SigningCredential, D: DeadlineRule<Credential = K>> Audit<K, D> {
             return Claim::Due(self.desk.preview(event));
         }
         let call = call_of(event);
-        if let Some(cache) = self.desk.cache_of(call.handle) {
-            let _placed = self.desk.stage_of(call);
-            count(&mut self.counts, cache, &Reply::<K>::OutOfMemory);
-        }
+        let Some(cache) = self.desk.cache_of(call.handle) else {
+            // An event of no cache is counted nowhere.
+            return Claim::Legal;
+        };
+        let _placed = self.desk.stage_of(call);
+        count(&mut self.counts, cache, &Reply::<K>::OutOfMemory);
         Claim::Legal
     }
 
@@ -214,10 +216,10 @@ impl<K: SigningCredential + EqualByValue, D: DeadlineRule<Credential = K>> Audit
             → FailsAt (policy_of K.valid K.valid_at D.deadline) self.old entries claims.now failed.0 failed.1 self.new) }
         ensures setup { setup_of self.new.desk ≡ setup_of self.old.desk }
     {
-        for place in 0..claims.len() {
-            let claim = self.claim(&claims[place].event, &claims[place].reply);
-            if !matches!(claim, Claim::Legal) {
-                return Err((place, claim));
+        for (place, entry) in claims.iter().enumerate() {
+            match self.claim(&entry.event, &entry.reply) {
+                Claim::Legal => {}
+                refused => return Err((place, refused)),
             }
         }
         Ok(())

@@ -5,6 +5,7 @@ pub mod PlainEntries
 pub mod NextLine
 pub mod LineGood
 pub mod ClaimChecks
+pub mod RightClaims
 pub mod LineWords
 pub mod Sessions
 pub mod CountLines

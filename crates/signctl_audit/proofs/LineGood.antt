@@ -4,7 +4,7 @@ use Rattle.std.specs.Prelude.{is_none}
 use Rattle.signctl_driver.specs.Command.{MayFollow}
 use Rattle.signctl_format.specs.ScriptEvents.{ScriptItem}
 use Rattle.signctl_format.specs.Grammar.{is_version_line}
-use Rattle.signctl_audit.specs.ClaimReading.{claim_text}
+use Rattle.signctl_audit.specs.ClaimReading.{claim_text, claim_of}
 use Rattle.signctl_audit.specs.Account.{Account, account_of, subject_in}
 use Rattle.signctl_audit.specs.AuditReading.{audit_item_error, line_or, item_reading, claim_error, claim_reading, text_reading}
 use Rattle.signctl_audit.specs.AuditOutput.{audit_command}
@@ -42,12 +42,12 @@ no_item a (Some x) claimed h =
     let good = good_line (Says x) (Claims claimed) (audit_item_error a x) h in
     absurd (cc (good.1))
 
-claim_read : (a : Account) (text : List ℕ) (read : Option ClaimedReply) (claimed : ClaimedReply) → claim_reading a text read ≡ Ok (Claims claimed) → claim_error a (subject_in a) claimed text ≡ None
+claim_read : (a : Account) (text : List ℕ) (read : Option ClaimedReply) (claimed : ClaimedReply) → claim_reading a text read ≡ Ok (Claims claimed) → (read ≡ Some claimed) × (claim_error a (subject_in a) claimed text ≡ None)
 claim_read a text None claimed h = absurd cc
 claim_read a text (Some x) claimed h =
     let good = good_line (Claims x) (Claims claimed) (claim_error a (subject_in a) x text) h in
     let same : x ≡ claimed = ap (claim_in claimed) good.1 in
-    subst (λ (y : ClaimedReply). claim_error a (subject_in a) y text ≡ None) same good.0
+    (ap (λ (y : ClaimedReply). Some y) same, subst (λ (y : ClaimedReply). claim_error a (subject_in a) y text ≡ None) same good.0)
 
 no_claim : (a : Account) (text : List ℕ) (read : Option ClaimedReply) (item : ScriptItem) → claim_reading a text read ≡ Ok (Says item) → ⊥
 no_claim a text None item h = cc
@@ -73,7 +73,7 @@ claim-right lines claimed may = by_version (is_none (account_of lines).version &
   where
     by_text : (text : Option (List ℕ)) → text_reading (account_of lines) may.0 text ≡ Ok (Claims claimed) → IsRightClaim (account_of lines) claimed
     by_text None h = absurd (no_item (account_of lines) _ claimed h)
-    by_text (Some text) h = (text, claim_read (account_of lines) text _ claimed h)
+    by_text (Some text) h = let read = claim_read (account_of lines) text (claim_of text) claimed h in (text, read.0, read.1)
 
     by_version : (b : Bool) → (if b then Ok VersionTwo else text_reading (account_of lines) may.0 (claim_text may.0)) ≡ Ok (Claims claimed) → IsRightClaim (account_of lines) claimed
     by_version true h = absurd cc

@@ -17,7 +17,7 @@ ghost use Rattle.signctl_audit.specs.Account.{Account, version_in, subject_in, w
 ghost use Rattle.signctl_audit.specs.AuditReading.{overdue, script_error, audit_item_error, item_reading, claim_error, claim_reading};
 ghost use Rattle.signctl_audit.specs.AuditOutput.{closing_lines};
 ghost use Rattle.signctl_audit.specs.SessionState.{HasSigner, RepresentsAccount, SessionRepresents};
-ghost use Rattle.signctl_audit.specs.Taking.{CanTake, TakesItem, TakesClaim};
+ghost use Rattle.signctl_audit.specs.Taking.{CanTake, CanTakeClaim, CanHappen, IsLegalOrNoMemory, TakesItem, TakesClaim};
 ghost use Rattle.signctl_audit.specs.declared.audit_line.AuditLine.{AuditLine};
 ghost use Rattle.signctl_audit.specs.declared.audit_line.Subject.TheVariants.{Event as Happened};
 
@@ -279,6 +279,7 @@ impl AuditSession {
 
     /// Takes a claim, which was found right when its line was read.
     fn take_claim(&mut self, claimed: &ClaimedReply) -> Result<(), NoMemory<()>>
+        requires { CanTakeClaim self.old claimed.now }
         ensures takes { OnOk result (TakesClaim claimed.now self.old self.new) }
         ensures lines { self.new.lines ≡ self.old.lines }
         ensures version { self.new.version ≡ self.old.version }
@@ -300,6 +301,7 @@ impl AuditSession {
         event: &ScriptEvent,
         claimed: &ClaimedReply,
     ) -> Result<(), NoMemory<()>>
+        requires { CanHappen self.old event.now claimed.now }
         ensures signer { OnOk result ((so_far : Account) → HasSigner self.old.desk self.old.audit so_far
             → subject_in so_far ≡ Some (Happened event.now) → HasSigner self.new.desk self.new.audit (with_claim so_far claimed.now)) }
         ensures rest { self.new ≡ record self.old { audit = self.new.audit } }
@@ -463,11 +465,13 @@ fn wants_claim(lines: u64, subject: Subject) -> Unclaimed
 
 /// A right claim is legal, unless an allocation failed.
 fn legal_or_no_memory(claim: Claim<ScriptCredential>) -> Result<(), NoMemory<()>>
+    requires { IsLegalOrNoMemory claim }
     ensures { OnOk result (claim ≡ Claim.Legal) }
 {
     match claim {
         Claim::Legal => Ok(()),
-        Claim::Due(_) | Claim::OutOfMemory => Err(NoMemory { back: () }),
+        Claim::OutOfMemory => Err(NoMemory { back: () }),
+        Claim::Due(_) => unreachable!(),
     }
 }
 
