@@ -37,21 +37,23 @@ module _ {K D : Type 0} (policy : Policy K D) (old : AuditState K D) (entries : 
   appended : (new : AuditState K D) (reply : Reply K) → reply ≡ claimed → AuditRepresents policy new (entries ++ record { event = event; reply = reply } ∷ []) → AuditRepresents policy new (entries ++ record { event = event; reply = claimed } ∷ [])
   appended new reply is h = subst (λ (r : Reply K). AuditRepresents policy new (entries ++ record { event = event; reply = r } ∷ [])) is h
 
-  module _ (says : Reply K → Bool → Type 0) (yes : (reply : Reply K) → says reply true → reply ≡ claimed) (no : (reply : Reply K) → says reply false → reply ≡ claimed → ⊥) where
-    entry-missed : is_out_of_memory claimed ≡ true → (answer : Claim K) (new : AuditState K D) → AnswersTest policy old entries says true event answer new → AnswersEntry policy old entries (record { event = event; reply = claimed }) answer new
-    entry-missed m claim.Legal new h = let is : claimed ≡ OutOfMemory = out_of_memory-is claimed m in (inr (is, h.0), appended new OutOfMemory (sym is) h.1)
-    entry-missed m (claim.Due reply) new h = (none-failed m h.0, h.1, h.2)
-    entry-missed m claim.OutOfMemory new h = let no : true ≡ false = h.0 in absurd (cc)
+  module _ (says : Reply K → Bool → Type 0) (new : AuditState K D) where
+    entry-missed : is_out_of_memory claimed ≡ true → (answer : Claim K) → AnswersTest policy old entries says true event answer new → AnswersEntry policy old entries (record { event = event; reply = claimed }) answer new
+    entry-missed m claim.Legal h = let is : claimed ≡ OutOfMemory = out_of_memory-is claimed m in (inr (is, h.0), appended new OutOfMemory (sym is) h.1)
+    entry-missed m (claim.Due reply) h = (none-failed m h.0, h.1, h.2)
+    entry-missed m claim.OutOfMemory h = let no : true ≡ false = h.0 in absurd (cc)
 
-    entry-tested : is_out_of_memory claimed ≡ false → (answer : Claim K) (new : AuditState K D) → AnswersTest policy old entries says false event answer new → AnswersEntry policy old entries (record { event = event; reply = claimed }) answer new
-    entry-tested m claim.Legal new h = let is : reply_due policy old entries event ≡ claimed = yes (reply_due policy old entries event) h.0 in (inl (sym is), appended new (reply_due policy old entries event) is h.1)
-    entry-tested m (claim.Due reply) new h = (other-reply m (no (reply_due policy old entries event) h.0), h.1, h.2)
-    entry-tested m claim.OutOfMemory new h = (failed-is m, h.1)
+    module _ (same : (reply : Reply K) → says reply true → reply ≡ claimed) (other : (reply : Reply K) → says reply false → reply ≡ claimed → ⊥) where
+      entry-tested : is_out_of_memory claimed ≡ false → (answer : Claim K) → AnswersTest policy old entries says false event answer new → AnswersEntry policy old entries (record { event = event; reply = claimed }) answer new
+      entry-tested m claim.Legal h = let is : reply_due policy old entries event ≡ claimed = same (reply_due policy old entries event) h.0 in (inl (sym is), appended new (reply_due policy old entries event) is h.1)
+      entry-tested m (claim.Due reply) h = (other-reply m (other (reply_due policy old entries event) h.0), h.1, h.2)
+      entry-tested m claim.OutOfMemory h = (failed-is m, h.1)
 
     -- an answer by the test whether the reply is the claimed one
-    pub entry-answer : (missed : Bool) → missed ≡ is_out_of_memory claimed → (answer : Claim K) (new : AuditState K D) → AnswersTest policy old entries says missed event answer new → AnswersEntry policy old entries (record { event = event; reply = claimed }) answer new
-    entry-answer true is answer new h = entry-missed (sym is) answer new h
-    entry-answer false is answer new h = entry-tested (sym is) answer new h
+    pub entry-answer : (missed : Bool) → missed ≡ is_out_of_memory claimed → (answer : Claim K) → AnswersTest policy old entries says missed event answer new
+        → ((reply : Reply K) → says reply true → reply ≡ claimed) → ((reply : Reply K) → says reply false → reply ≡ claimed → ⊥) → AnswersEntry policy old entries (record { event = event; reply = claimed }) answer new
+    entry-answer true is answer h same other = entry-missed (sym is) answer h
+    entry-answer false is answer h same other = entry-tested same other (sym is) answer h
 
 -- a list is what stands before a place of it, the item there, and the rest
 split_at : {A : Type 0} (xs : List A) (i : ℕ) (x : A) → slice_get xs i ≡ Some x → (rest : List A) × (xs ≡ take i xs ++ x ∷ rest)
