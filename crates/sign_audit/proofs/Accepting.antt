@@ -1,10 +1,10 @@
 -- What a step does to an auditor.
-use Rattle.std.proofs.Common.{◌≡◌, ℕ, zero, suc, ◌<◌, ◌&&◌, Bool, true, false, List, [], ◌∷◌, ◌++◌, Option, Some, None, IfSome, IsTrue, Result, Ok, Err, OnOk, OnErr, is_err, option_map, is_some, length, slice_get, slice_index_or, if◌then◌else◌, refl, sym, ◌∙◌, ap, subst, inl, inr}
+use Rattle.std.proofs.Common.{◌≡◌, ℕ, zero, suc, ◌<◌, ◌&&◌, true, false, List, [], ◌∷◌, ◌++◌, Option, Some, None, IfSome, Result, Ok, Err, OnOk, OnErr, is_err, option_map, is_some, length, slice_get, slice_index_or, refl, sym, ◌∙◌, ap, subst, inl, inr}
 use Rattle.wake_lock.specs.declared.CallId.{CallId}
 use Rattle.wake_lock.specs.Calls.{is_among}
 use Rattle.sequential_signer.specs.ExpectedReply.{expected_reply}
 use Rattle.sequential_signer.specs.Legal.{allocates, is_sign, IsLegalEntry}
-use Rattle.sequential_signer.specs.Phase.{Phase, Unpolled, phase_of, is_live, is_loading}
+use Rattle.sequential_signer.specs.Phase.{Unpolled, phase_of, is_live}
 use Rattle.sequential_signer.specs.Policy.{Policy}
 use Rattle.sequential_signer.specs.Setup.{Setup, Handle, cache_of}
 use Rattle.sequential_signer.specs.Transcript.{call_of, committed_entries, is_out_of_memory}
@@ -17,7 +17,7 @@ use Rattle.sequential_signer.specs.declared.event.Reply.TheVariants.{Begun, Pend
 use Rattle.sequential_signer.proofs.Lists.{and_false}
 use Rattle.sequential_signer.proofs.Run.{expected_in_memory, out_of_memory-is}
 use Rattle.desk_parts.specs.Action.{Leaves as LeavesAction}
-use Rattle.desk_parts.specs.LiveCallView.{stored_view, find_view}
+use Rattle.desk_parts.specs.LiveCallView.{stored_view}
 use Rattle.desk_parts.specs.Queue.{Queue, MayEnter, queue_line, line_at, with_changed}
 use Rattle.desk_parts.specs.Tables.{setup_of, find_call, phase_of_stage}
 use Rattle.desk_parts.specs.declared.call_record.Stage.{Stage}

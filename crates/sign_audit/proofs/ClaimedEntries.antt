@@ -12,7 +12,7 @@ use Rattle.sequential_signer.specs.declared.event.Reply.TheVariants.{OutOfMemory
 use Rattle.sequential_signer.proofs.LegalAfter.{legal_after-more, legal_split}
 use Rattle.sequential_signer.proofs.Run.{expected_in_memory, out_of_memory-is}
 use Rattle.desk_parts.specs.Tables.{setup_of}
-use Rattle.sign_audit.specs.Answers.{may_run_out, reply_due, AnswersTest, AnswersEntry, AcceptsAll, IsNoTranscript, FailsAt}
+use Rattle.sign_audit.specs.Answers.{may_run_out, reply_due, AnswersTest, AnswersEntry, AcceptsAll, FailsAt}
 use Rattle.sign_audit.specs.AuditState.{AuditState, AuditRepresents}
 use Rattle.sign_audit.specs.declared.claim.Claim.{Claim}
 use Rattle.sign_audit.specs.declared.claim.Claim.TheVariants as claim
@@ -69,12 +69,11 @@ module _ {K D : Type 0} (policy : Policy K D) (old : AuditState K D) (entries : 
   module _ (now : AuditState K D) (setup : setup_of now.desk ≡ setup_of old.desk) where
     -- one more claim that is accepted
     pub accepts-more : (claims : List (Entry K)) (entry : Entry K) (new : AuditState K D) → AcceptsAll policy old entries claims now → AnswersEntry policy now (entries ++ claims) entry claim.Legal new → AcceptsAll policy old entries (claims ++ entry ∷ []) new
-    accepts-more claims entry new all one =
-        (
-          legal_after-more committed_entries (IsLegalEntry policy (setup_of old.desk)) entries claims entry all.0
-              (subst (λ (s : Setup D). IsLegalEntry policy s (committed_entries (entries ++ claims)) entry) setup one.0),
-          subst (λ (es : List (Entry K)). AuditRepresents policy new es) (append_assoc entries claims (entry ∷ [])) one.1,
-        )
+    accepts-more claims entry new all one = (
+      legal_after-more committed_entries (IsLegalEntry policy (setup_of old.desk)) entries claims entry all.0
+          (subst (λ (s : Setup D). IsLegalEntry policy s (committed_entries (entries ++ claims)) entry) setup one.0),
+      subst (λ (es : List (Entry K)). AuditRepresents policy new es) (append_assoc entries claims (entry ∷ [])) one.1,
+    )
 
     module _ (claims : List (Entry K)) (place : ℕ) (entry : Entry K) (at : slice_get claims place ≡ Some entry) where
       -- claims of which one is not legal are no legal transcript
@@ -82,7 +81,7 @@ module _ {K D : Type 0} (policy : Policy K D) (old : AuditState K D) (entries : 
       not_legal refused legal =
           let parts = split_at claims place entry at in
           let split = legal_split committed_entries (IsLegalEntry policy (setup_of old.desk)) entries (take place claims) (entry ∷ parts.0)
-            (subst (λ (es : List (Entry K)). IsLegalAfter policy (setup_of old.desk) entries es) parts.1 legal) in
+          (subst (λ (es : List (Entry K)). IsLegalAfter policy (setup_of old.desk) entries es) parts.1 legal) in
           refused (subst (λ (s : Setup D). IsLegalEntry policy s (committed_entries (entries ++ take place claims)) entry) (sym setup) split.1.0)
 
       -- the first claim that is not accepted

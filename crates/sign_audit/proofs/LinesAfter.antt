@@ -1,5 +1,5 @@
 -- What a step does to the lines of a desk.
-use Rattle.std.proofs.Common.{◌≡◌, ℕ, ℤ, zero, suc, Bool, true, false, List, [], ◌∷◌, ◌++◌, Option, Some, None, option_map, slice_get, refl, sym, ◌∙◌, ap, inl, inr}
+use Rattle.std.proofs.Common.{◌≡◌, ℕ, ℤ, zero, suc, Bool, true, false, List, [], ◌∷◌, Option, Some, None, option_map, slice_get, refl, sym, ◌∙◌, ap, inl, inr}
 use Rattle.wake_lock.specs.declared.CallId.{CallId}
 use Rattle.wake_lock.specs.Calls.{is_first}
 use Rattle.sequential_signer.specs.Lookup.{HandOut, Refuse}
@@ -11,7 +11,7 @@ use Rattle.sequential_signer.specs.declared.event.Answer.{Answer}
 use Rattle.sequential_signer.specs.declared.event.Event.{Event}
 use Rattle.sequential_signer.specs.declared.event.Event.TheVariants.{Begin, Poll, Provided, Signed, Cancel}
 use Rattle.sequential_signer.specs.declared.event.Reply.{Reply}
-use Rattle.sequential_signer.specs.declared.event.Reply.TheVariants.{Begun, Pending, NotNow, OutOfMemory, Ask, Sign, Refused, Done, Cancelled}
+use Rattle.sequential_signer.specs.declared.event.Reply.TheVariants.{Begun, NotNow, OutOfMemory}
 use Rattle.sequential_signer.specs.declared.event.Verdict.{Verdict}
 use Rattle.sequential_signer.specs.declared.event.Verdict.TheVariants.{Accepted, Failed}
 use Rattle.desk_parts.specs.Action.{Leaves, Does, Allocates}
@@ -27,11 +27,10 @@ use Rattle.desk_parts.proofs.Views.{view-cases}
 use Rattle.sign_desk.specs.Action.{Action, Performs}
 use Rattle.sign_desk.specs.BeginAction.{begin_action}
 use Rattle.sign_desk.specs.DeskState.{DeskState}
-use Rattle.sign_desk.specs.HoldAction.{Hold, first_hold, waited_hold, loading_hold, hold_action}
+use Rattle.sign_desk.specs.HoldAction.{first_hold, waited_hold, loading_hold, hold_action}
 use Rattle.sign_desk.specs.Records.{CallRecord}
 use Rattle.sign_desk.specs.Transition.{first_poll_action, later_poll_action, poll_action, load_action, provided_action, accept_action, signed_action, cancel_action, live_action, action_of, Transition}
 use Rattle.sign_audit.specs.LineChange.{line_change, changed_line, changed_lines, lines_of}
-use Rattle.sign_audit.specs.declared.line_change.LineChange.{LineChange}
 use Rattle.sign_audit.specs.declared.line_change.LineChange.TheVariants.{Enters, Leaves as LeavesLine, Stays}
 
 -- a queue that changes at one place changes the lines there

@@ -5,16 +5,15 @@ use Rattle.sign_base.specs.declared.head.Head.{Head}
 use Rattle.wake_lock.specs.declared.CallId.{CallId}
 use Rattle.sequential_signer.specs.ExpectedReply.{expected_reply, reply_at}
 use Rattle.sequential_signer.specs.Legal.{allocates, is_sign, IsLegalEntry}
-use Rattle.sequential_signer.specs.Phase.{Phase, phase_of, is_new_number, is_live, is_loading, is_signing, event_fits, begin_fits}
+use Rattle.sequential_signer.specs.Phase.{phase_of, is_new_number, is_live, is_loading, is_signing, begin_fits}
 use Rattle.sequential_signer.specs.Policy.{Policy}
 use Rattle.sequential_signer.specs.Setup.{Setup, cache_of}
-use Rattle.sequential_signer.specs.Transcript.{call_of, committed_entries, is_out_of_memory}
+use Rattle.sequential_signer.specs.Transcript.{committed_entries, is_out_of_memory}
 use Rattle.sequential_signer.specs.declared.event.Answer.{Answer}
 use Rattle.sequential_signer.specs.declared.event.Answer.TheVariants.{Found, Missing}
 use Rattle.sequential_signer.specs.declared.event.Answer.TheVariants as answer
 use Rattle.sequential_signer.specs.declared.event.Entry.{Entry}
-use Rattle.sequential_signer.specs.declared.event.Event.{Event}
-use Rattle.sequential_signer.specs.declared.event.Event.TheVariants.{Begin, Poll, Provided, Signed, Cancel}
+use Rattle.sequential_signer.specs.declared.event.Event.TheVariants.{Begin, Poll, Provided, Signed}
 use Rattle.sequential_signer.specs.declared.event.Reply.{Reply}
 use Rattle.sequential_signer.specs.declared.event.Reply.TheVariants.{Begun, Pending, NotNow, OutOfMemory, Ask, Sign, Refused, Done, Cancelled}
 use Rattle.sequential_signer.specs.declared.event.Verdict.{Verdict}
@@ -22,7 +21,7 @@ use Rattle.sequential_signer.specs.declared.event.Verdict.TheVariants.{Accepted}
 use Rattle.sequential_signer.specs.declared.event.Verdict.TheVariants as verdict
 use Rattle.sequential_signer.proofs.Lists.{and_true, and_false}
 use Rattle.sequential_signer.proofs.Run.{expected_in_memory}
-use Rattle.desk_parts.specs.Tables.{setup_of, find_call, phase_of_stage}
+use Rattle.desk_parts.specs.Tables.{find_call, phase_of_stage}
 use Rattle.desk_parts.specs.declared.call_record.Stage.{Stage}
 use Rattle.desk_parts.specs.declared.call_record.Stage.TheVariants as stage
 use Rattle.desk_parts.proofs.LiveRecord.{not_loading, not_signing}

@@ -1,16 +1,15 @@
 -- The auditor of a fresh desk: nobody is in line, and nothing was counted.
-use Rattle.std.proofs.Common.{◌≡◌, ℕ, zero, suc, ◌-◌, Bool, true, false, if◌then◌else◌, List, [], ◌∷◌, ◌++◌, Option, Some, None, Result, Ok, Err, is_ok, is_err, option_map, slice_get, length, take, replicate, map, refl, sym, ◌∙◌, ap, subst, arith}
+use Rattle.std.proofs.Common.{◌≡◌, ℕ, zero, suc, ◌-◌, Bool, false, if◌then◌else◌, List, [], ◌∷◌, ◌++◌, Some, Result, Ok, Err, is_ok, is_err, option_map, slice_get, length, take, replicate, refl, sym, ◌∙◌, ap, arith}
 use Rattle.wake_lock.specs.declared.CallId.{CallId}
 use Rattle.sequential_signer.specs.Policy.{Policy}
 use Rattle.sequential_signer.specs.Turn.{poll_order}
 use Rattle.sequential_signer.specs.Setup.{Setup}
 use Rattle.sequential_signer.specs.Transcript.{committed_entries}
-use Rattle.sequential_signer.specs.declared.event.Entry.{Entry}
 use Rattle.desk_parts.specs.Queue.{Queue}
 use Rattle.desk_parts.specs.Tables.{setup_of}
 use Rattle.sign_desk.specs.DeskState.{DeskState, Represents}
 use Rattle.sign_desk.specs.TranscriptQueue.{queue_of}
-use Rattle.sign_audit.specs.AuditState.{AuditState, AuditRepresents}
+use Rattle.sign_audit.specs.AuditState.{AuditRepresents}
 use Rattle.sign_audit.specs.IsAudit.{IsAudit}
 use Rattle.sign_audit.specs.LineChange.{lines_of}
 use Rattle.sign_audit.specs.declared.counts.Counts.{Counts}

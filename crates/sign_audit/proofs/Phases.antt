@@ -1,12 +1,11 @@
 -- How far a call is by what the desk keeps, and by the transcript.
-use Rattle.std.proofs.Common.{◌≡◌, ℕ, Bool, true, false, List, [], ◌∷◌, ◌++◌, Option, Some, None, option_map, slice_get, refl, sym, ◌∙◌, ap, subst}
+use Rattle.std.proofs.Common.{◌≡◌, ℕ, Bool, true, false, List, [], ◌∷◌, ◌++◌, Option, Some, None, option_map, refl, sym, ◌∙◌, ap}
 use Rattle.wake_lock.specs.declared.CallId.{CallId}
 use Rattle.wake_lock.specs.Calls.{same_call}
 use Rattle.wake_lock.proofs.Calls.{same_call-eq}
 use Rattle.sequential_signer.specs.ExpectedReply.{expected_reply}
-use Rattle.sequential_signer.specs.Hold.{begin_of, answers_of}
 use Rattle.sequential_signer.specs.Legal.{IsLegal}
-use Rattle.sequential_signer.specs.Phase.{Phase, Unknown, phase_in, phase_of, is_live}
+use Rattle.sequential_signer.specs.Phase.{Unknown, phase_in, phase_of, is_live}
 use Rattle.sequential_signer.specs.Policy.{Policy}
 use Rattle.sequential_signer.specs.Setup.{Setup, cache_of}
 use Rattle.sequential_signer.specs.Transcript.{call_of, entries_of, committed_entries}
@@ -16,7 +15,7 @@ use Rattle.sequential_signer.specs.declared.event.Reply.TheVariants.{NotNow}
 use Rattle.sequential_signer.proofs.CallInvariant.{phase-other, refused_phase}
 use Rattle.sequential_signer.proofs.Run.{legal_keeps}
 use Rattle.desk_parts.specs.Tables.{setup_of, find_call, phase_of_stage}
-use Rattle.desk_parts.proofs.LiveRecord.{RecordSays, record_says}
+use Rattle.desk_parts.proofs.LiveRecord.{record_says}
 use Rattle.sign_desk.specs.DeskState.{DeskState, Represents, live_view}
 use Rattle.sign_desk.specs.Records.{CallRecord}
 use Rattle.sign_desk.proofs.LiveRecord.{not_live}

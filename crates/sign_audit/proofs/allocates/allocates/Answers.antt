@@ -1,8 +1,7 @@
-use Rattle.std.proofs.Common.{◌≡◌, ◌∙◌, ap, sym, subst, true, inl, inr, List}
+use Rattle.std.proofs.Common.{◌≡◌, ◌∙◌, ap, sym, subst, true, inl, inr}
 use Rattle.sequential_signer.specs.Legal.{allocates, IsLegalEntry}
 use Rattle.sequential_signer.specs.Policy.{policy_of}
 use Rattle.sequential_signer.specs.Transcript.{committed_entries}
-use Rattle.sequential_signer.specs.declared.event.Entry.{Entry}
 use Rattle.sequential_signer.specs.declared.event.Event.{Event}
 use Rattle.desk_parts.specs.Tables.{setup_of}
 use Rattle.sign_desk.specs.ReplyKinds.{is_reply_to}

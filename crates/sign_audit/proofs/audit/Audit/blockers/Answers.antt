@@ -1,4 +1,4 @@
-use Rattle.std.proofs.Common.{◌≡◌, ◌∙◌, ap, sym, List, Result, Ok, Err, IfOk}
+use Rattle.std.proofs.Common.{◌≡◌, ◌∙◌, ap, sym, Result, Ok, Err, IfOk}
 use Rattle.sequential_signer.specs.Policy.{policy_of}
 use Rattle.desk_parts.specs.Queue.{line_at}
 use Rattle.sign_audit.specs.AuditState.{AuditState}

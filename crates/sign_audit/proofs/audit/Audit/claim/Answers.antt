@@ -1,7 +1,6 @@
-use Rattle.std.proofs.Common.{◌≡◌, Bool, true, false, ◌∙◌, sym, rules}
+use Rattle.std.proofs.Common.{rules}
 use Rattle.std.specs.Fn.{FnReturnsAt}
 use Rattle.sequential_signer.specs.Policy.{policy_of}
-use Rattle.sequential_signer.specs.declared.event.Reply.{Reply}
 use Rattle.sign_audit.proofs.ClaimedEntries.{entry-answer}
 use Rattle.sign_audit.proofs.audit.Audit.claim.Goals as goal
 

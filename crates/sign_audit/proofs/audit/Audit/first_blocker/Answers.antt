@@ -1,5 +1,4 @@
-use Rattle.std.proofs.Common.{◌≡◌, ◌∙◌, ap, sym, List, Option, Some, None}
-use Rattle.wake_lock.specs.declared.CallId.{CallId}
+use Rattle.std.proofs.Common.{◌≡◌, ◌∙◌, ap, sym}
 use Rattle.wake_lock.specs.Calls.{first_of}
 use Rattle.sequential_signer.specs.Policy.{policy_of}
 use Rattle.desk_parts.specs.Queue.{line_at}

@@ -1,4 +1,4 @@
-use Rattle.std.proofs.Common.{◌≡◌, ap}
+use Rattle.std.proofs.Common.{ap}
 use Rattle.sign_audit.specs.AuditState.{AuditState}
 use Rattle.sign_audit.proofs.Blocking.{line-there}
 use Rattle.sign_audit.proofs.audit.Audit.waits_at.Goals as goal

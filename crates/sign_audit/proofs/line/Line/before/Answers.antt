@@ -1,4 +1,4 @@
-use Rattle.std.proofs.Common.{◌≡◌, ◌++◌, ◌∷◌, [], List, ◌∙◌, ap, sym}
+use Rattle.std.proofs.Common.{◌++◌, List, ◌∙◌, ap, sym}
 use Rattle.std.specs.Map.{keys_of}
 use Rattle.wake_lock.specs.declared.CallId.{CallId}
 use Rattle.sequential_signer.specs.Turn.{before_call}

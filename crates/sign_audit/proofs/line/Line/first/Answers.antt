@@ -1,7 +1,6 @@
-use Rattle.std.proofs.Common.{◌≡◌, ◌∙◌, ap, sym, option_map}
+use Rattle.std.proofs.Common.{◌∙◌, ap, sym, option_map}
 use Rattle.wake_lock.specs.declared.CallId.{CallId}
 use Rattle.wake_lock.specs.Calls.{first_of}
-use Rattle.std.specs.Map.Iter.{deref_pair}
 use Rattle.sign_audit.proofs.LineEntries.{first-key}
 use Rattle.sign_audit.proofs.line.Line.first.Goals as goal
 

@@ -1,4 +1,4 @@
-use Rattle.std.proofs.Common.{◌≡◌, List, not, filter, ◌∙◌, ap}
+use Rattle.std.proofs.Common.{List, not, filter, ◌∙◌, ap}
 use Rattle.std.specs.Map.{keys_of}
 use Rattle.wake_lock.specs.declared.CallId.{CallId}
 use Rattle.wake_lock.specs.Calls.{same_call}

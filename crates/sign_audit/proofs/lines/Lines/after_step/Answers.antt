@@ -1,9 +1,9 @@
-use Rattle.std.proofs.Common.{◌≡◌, ◌∙◌, ap, sym, length, ◌<◌, List, inl, inr}
+use Rattle.std.proofs.Common.{◌∙◌, ap, sym, length, ◌<◌, List, inl, inr}
 use Rattle.wake_lock.specs.declared.CallId.{CallId}
 use Rattle.desk_parts.proofs.ChangedAt.{write-changed}
 use Rattle.sign_audit.specs.LineChange.{changed_line, changed_lines, change_after}
 use Rattle.sign_audit.specs.declared.line_change.LineChange.{LineChange}
-use Rattle.sign_audit.specs.declared.line_change.LineChange.TheVariants.{Leaves, Stays}
+use Rattle.sign_audit.specs.declared.line_change.LineChange.TheVariants.{Leaves}
 use Rattle.sign_audit.proofs.LinesAfter.{lines-stay}
 use Rattle.sign_audit.proofs.lines.Lines.after_step.Goals as goal
 

@@ -3,7 +3,7 @@ use Rattle.wake_lock.specs.declared.CallId.{CallId}
 use Rattle.desk_parts.proofs.ChangedAt.{write-changed}
 use Rattle.sign_audit.specs.LineChange.{changed_line, changed_lines, change_before}
 use Rattle.sign_audit.specs.declared.line_change.LineChange.{LineChange}
-use Rattle.sign_audit.specs.declared.line_change.LineChange.TheVariants.{Enters, Stays}
+use Rattle.sign_audit.specs.declared.line_change.LineChange.TheVariants.{Enters}
 use Rattle.sign_audit.proofs.LinesAfter.{lines-stay}
 use Rattle.sign_audit.proofs.lines.Lines.before_step.Goals as goal
 

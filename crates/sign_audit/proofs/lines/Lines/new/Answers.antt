@@ -1,4 +1,4 @@
-use Rattle.std.proofs.Common.{◌≡◌, ◌++◌, ◌∷◌, [], List, ◌∙◌, ap, replicate}
+use Rattle.std.proofs.Common.{◌++◌, ◌∷◌, [], List, ◌∙◌, ap, replicate}
 use Rattle.std.proofs.lemmas.List.{replicate_more}
 use Rattle.wake_lock.specs.declared.CallId.{CallId}
 use Rattle.sign_audit.proofs.lines.Lines.new.Goals as goal
