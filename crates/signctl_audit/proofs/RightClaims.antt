@@ -1,7 +1,8 @@
 -- The audit never answers a right claim by another reply that was due.
 use Rattle.std.proofs.Common.{◌≡◌, ℕ, Bool, true, false, ◌&&◌, ◌||◌, List, [], ◌∷◌, Option, Some, None, if◌then◌else◌, refl, sym, ap, ◌∙◌, subst}
-use Rattle.std.specs.Prelude.{codes}
+use Rattle.std.specs.Prelude.{codes, nat_eq}
 use Rattle.std.specs.Str.{bytes_eq}
+use Rattle.std.proofs.lemmas.Bool.{false≢true}
 use Rattle.sequential_signer.specs.Transcript.{committed_entries, is_out_of_memory}
 use Rattle.sequential_signer.specs.declared.event.Event.{Event}
 use Rattle.sequential_signer.specs.declared.event.Reply.{Reply}
@@ -36,23 +37,23 @@ first_byte : List ℕ → ℕ
 first_byte [] = 0
 first_byte (b ∷ rest) = b
 
--- a line with this first byte is not the one that says that memory ran out
-begins_otherwise : (line : List ℕ) (b : ℕ) → first_byte line ≡ b → (b ≡ first_byte (codes "out of memory") → ⊥) → line ≡ codes "out of memory" → ⊥
+-- a line that does not begin so is not the one that says that memory ran out
+begins_otherwise : (line : List ℕ) → nat_eq (first_byte line) 111 ≡ false → line ≡ codes "out of memory" → ⊥
 unfolding first_byte
-begins_otherwise line b first other e = other (sym first ∙ ap first_byte e)
+begins_otherwise line other e = false≢true (sym other ∙ ap (λ (l : List ℕ). nat_eq (first_byte l) 111) e)
 
 -- no other reply is printed so
 not_printed : (answer : Reply ScriptCredential) → is_out_of_memory answer ≡ false → reply_line answer ≡ codes "out of memory" → ⊥
 unfolding first_byte
-not_printed reply.Begun m e = begins_otherwise _ 98 refl (λ h. cc) e
-not_printed reply.Pending m e = begins_otherwise _ 112 refl (λ h. cc) e
-not_printed reply.NotNow m e = begins_otherwise _ 110 refl (λ h. cc) e
-not_printed reply.OutOfMemory m e = cc
-not_printed (reply.Ask provider) m e = begins_otherwise (reply_line (reply.Ask provider)) 97 refl (λ h. cc) e
-not_printed (reply.Sign credential wake) m e = begins_otherwise (reply_line (reply.Sign credential wake)) 115 refl (λ h. cc) e
-not_printed (reply.Refused why wake) m e = begins_otherwise (reply_line (reply.Refused why wake)) 114 refl (λ h. cc) e
-not_printed (reply.Done head) m e = begins_otherwise (reply_line (reply.Done head)) 100 refl (λ h. cc) e
-not_printed (reply.Cancelled wake) m e = begins_otherwise (reply_line (reply.Cancelled wake)) 99 refl (λ h. cc) e
+not_printed reply.Begun m e = begins_otherwise (reply_line reply.Begun) refl e
+not_printed reply.Pending m e = begins_otherwise (reply_line reply.Pending) refl e
+not_printed reply.NotNow m e = begins_otherwise (reply_line reply.NotNow) refl e
+not_printed reply.OutOfMemory m e = false≢true (sym m)
+not_printed (reply.Ask provider) m e = begins_otherwise (reply_line (reply.Ask provider)) refl e
+not_printed (reply.Sign credential wake) m e = begins_otherwise (reply_line (reply.Sign credential wake)) refl e
+not_printed (reply.Refused why wake) m e = begins_otherwise (reply_line (reply.Refused why wake)) refl e
+not_printed (reply.Done head) m e = begins_otherwise (reply_line (reply.Done head)) refl e
+not_printed (reply.Cancelled wake) m e = begins_otherwise (reply_line (reply.Cancelled wake)) refl e
 
 missed-is : (claimed : ClaimedReply) → is_missed claimed ≡ true → claimed ≡ claim.OutOfMemory
 missed-is claim.OutOfMemory h = refl

@@ -20,6 +20,12 @@ take_item-requires c =
     let P : AuditLine → Type 0 = λ line. MayFollow audit_command lines line in
     (account_of lines, c.requires.1.account, says-good lines c.in-Says.item (subst P c.in-Says.is c.requires.2), has-room lines c.requires.3)
 
+pub take_claim-requires : goal.take_claim-requires
+take_claim-requires c =
+    let lines = c.requires.0 in
+    let P : AuditLine → Type 0 = λ line. MayFollow audit_command lines line in
+    (account_of lines, c.requires.1.account, claim-right lines c.in-Claims.claimed (subst P c.in-Claims.is c.requires.2))
+
 pub count_line-requires : goal.count_line-requires
 count_line-requires c = lines-fit _ (account_of c.requires.0) c.requires.1.account (has-room c.requires.0 c.requires.3)
 
