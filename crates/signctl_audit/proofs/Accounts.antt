@@ -1,10 +1,7 @@
 -- What one more line makes of an account.
-use Rattle.std.proofs.Common.{◌≡◌, ◌≤◌, ◌+◌, ℕ, suc, List, [], ◌∷◌, ◌++◌, length, Option, Some, None, fold, refl, sym, ap, ◌∙◌, arith}
+use Rattle.std.proofs.Common.{◌≡◌, ◌≤◌, ◌+◌, List, [], ◌∷◌, ◌++◌, length, Option, Some, None, fold, refl, arith}
 use Rattle.std.proofs.lemmas.List.{length-append}
 use Rattle.std.proofs.lemmas.List.Sums.{fold-append}
-use Rattle.sequential_signer.specs.declared.event.Entry.{Entry}
-use Rattle.signctl_format.specs.declared.credential.ScriptCredential.{ScriptCredential}
-use Rattle.signctl_format.specs.ScriptEvents.{ScriptItem}
 use Rattle.signctl_audit.specs.Account.{Account, no_lines, subject_in, claimed_entry, entries_with, with_line, account_of}
 use Rattle.signctl_audit.specs.declared.audit_line.AuditLine.{AuditLine}
 use Rattle.signctl_audit.specs.declared.audit_line.AuditLine.TheVariants.{VersionTwo, Says, Claims}

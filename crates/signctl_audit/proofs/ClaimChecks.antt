@@ -1,7 +1,6 @@
 -- What an audit says of an event is what the account of the lines says of it.
-use Rattle.std.proofs.Common.{◌≡◌, ◌<◌, ◌≤◌, ◌^◌, ℕ, Bool, true, false, ◌&&◌, List, length, map, Option, Some, None, if◌then◌else◌, refl, sym, ap, ◌∙◌, inl, inr, arith}
+use Rattle.std.proofs.Common.{◌≡◌, ◌<◌, ◌≤◌, ◌^◌, ℕ, true, false, ◌&&◌, List, length, None, refl, sym, ap, ◌∙◌, inl, inr, arith}
 use Rattle.std.proofs.lemmas.List.{length-map}
-use Rattle.std.specs.Str.{bytes_eq}
 use Rattle.sign_base.specs.Lines.{input_limit}
 use Rattle.wake_lock.specs.declared.CallId.{CallId}
 use Rattle.wake_lock.specs.Calls.{first_of}
@@ -13,18 +12,15 @@ use Rattle.sequential_signer.specs.Legal.{allocates, IsLegalEntry}
 use Rattle.sequential_signer.specs.declared.event.Entry.{Entry}
 use Rattle.sequential_signer.specs.declared.event.Event.{Event}
 use Rattle.sequential_signer.specs.declared.event.Reply.{Reply}
-use Rattle.sequential_signer.specs.declared.event.Reply.TheVariants.{OutOfMemory}
 use Rattle.desk_parts.specs.Tables.{setup_of}
 use Rattle.sign_audit.specs.AuditState.{AuditState}
 use Rattle.sign_audit.specs.Blockers.{blockers_of}
 use Rattle.sign_audit.specs.Counts.{counts_of}
-use Rattle.sign_audit.specs.declared.counts.Counts.{Counts}
 use Rattle.signctl_format.specs.declared.credential.ScriptCredential.{ScriptCredential}
 use Rattle.signctl_format.specs.declared.credential.ScriptRule.{ScriptRule}
 use Rattle.signctl_format.specs.Policy.{script_policy}
 use Rattle.signctl_format.specs.ScriptEvents.{plain_event}
 use Rattle.signctl_format.specs.ScriptSetup.{setup_in}
-use Rattle.signctl_audit.specs.AuditCauses.{due_line}
 use Rattle.signctl_audit.specs.Account.{Account, reply_due}
 use Rattle.signctl_audit.specs.AuditReading.{due_of, is_missed, may_miss, behind_of, due_error, subject_error}
 use Rattle.signctl_audit.specs.SessionState.{plain_entries, IsAudited}

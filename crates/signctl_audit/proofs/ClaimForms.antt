@@ -1,5 +1,5 @@
 -- Each form of a claim: what spells it reads as it, and what reads as it spells it.
-use Rattle.std.proofs.Common.{◌≡◌, ◌≤◌, ℕ, Bool, true, List, [], ◌∷◌, ◌++◌, Option, Some, None, refl, ap, subst, ◌∙◌, inl, inr, arith}
+use Rattle.std.proofs.Common.{◌≡◌, ◌≤◌, ℕ, true, List, [], ◌∷◌, ◌++◌, Option, Some, None, refl, ap, subst, ◌∙◌, inl, inr, arith}
 use Rattle.std.specs.Prelude.{codes}
 use Rattle.std.specs.Str.{bytes_eq}
 use Rattle.std.specs.Fmt.{decimal}
@@ -7,15 +7,14 @@ use Rattle.sign_base.specs.declared.head.Head.{Head}
 use Rattle.wake_lock.specs.declared.CallId.{CallId}
 use Rattle.signctl_format.specs.Words.{greatest_u32, greatest_u64}
 use Rattle.signctl_format.specs.Heads.{head_words, IsLineHead}
-use Rattle.signctl_format.specs.Lines.{call_words, wake_words}
-use Rattle.signctl_format.specs.Grammar.{IsLineCall}
+use Rattle.signctl_format.specs.Lines.{wake_words}
 use Rattle.signctl_format.specs.Steps.{◌>>=◌, at_end_of_line}
 use Rattle.signctl_format.specs.Reading.{number_at, call_at, head_in}
 use Rattle.signctl_format.proofs.ReadingSteps.{same_word, some_is, chosen, passed_test, bind_some, ended_some}
 use Rattle.signctl_format.proofs.Headers.{head_in-words, head_in-some}
 use Rattle.signctl_format.proofs.Calls.{number_at-decimal, number_at-some, call_at-words, call_at-some}
 use Rattle.signctl_format.proofs.Forms.{Has}
-use Rattle.signctl_audit.specs.ClaimedLines.{claimed_why_words, claimed_words, IsLineWake, IsLineWhy, IsLineClaim, SpellsReply}
+use Rattle.signctl_audit.specs.ClaimedLines.{claimed_why_words, IsLineWake, IsLineWhy, SpellsReply}
 use Rattle.signctl_audit.specs.ClaimReading.{woken_in, wake_in, loader_at, service_at, why_at, cache_claim, handle_claim, ask_claim, sign_claim, refused_claim, done_claim, cancelled_claim}
 use Rattle.signctl_audit.specs.declared.claimed_reply.ClaimedReply.{ClaimedReply}
 use Rattle.signctl_audit.specs.declared.claimed_reply.ClaimedReply.TheVariants.{Cache, Handle, Ask, Sign, Refused, Done, Cancelled}

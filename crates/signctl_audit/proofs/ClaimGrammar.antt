@@ -6,7 +6,6 @@ use Rattle.std.proofs.lemmas.Bool.{cases_Bool, false≢true}
 use Rattle.std.proofs.lemmas.Slice.Eq.{bytes_eq-Decides}
 use Rattle.sequential_signer.specs.declared.event.Reply.{Reply}
 use Rattle.sequential_signer.specs.declared.event.Reply.TheVariants as reply
-use Rattle.sequential_signer.specs.declared.event.Why.{Why}
 use Rattle.sequential_signer.specs.declared.event.Why.TheVariants as why
 use Rattle.signctl_format.specs.declared.credential.ScriptCredential.{ScriptCredential}
 use Rattle.signctl_format.specs.Words.{words}

@@ -1,5 +1,5 @@
 -- How the output of `audit` closes.
-use Rattle.std.proofs.Common.{◌≡◌, ℕ, zero, suc, List, [], ◌++◌, length, append_assoc, append-nil, refl, sym, ap, ◌∙◌}
+use Rattle.std.proofs.Common.{◌≡◌, ℕ, suc, List, ◌++◌, append_assoc, append-nil, sym, ap, ◌∙◌}
 use Rattle.signctl_format.specs.Lines.{with_newline}
 use Rattle.signctl_format.specs.ScriptSetup.{setup_in}
 use Rattle.sign_audit.specs.Counts.{counts_of}

@@ -1,5 +1,5 @@
 -- What is known of a line of `audit` that was read.
-use Rattle.std.proofs.Common.{◌≡◌, ℕ, List, Bool, true, false, ◌&&◌, if◌then◌else◌, Option, Some, None, Result, Ok, Err, refl, ap, subst}
+use Rattle.std.proofs.Common.{◌≡◌, ℕ, List, Bool, true, false, ◌&&◌, if◌then◌else◌, Option, Some, None, Ok, refl, ap, subst}
 use Rattle.std.specs.Prelude.{is_none}
 use Rattle.signctl_driver.specs.Command.{MayFollow}
 use Rattle.signctl_format.specs.ScriptEvents.{ScriptItem}

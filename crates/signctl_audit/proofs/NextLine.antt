@@ -1,5 +1,5 @@
 -- A session after one more line represents the account with this line.
-use Rattle.std.proofs.Common.{◌≡◌, ◌<◌, ◌≤◌, ◌+◌, ℕ, suc, arith, Bool, true, false, not, nat_lt, List, [], ◌∷◌, ◌++◌, length, map, Option, Some, None, option_map, Result, Ok, Err, if◌then◌else◌, refl, sym, ap, ◌∙◌, subst, inl, inr}
+use Rattle.std.proofs.Common.{◌≡◌, ◌<◌, ◌+◌, ℕ, arith, Bool, true, false, nat_lt, List, [], ◌∷◌, ◌++◌, length, Option, Some, None, option_map, Result, Ok, Err, if◌then◌else◌, refl, sym, ap, ◌∙◌, subst}
 use Rattle.std.proofs.lemmas.List.{append-nil, map-append, length-append}
 use Rattle.sign_base.specs.Lines.{input_limit}
 use Rattle.sequential_signer.specs.Setup.{Setup, Handle}
@@ -11,7 +11,7 @@ use Rattle.sequential_signer.specs.declared.event.Loader.{Loader}
 use Rattle.sequential_signer.specs.declared.event.Reply.{Reply}
 use Rattle.sequential_signer.specs.declared.event.Reply.TheVariants as reply
 use Rattle.sign_desk.specs.DeskState.{DeskState, Represents, with_cache}
-use Rattle.desk_parts.specs.Tables.{setup_of, was_begun}
+use Rattle.desk_parts.specs.Tables.{setup_of}
 use Rattle.desk_parts.specs.Adding.{with_handle, AddAnswer, late_refusal, handle_refusal}
 use Rattle.desk_parts.specs.declared.adding.AddError.{AddError}
 use Rattle.desk_parts.proofs.AddAnswers.{cache-allowed, handle-allowed}
@@ -26,9 +26,9 @@ use Rattle.signctl_format.specs.declared.script_version.ScriptVersion.{ScriptVer
 use Rattle.signctl_format.specs.Policy.{script_policy}
 use Rattle.signctl_format.specs.ScriptEvents.{ScriptItem, plain_event}
 use Rattle.signctl_format.specs.ScriptSetup.{is_empty, place_of_rule, setup_in, events_in, item_error}
-use Rattle.signctl_format.proofs.SetupIn.{setup_in-silent, setup_in-cache, setup_in-handle, setup_in-event, events_in-more, rule-placed, caches-few, handles-few, cache-no_event, handle-no_event, handle-cache, one-more}
+use Rattle.signctl_format.proofs.SetupIn.{setup_in-silent, setup_in-cache, setup_in-handle, setup_in-event, events_in-more, rule-placed, caches-few, handles-few, cache-no_event, handle-no_event, handle-cache}
 use Rattle.signctl_audit.specs.Account.{Account, reply_due, subject_of, unclaimed_with, subject_in, claimed_entry, entries_with, with_item, with_claim, counted}
-use Rattle.signctl_audit.specs.AuditReading.{is_missed, overdue, missing_claim, script_error, audit_item_error}
+use Rattle.signctl_audit.specs.AuditReading.{is_missed, overdue, script_error, audit_item_error}
 use Rattle.signctl_audit.specs.SessionState.{SessionState, plain_entries, IsNoEvent, IsSetUp, IsAudited, HasSigner, RepresentsAccount}
 use Rattle.signctl_audit.specs.declared.audit_error.AuditError.{AuditError}
 use Rattle.signctl_audit.specs.declared.audit_line.Subject.{Subject}

@@ -1,15 +1,13 @@
 -- Entries as lines have them, and those that the audit was given, are alike: they differ in how durations are stored alone.
-use Rattle.std.proofs.Common.{◌≡◌, ℕ, suc, Bool, true, false, not, ◌&&◌, List, [], ◌∷◌, ◌++◌, length, map, filter, Option, Some, None, option_map, refl, sym, ap, ◌∙◌, arith}
+use Rattle.std.proofs.Common.{◌≡◌, ℕ, suc, Bool, true, false, not, List, [], ◌∷◌, length, filter, Option, Some, None, option_map, refl, ap, ◌∙◌, arith}
 use Rattle.std.specs.Duration.{as_nanos}
-use Rattle.std.specs.List.{list_any}
 use Rattle.std.specs.declared.time.Duration.{Duration}
-use Rattle.std.proofs.lemmas.List.{map-append}
 use Rattle.wake_lock.specs.declared.CallId.{CallId}
 use Rattle.wake_lock.specs.Calls.{same_call}
 use Rattle.sequential_signer.specs.LawsOfCaches.{is_ask}
-use Rattle.sequential_signer.specs.Setup.{Setup, cache_of, is_of_cache}
+use Rattle.sequential_signer.specs.Setup.{Setup, cache_of}
 use Rattle.sequential_signer.specs.Transcript.{call_of, is_about, is_out_of_memory, entries_of, committed_entries}
-use Rattle.sequential_signer.specs.Phase.{is_live, is_poll, phase_of}
+use Rattle.sequential_signer.specs.Phase.{is_poll}
 use Rattle.sequential_signer.specs.Turn.{first_of_each, before_call, is_poll_at, ends_hold, poll_order, calls_ahead, hold_is_finished}
 use Rattle.sequential_signer.specs.ExpectedReply.{expected_reply}
 use Rattle.sequential_signer.specs.Legal.{is_sign, allocates}
@@ -21,7 +19,7 @@ use Rattle.sequential_signer.specs.declared.event.Reply.{Reply}
 use Rattle.sequential_signer.specs.declared.event.Verdict.TheVariants as verdict
 use Rattle.sequential_signer.proofs.Lists.{filter-same}
 use Rattle.sequential_signer.proofs.Pairwise.{Pairwise, none, more, map-pairwise, filter-pairwise, list_any-pairwise}
-use Rattle.sequential_signer.proofs.StoredDurations.{AreAlike, begins, equal, AlikeEntries, AlikeTranscripts, phase_of-alike, is_new_number-alike, expected_reply-alike, expected_reply-with_events}
+use Rattle.sequential_signer.proofs.StoredDurations.{AreAlike, begins, equal, AlikeTranscripts, phase_of-alike, is_new_number-alike, expected_reply-alike, expected_reply-with_events}
 use Rattle.sign_audit.specs.Blockers.{open_ahead, blockers_of}
 use Rattle.sign_audit.specs.Counts.{is_refused, is_cancelled, is_kind_at, number_at, counts_of}
 use Rattle.signctl_format.specs.declared.credential.ScriptCredential.{ScriptCredential}

@@ -7,7 +7,6 @@ use Rattle.sequential_signer.specs.Transcript.{committed_entries, is_out_of_memo
 use Rattle.sequential_signer.specs.declared.event.Event.{Event}
 use Rattle.sequential_signer.specs.declared.event.Reply.{Reply}
 use Rattle.sequential_signer.specs.declared.event.Reply.TheVariants as reply
-use Rattle.sequential_signer.proofs.Lists.{and_false}
 use Rattle.sequential_signer.proofs.Run.{expected_in_memory}
 use Rattle.sign_audit.specs.Answers.{ClaimFits, AnswersTest}
 use Rattle.sign_audit.specs.AuditState.{AuditState}

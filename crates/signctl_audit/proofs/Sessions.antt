@@ -1,9 +1,7 @@
 -- A session before the first line, and what is known of one while a line is answered.
-use Rattle.std.proofs.Common.{◌≡◌, ◌<◌, ◌≤◌, ◌+◌, ℕ, List, [], ◌∷◌, ◌++◌, length, Option, Some, None, refl, sym, ap, ◌∙◌, subst, arith}
+use Rattle.std.proofs.Common.{◌≡◌, ◌<◌, ◌≤◌, ◌+◌, List, [], ◌∷◌, ◌++◌, length, Some, None, refl, sym, ◌∙◌, subst, arith}
 use Rattle.std.proofs.lemmas.List.{length-append}
 use Rattle.sign_base.specs.Lines.{input_limit}
-use Rattle.sequential_signer.specs.Setup.{Setup}
-use Rattle.sequential_signer.specs.declared.event.Event.{Event}
 use Rattle.sign_desk.specs.DeskState.{DeskState, Represents}
 use Rattle.desk_parts.specs.Tables.{setup_of}
 use Rattle.signctl_format.specs.declared.credential.ScriptCredential.{ScriptCredential}

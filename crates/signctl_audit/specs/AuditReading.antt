@@ -6,8 +6,6 @@ use Rattle.wake_lock.specs.Calls.{first_of}
 use Rattle.sequential_signer.specs.Transcript.{committed_entries, call_of}
 use Rattle.sequential_signer.specs.Phase.{is_pending}
 use Rattle.sequential_signer.specs.Legal.{allocates}
-use Rattle.sequential_signer.specs.declared.event.Event.{Event}
-use Rattle.signctl_format.specs.declared.credential.ScriptCredential.{ScriptCredential}
 use Rattle.signctl_format.specs.declared.line_error.LineError.{LineError}
 use Rattle.signctl_format.specs.declared.line_error.LineError.TheVariants.{NotUnderstood}
 use Rattle.signctl_format.specs.Policy.{script_policy}

@@ -1,4 +1,4 @@
-use Rattle.std.proofs.Common.{◌≡◌, ◌<◌, ◌++◌, ℕ, List, length, ap, ◌∙◌, add-one, sym, subst, arith}
+use Rattle.std.proofs.Common.{◌≡◌, ◌<◌, ◌++◌, ℕ, length, ap, ◌∙◌, add-one, sym, subst, arith}
 use Rattle.sign_audit.specs.Counts.{counts_of}
 use Rattle.sign_audit.specs.declared.counts.Counts.{Counts}
 use Rattle.signctl_format.specs.Lines.{with_newline}

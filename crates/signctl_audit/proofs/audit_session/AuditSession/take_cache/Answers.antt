@@ -1,4 +1,4 @@
-use Rattle.std.proofs.Common.{ap, ◌∙◌, sym, arith}
+use Rattle.std.proofs.Common.{arith}
 use Rattle.signctl_audit.proofs.NextLine.{as_seen, set_up, caches-fit, cache-out_of_memory, cache-number, next-cache}
 use Rattle.signctl_audit.proofs.Sessions.{lines-fit}
 use Rattle.signctl_audit.proofs.Sessions as sessions

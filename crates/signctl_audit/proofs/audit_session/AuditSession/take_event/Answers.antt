@@ -1,4 +1,4 @@
-use Rattle.std.proofs.Common.{◌≡◌, ◌+◌, ℕ, Some, sym, ap, ◌∙◌, subst, arith}
+use Rattle.std.proofs.Common.{◌+◌, ℕ, Some, sym, ap, ◌∙◌, subst, arith}
 use Rattle.signctl_format.specs.declared.item.Item.TheVariants as item
 use Rattle.signctl_audit.specs.Account.{with_item}
 use Rattle.signctl_audit.specs.SessionState.{SessionState, RepresentsAccount}
