@@ -9,3 +9,4 @@ pub mod RightClaims
 pub mod LineWords
 pub mod Sessions
 pub mod CountLines
+pub mod LegalLogs

@@ -28,7 +28,7 @@ use Rattle.signctl_format.specs.ScriptEvents.{ScriptItem, plain_event}
 use Rattle.signctl_format.specs.ScriptSetup.{is_empty, place_of_rule, setup_in, events_in, item_error}
 use Rattle.signctl_format.proofs.SetupIn.{setup_in-silent, setup_in-cache, setup_in-handle, setup_in-event, events_in-more, rule-placed, caches-few, handles-few, cache-no_event, handle-no_event, handle-cache}
 use Rattle.signctl_audit.specs.Account.{Account, reply_due, subject_of, unclaimed_with, subject_in, claimed_entry, entries_with, with_item, with_claim, counted}
-use Rattle.signctl_audit.specs.AuditReading.{is_missed, overdue, script_error, audit_item_error}
+use Rattle.signctl_audit.specs.AuditReading.{is_missed, overdue, missing_claim, script_error, audit_item_error}
 use Rattle.signctl_audit.specs.SessionState.{SessionState, plain_entries, IsNoEvent, IsSetUp, IsAudited, HasSigner, RepresentsAccount}
 use Rattle.signctl_audit.specs.declared.audit_error.AuditError.{AuditError}
 use Rattle.signctl_audit.specs.declared.audit_line.Subject.{Subject}
@@ -60,6 +60,12 @@ good-item a x h = (none_before (item_error a.items x) _ h).0
 not_overdue : (unclaimed : Option Unclaimed) → overdue unclaimed ≡ None → unclaimed ≡ None
 not_overdue None h = refl
 not_overdue (Some unclaimed) h = absurd cc
+
+-- so it is where a good item makes something
+pub none-wanted : (a : Account) (x : ScriptItem) (subject : Subject) → subject_of a.items x ≡ Some subject → audit_item_error a x ≡ None → a.unclaimed ≡ None
+none-wanted a x subject makes h =
+    let P : Option Subject → Type 0 = λ made. missing_claim made a.unclaimed ≡ None in
+    not_overdue a.unclaimed (subst P makes (none_before (item_error a.items x) _ h).1)
 
 empty_is : {A : Type 0} (xs : List A) → is_empty xs ≡ true → xs ≡ []
 empty_is [] h = refl

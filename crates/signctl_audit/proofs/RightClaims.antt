@@ -19,7 +19,7 @@ use Rattle.signctl_format.specs.ScriptEvents.{plain_event}
 use Rattle.signctl_format.specs.ScriptSetup.{setup_in}
 use Rattle.signctl_format.proofs.ReadingSteps.{same_word}
 use Rattle.signctl_audit.specs.Account.{Account, reply_due, subject_in}
-use Rattle.signctl_audit.specs.AuditReading.{is_missed, may_miss, is_right, claim_error}
+use Rattle.signctl_audit.specs.AuditReading.{is_missed, may_miss, is_right, subject_error, claim_error}
 use Rattle.signctl_audit.specs.ClaimReading.{claim_of}
 use Rattle.signctl_audit.specs.SessionState.{IsAudited}
 use Rattle.signctl_audit.specs.Taking.{IsRightClaim, IsLegalOrNoMemory}
@@ -81,22 +81,24 @@ last_test : (a b c : Bool) → b ≡ false → ((a && b) || c) ≡ true → c �
 last_test true b c none h = let e : ((true && b) || c) ≡ c = ap (λ v. (true && v) || c) none in sym e ∙ h
 last_test false b c none h = h
 
+-- a claim about an event, whose words are right
+module _ (a : Account) (seen : Event ScriptCredential) (claimed : ClaimedReply) (text : List ℕ) (read : claim_of text ≡ Some claimed) (good : subject_error a (Happened seen) claimed text ≡ None) where
+  -- where it says that an allocation failed, the event allocates
+  pub missed-allocates : is_missed claimed ≡ true → may_miss a (Happened seen) ≡ false → ⊥
+  missed-allocates m none =
+      let right : is_right a (Happened seen) claimed text ≡ true = no_error _ _ good in
+      let printed : text ≡ reply_line (reply_due a seen) = same_word _ _ (last_test (is_missed claimed) (may_miss a (Happened seen)) (bytes_eq text (reply_line (reply_due a seen))) none right) in
+      not_printed (reply_due a seen) (expected_in_memory script_policy (setup_in a.items) (committed_entries a.entries) seen)
+      (sym printed ∙ missed-text text claimed read m)
+
 module _ (audit : AuditState ScriptCredential ScriptRule) (a : Account) (stands : IsAudited audit a) (event seen : Event ScriptCredential) (is_seen : plain_event event ≡ seen)
     (about : subject_in a ≡ Some (Happened seen)) (claimed : ClaimedReply) (missed : Bool) (says_missed : missed ≡ is_missed claimed) (right : IsRightClaim a claimed) where
-  -- the words are right
-  right-words : is_right a (Happened seen) claimed right.0 ≡ true
-  right-words = no_error _ _ (subst (λ (s : Option Subject). claim_error a s claimed right.0 ≡ None) about right.2)
-
-  -- a right claim that an allocation failed is about an event that allocates
-  missed-allocates : missed ≡ true → may_miss a (Happened seen) ≡ false → ⊥
-  missed-allocates m none =
-      let printed : right.0 ≡ reply_line (reply_due a seen) = same_word _ _ (last_test (is_missed claimed) (may_miss a (Happened seen)) (bytes_eq right.0 (reply_line (reply_due a seen))) none right-words) in
-      not_printed (reply_due a seen) (expected_in_memory script_policy (setup_in a.items) (committed_entries a.entries) seen)
-      (sym printed ∙ missed-text right.0 claimed right.1 (sym says_missed ∙ m))
+  about-event : subject_error a (Happened seen) claimed right.0 ≡ None
+  about-event = subst (λ (s : Option Subject). claim_error a s claimed right.0 ≡ None) about right.2
 
   module _ (fits : Reply ScriptCredential → Bool → Type 0) (always : (answer : Reply ScriptCredential) → fits answer false → ⊥) where
     not_due : (b : Bool) → missed ≡ b → ClaimFits script_policy audit stands.stepped fits b event false → ⊥
-    not_due true m h = missed-allocates m (sym (may-is audit a stands event seen is_seen) ∙ h)
+    not_due true m h = missed-allocates a seen claimed right.0 right.1 about-event (sym says_missed ∙ m) (sym (may-is audit a stands event seen is_seen) ∙ h)
     not_due false m h = always _ h
 
     -- by a test that all replies pass, a right claim is legal, unless an allocation failed

@@ -6,3 +6,4 @@ pub mod AuditReading
 pub mod AuditOutput
 pub mod SessionState
 pub mod Taking
+pub mod LegalLogs

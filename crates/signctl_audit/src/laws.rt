@@ -1,4 +1,4 @@
-//! Laws of the grammar of claims: each is the contract of a call that does nothing.
+//! Laws of claims: each is the contract of a call that does nothing.
 ghost use Rattle.std.specs.Prelude.{◌≡◌, ◌↔◌, ℕ, List, Some};
 ghost use Rattle.sequential_signer.specs.declared.event.Reply.{Reply};
 ghost use Rattle.signctl_format.specs.declared.credential.ScriptCredential.{ScriptCredential};
@@ -6,6 +6,7 @@ ghost use Rattle.signctl_format.specs.Lines.{reply_line};
 ghost use Rattle.signctl_audit.specs.declared.claimed_reply.ClaimedReply.{ClaimedReply};
 ghost use Rattle.signctl_audit.specs.ClaimedLines.{shown, claimed_line, SpellsReply};
 ghost use Rattle.signctl_audit.specs.ClaimReading.{claim_of};
+ghost use Rattle.signctl_audit.specs.LegalLogs.{AcceptedClaimsAreLegal};
 
 /// A text reads as a claim exactly where it spells it.
 #[tactic(auto, using(crate::proofs::ClaimGrammar::decided))]
@@ -29,4 +30,10 @@ pub fn a_claim_has_one_spelling()
 #[tactic(auto, using(crate::proofs::ClaimGrammar::printed))]
 pub fn a_printed_reply_is_claimed_by_its_line()
     ensures { (reply : Reply ScriptCredential) → reply_line reply ≡ claimed_line (shown reply) }
+{}
+
+/// Whatever the input of `audit`, the claims before its first bad line are a legal transcript for the setup that
+/// the lines make. It is one of their events, but for the last where that still wants its claim.
+pub fn accepted_claims_are_legal()
+    ensures { AcceptedClaimsAreLegal }
 {}
