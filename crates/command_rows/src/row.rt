@@ -1,4 +1,5 @@
 //! A row: words of a command line, an input, and what these are to be answered.
+use crate::log::audited_claims;
 use crate::run::{is_answered, push_line};
 use std::alloc::{AllocError, Global};
 use std::fmt;
@@ -11,9 +12,9 @@ pub struct Row {
     shows: String,
     /// The words after the program's name, parted by `|`.
     words: String,
-    input: Vec<u8>,
+    input: String,
     /// What is written to standard output, and then the other marked lines as they stand.
-    answer: Vec<u8>,
+    answer: String,
 }
 
 impl Row {
@@ -22,8 +23,8 @@ impl Row {
             alloc,
             shows: String::new(alloc),
             words: String::new(alloc),
-            input: Vec::new(alloc),
-            answer: Vec::new(alloc),
+            input: String::new(alloc),
+            answer: String::new(alloc),
         }
     }
 
@@ -34,7 +35,7 @@ impl Row {
             "#" => self.begin(rest)?,
             "$" => self.words = String::from_str(self.alloc, rest)?,
             ">" => push_line(&mut self.input, rest)?,
-            "-" => self.input.extend_from_slice(rest.as_bytes())?,
+            "-" => self.input.push_str(rest)?,
             "<" => push_line(&mut self.answer, rest)?,
             "!" | "=" => push_line(&mut self.answer, line)?,
             _ => {}
@@ -55,14 +56,23 @@ impl Row {
             if !is_answered(
                 self.alloc,
                 self.words.as_str(),
-                self.input.as_slice(),
+                self.input.as_bytes(),
                 piece,
-                self.answer.as_slice(),
+                self.answer.as_bytes(),
             ) {
                 return false;
             }
         }
         true
+    }
+
+    /// How many of its answers an audit was told as claims, one by one changed and all of them as they stand:
+    /// those of a script. None where it answers otherwise than it is to.
+    pub fn audited_claims(&self) -> Result<Option<u64>, AllocError> {
+        if self.words.as_str() != "signctl|script" {
+            return Ok(Some(0));
+        }
+        audited_claims(self.alloc, self.input.as_str(), self.answer.as_str())
     }
 }
 

@@ -8,10 +8,10 @@ use std::alloc::{AllocError, Global};
 /// The bytes that a sink has room for.
 const ROOM: usize = 8_192;
 
-/// Adds a text and a newline.
-pub fn push_line(bytes: &mut Vec<u8>, line: &str) -> Result<(), AllocError> {
-    bytes.extend_from_slice(line.as_bytes())?;
-    bytes.extend_from_slice(b"\n")
+/// Adds a line and a newline.
+pub fn push_line(text: &mut String, line: &str) -> Result<(), AllocError> {
+    text.push_str(line)?;
+    text.push('\n')
 }
 
 /// Whether the program writes this answer, in pieces of so many bytes at the most.
@@ -25,7 +25,7 @@ pub fn is_answered(alloc: Global, words: &str, input: &[u8], piece: usize, answe
 }
 
 /// What the program writes, with its exit status. None where memory is lacking.
-fn written(alloc: Global, words: &str, input: &[u8], piece: usize) -> Option<Vec<u8>>
+pub fn written(alloc: Global, words: &str, input: &[u8], piece: usize) -> Option<Vec<u8>>
     requires { 0 < piece }
 {
     let mut source = source(alloc, input, piece)?;

@@ -37,6 +37,26 @@ fn long_lines_are_refused(rt: HostRuntime) {
     }
 }
 
+/// A log of a cache whose claim is missing, and then a remark of so many bytes.
+fn unclaimed(alloc: Global, count: usize) -> Result<Vec<u8>, AllocError> {
+    let mut bytes = Vec::from_slice(alloc, b"cache single\n")?;
+    bytes.extend_from_slice(vec![in alloc; b'#'; count]?.as_slice())?;
+    Ok(bytes)
+}
+
+/// A line that is too long is bad before the claim that is missing before it.
+#[test]
+fn a_claim_is_missing_before_a_long_line(rt: HostRuntime) {
+    for (count, output) in [
+        (65_536, b"line 1: no claim\n"),
+        (65_537, b"line 2: too long\n"),
+    ] {
+        let input = unclaimed(rt.alloc(), count).expect(&rt, "memory");
+        let ran = run_command(rt.alloc(), "audit", input, 4_096, Fault::Nowhere);
+        ends_as(&rt, ran, output, Status::Refused);
+    }
+}
+
 /// A newline more than an input may have bytes.
 #[test]
 fn newlines_are_too_many_in_pieces(rt: HostRuntime) {

@@ -4,6 +4,7 @@ use Rattle.std.specs.Str.{bytes_eq}
 use Rattle.std.specs.Io.KnownBytes.{Appends, Consumes}
 use Rattle.sign_base.specs.Faults.{CountsFault}
 use Rattle.sign_base.specs.Lines.{input_limit}
+use Rattle.signctl_audit.specs.AuditOutput.{audit_command}
 use Rattle.signctl_driver.specs.Command.{Command}
 use Rattle.signctl_driver.specs.Run.{RunAdds}
 use Rattle.signctl_driver.specs.Status.{is_read_fault, is_write_fault}
@@ -17,7 +18,7 @@ use Rattle.signctl_script.specs.Load.{most_calls, LoadAdds}
 use Rattle.signctl_script.specs.ScriptOutput.{script_command}
 use Rattle.signctl_sigv4.specs.Sigv4Answers.{sigv4_command}
 use Rattle.signctl_core.specs.declared.commands.CommandName.{CommandName}
-use Rattle.signctl_core.specs.declared.commands.CommandName.TheVariants.{Script, Hmac, View, Grant, Sigv4, Load}
+use Rattle.signctl_core.specs.declared.commands.CommandName.TheVariants.{Script, Hmac, View, Grant, Sigv4, Audit, Load}
 
 -- ---- by their words
 
@@ -29,7 +30,8 @@ command_by_word word =
     else (if bytes_eq word (codes "view") then Some View
     else (if bytes_eq word (codes "grant") then Some Grant
     else (if bytes_eq word (codes "sigv4") then Some Sigv4
-    else None))))
+    else (if bytes_eq word (codes "audit") then Some Audit
+    else None)))))
 
 -- the command that this word names with a number
 abbrev pub command_by_number : List ℕ → List ℕ → Option CommandName
@@ -70,6 +72,7 @@ Runs Hmac status source sink = RunsOver hmac_command status source sink
 Runs View status source sink = RunsOver view_command status source sink
 Runs Grant status source sink = RunsOver grant_command status source sink
 Runs Sigv4 status source sink = RunsOver sigv4_command status source sink
+Runs Audit status source sink = RunsOver audit_command status source sink
 Runs (Load n) status source sink = (source.new ≡ source.old) × Adds sink (LoadAdds n status)
 
 -- what is asked for was done

@@ -22,7 +22,7 @@ abbrev pub help_text : List ℕ
 help_text =
     usage_line
     ++ codes "\n"
-    ++ codes "These commands work. The first five read lines from standard input and answer them on standard\n"
+    ++ codes "These commands work. The first six read lines from standard input and answer them on standard\n"
     ++ codes "output; the last two read nothing.\n"
     ++ codes "\n"
     ++ codes "  script    runs the request signer: events in, its replies out\n"
@@ -30,6 +30,7 @@ help_text =
     ++ codes "  view      request heads in, what a signing service sees of each out\n"
     ++ codes "  grant     runs a credential broker: events in, its replies out\n"
     ++ codes "  sigv4     request heads with keys in, heads signed with AWS Signature Version 4 out\n"
+    ++ codes "  audit     events and the replies claimed for them in, whether these are the signer's out\n"
     ++ codes "  load N    runs N made-up calls on the signer, and counts its replies\n"
     ++ codes "  pool W J  serves J made-up calls by W threads at one shared signer, and counts them\n"
     ++ codes "\n"

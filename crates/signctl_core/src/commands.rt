@@ -7,6 +7,7 @@ ghost use Rattle.signctl_core.specs.Commands.{command_by_word, command_by_number
 
 use sign_base::{NoMemory, Sink, Source};
 use sign_request::HeaderKeys;
+use signctl_audit::AuditSession;
 use signctl_driver::{LineCommand, Status, drive};
 use signctl_each_line::LineByLine;
 use signctl_format::word::number;
@@ -27,6 +28,7 @@ pub enum CommandName {
     View,
     Grant,
     Sigv4,
+    Audit,
     /// `load` with so many calls.
     Load(u64),
 }
@@ -52,6 +54,7 @@ pub fn run<S: Source, D: Sink>(
         Some(CommandName::View) => drive(alloc, LineByLine(ViewCommand { keys }), source, sink),
         Some(CommandName::Grant) => run_lines(alloc, GrantSession::new(alloc), source, sink),
         Some(CommandName::Sigv4) => drive(alloc, LineByLine(Sigv4Command { keys }), source, sink),
+        Some(CommandName::Audit) => run_lines(alloc, AuditSession::new(alloc), source, sink),
         Some(CommandName::Load(calls)) => run_load(alloc, calls, sink),
     }
 }
@@ -76,6 +79,7 @@ fn command_by_word(word: &str) -> Option<CommandName>
         "view" => Some(CommandName::View),
         "grant" => Some(CommandName::Grant),
         "sigv4" => Some(CommandName::Sigv4),
+        "audit" => Some(CommandName::Audit),
         _ => None,
     }
 }

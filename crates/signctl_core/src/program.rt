@@ -149,7 +149,7 @@ fn help_text() -> &'static str
 {
     usage_line!(
         "
-These commands work. The first five read lines from standard input and answer them on standard
+These commands work. The first six read lines from standard input and answer them on standard
 output; the last two read nothing.
 
   script    runs the request signer: events in, its replies out
@@ -157,6 +157,7 @@ output; the last two read nothing.
   view      request heads in, what a signing service sees of each out
   grant     runs a credential broker: events in, its replies out
   sigv4     request heads with keys in, heads signed with AWS Signature Version 4 out
+  audit     events and the replies claimed for them in, whether these are the signer's out
   load N    runs N made-up calls on the signer, and counts its replies
   pool W J  serves J made-up calls by W threads at one shared signer, and counts them
 

@@ -1,0 +1,12 @@
+pub mod LineEntries
+pub mod LinesAfter
+pub mod Phases
+pub mod Counting
+pub mod Memory
+pub mod CountsKept
+pub mod NewAudit
+pub mod Missing
+pub mod Blocking
+pub mod Accepting
+pub mod Claiming
+pub mod ClaimedEntries

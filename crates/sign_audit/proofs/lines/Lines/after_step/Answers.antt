@@ -1,0 +1,23 @@
+use Rattle.std.proofs.Common.{◌∙◌, ap, sym, length, ◌<◌, List, inl, inr}
+use Rattle.wake_lock.specs.declared.CallId.{CallId}
+use Rattle.desk_parts.proofs.ChangedAt.{write-changed}
+use Rattle.sign_audit.specs.LineChange.{changed_line, changed_lines, change_after}
+use Rattle.sign_audit.specs.declared.line_change.LineChange.{LineChange}
+use Rattle.sign_audit.specs.declared.line_change.LineChange.TheVariants.{Leaves}
+use Rattle.sign_audit.proofs.LinesAfter.{lines-stay}
+use Rattle.sign_audit.proofs.lines.Lines.after_step.Goals as goal
+
+pub returns-in-Leaves : goal.returns-in-Leaves
+returns-in-Leaves c =
+    let there : c.args.cache < length c.self.inside.lines.items = rw (ap (λ (ls : List (List CallId)). length ls) c.self.view_is) c.requires in
+    write-changed (changed_line Leaves c.args.call) c.self.inside.lines.items c.args.cache c.leave.new.self c.index_mut.result.now there c.index_mut.ensures.value c.leave.ensures
+    ∙ ap (λ (ls : List (List CallId)). changed_lines Leaves c.args.cache c.args.call ls) c.self.view_is
+    ∙ ap (λ (ch : LineChange). changed_lines (change_after ch) c.args.cache c.args.call c.args.self.now) (sym c.in-Leaves.is)
+
+pub returns-in-Enters : goal.returns-in-Enters
+returns-in-Enters c =
+    let stays = sym (lines-stay c.args.call c.args.cache c.args.self.now) in
+    elim c.in-Enters.is [
+      | inl e ↦ stays ∙ ap (λ (ch : LineChange). changed_lines (change_after ch) c.args.cache c.args.call c.args.self.now) (sym e)
+      | inr e ↦ stays ∙ ap (λ (ch : LineChange). changed_lines (change_after ch) c.args.cache c.args.call c.args.self.now) (sym e)
+    ]

@@ -1,0 +1,12 @@
+pub mod ClaimForms
+pub mod ClaimGrammar
+pub mod Accounts
+pub mod PlainEntries
+pub mod NextLine
+pub mod LineGood
+pub mod ClaimChecks
+pub mod RightClaims
+pub mod LineWords
+pub mod Sessions
+pub mod CountLines
+pub mod LegalLogs
