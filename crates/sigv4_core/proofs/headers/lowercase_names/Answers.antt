@@ -16,4 +16,4 @@ returns c =
     c.loop-field.invariant ∙ ap spelled (take_all _ _ end) in
     let lower : lowercase c.as_slice-2.result.now ≡ lowercase_names c.args.fields.now =
     ap lowercase (c.as_slice-2.ensures.value ∙ whole) ∙ lowered c.args.fields.now in
-    rw lower at c.to_ascii_lowercase.ensures.ok
+    rw lower at c.in_lower_case.ensures
