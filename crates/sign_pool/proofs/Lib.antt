@@ -1,1 +1,10 @@
 mod Lasts
+mod OwnCalls
+mod Joined
+mod TicketClaims
+mod ClaimSteps
+mod Indexes
+mod CallNotes
+mod Books
+mod Finishing
+mod Signed
