@@ -4,7 +4,7 @@ use Rattle.std.specs.Global.{Vec}
 use Rattle.std.specs.Prelude.{All, Contains, slice_get, IsSomeAnd, IfSome, flat_map}
 use Rattle.std.proofs.lemmas.List.{append-nil, append_assoc, take_more, take_all, map-append, length-take, get_or-map, length-map, take-map, map_more}
 use Rattle.std.proofs.lemmas.List.Concat.{flat_map-append}
-use Rattle.std.proofs.lemmas.List.Elements.{All-append, All-same, All-nil, All-more, All-head, All-tail, All-get_or, Contains-append_left, Contains-append_right}
+use Rattle.std.proofs.lemmas.List.Elements.{All-append, All-same, All-nil, All-cons, All-more, All-head, All-tail, All-get_or, Contains-append_left, Contains-append_right}
 use Rattle.std.proofs.lemmas.Option.{slice_get-get_or}
 use Rattle.sign_pool.specs.Cleared.{joined, lists_of}
 
@@ -30,14 +30,7 @@ module _ {X : Type 0} where
   module _ (P : X → Type 0) where
     pub all-left : (xs ys : List X) → All P (xs ++ ys) → All P xs
     all-left [] ys h = All-nil P
-    all-left (x ∷ xs) ys h = λ k d below. by_place k d below
-      where
-        tail : All P xs
-        tail = all-left xs ys (All-tail P x (xs ++ ys) h)
-
-        by_place : (k : ℕ) (d : X) → k < length (x ∷ xs) → P (get_or (x ∷ xs) k d)
-        by_place zero d below = All-head P x (xs ++ ys) h
-        by_place (suc k) d below = tail k d (omega arith)
+    all-left (x ∷ xs) ys h = All-cons P x xs (All-head P x (xs ++ ys) h) (all-left xs ys (All-tail P x (xs ++ ys) h))
 
     pub all-right : (xs ys : List X) → All P (xs ++ ys) → All P ys
     all-right [] ys h = h

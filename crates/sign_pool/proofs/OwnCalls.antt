@@ -31,27 +31,27 @@ all-append p (x ∷ xs) ys h k =
 
 any-more : {X : Type 0} (p : X → Bool) (xs ys : List X) → list_any p xs ≡ true → list_any p (xs ++ ys) ≡ true
 any-more p [] ys h = cc
-any-more p (x ∷ xs) ys h = by_head (p x) refl h
+any-more p (x ∷ xs) ys h = by_head (any-more p xs ys) (p x) refl h
   where
-    by_head : (b : Bool) → p x ≡ b → (b || list_any p xs) ≡ true → (p x || list_any p (xs ++ ys)) ≡ true
-    by_head true e k = rw e refl
-    by_head false e k = rw e (any-more p xs ys k)
+    by_head : (list_any p xs ≡ true → list_any p (xs ++ ys) ≡ true) → (b : Bool) → p x ≡ b → (b || list_any p xs) ≡ true → (p x || list_any p (xs ++ ys)) ≡ true
+    by_head later true e k = rw e refl
+    by_head later false e k = rw e (later k)
 
 any-after : {X : Type 0} (p : X → Bool) (xs ys : List X) → list_any p ys ≡ true → list_any p (xs ++ ys) ≡ true
 any-after p [] ys h = h
-any-after p (x ∷ xs) ys h = by_head (p x) refl
+any-after p (x ∷ xs) ys h = by_head (any-after p xs ys h) (p x) refl
   where
-    by_head : (b : Bool) → p x ≡ b → (p x || list_any p (xs ++ ys)) ≡ true
-    by_head true e = rw e refl
-    by_head false e = rw e (any-after p xs ys h)
+    by_head : list_any p (xs ++ ys) ≡ true → (b : Bool) → p x ≡ b → (p x || list_any p (xs ++ ys)) ≡ true
+    by_head later true e = rw e refl
+    by_head later false e = rw e later
 
 any-last : {X : Type 0} (p : X → Bool) (xs : List X) (y : X) → p y ≡ true → list_any p (xs ++ y ∷ []) ≡ true
 any-last p [] y h = rw h refl
-any-last p (x ∷ xs) y h = by_head (p x) refl
+any-last p (x ∷ xs) y h = by_head (any-last p xs y h) (p x) refl
   where
-    by_head : (b : Bool) → p x ≡ b → (p x || list_any p (xs ++ y ∷ [])) ≡ true
-    by_head true e = rw e refl
-    by_head false e = rw e (any-last p xs y h)
+    by_head : list_any p (xs ++ y ∷ []) ≡ true → (b : Bool) → p x ≡ b → (p x || list_any p (xs ++ y ∷ [])) ≡ true
+    by_head later true e = rw e refl
+    by_head later false e = rw e later
 
 calls-more : (answers : List Answer) (a : Answer) → calls_of (answers ++ a ∷ []) ≡ calls_of answers ++ a.call ∷ []
 calls-more [] a = refl

@@ -41,26 +41,26 @@ use Rattle.sign_pool.proofs.CallNotes.{open-some}
 
 found-in : {X : Type 0} (p : X → Bool) (xs : List X) (x : X) → find p xs ≡ Some x → Contains xs x
 found-in p [] x h = absurd (cc)
-found-in p (y ∷ xs) x h = by_head (p y) refl h
+found-in p (y ∷ xs) x h = by_head (found-in p xs x) (p y) refl h
   where
-    by_head : (b : Bool) → p y ≡ b → cond b (Some y) (find p xs) ≡ Some x → Contains (y ∷ xs) x
-    by_head true e k = (0, omega arith, cc)
-    by_head false e k = let c = found-in p xs x k in (suc c.0, omega (arith, c.1), c.2)
+    by_head : (find p xs ≡ Some x → Contains xs x) → (b : Bool) → p y ≡ b → cond b (Some y) (find p xs) ≡ Some x → Contains (y ∷ xs) x
+    by_head rest true e k = (0, omega arith, cc)
+    by_head rest false e k = let c = rest k in (suc c.0, omega (arith, c.1), c.2)
 
 kept-in : {X : Type 0} (p : X → Bool) (xs : List X) (x : X) → Contains (filter p xs) x → Contains xs x × (p x ≡ true)
 kept-in p [] x h = absurd (omega (arith, h.1))
-kept-in p (y ∷ xs) x h = by_head (p y) refl h
+kept-in p (y ∷ xs) x h = by_head (kept-in p xs x) (p y) refl h
   where
     later : Contains xs x × (p x ≡ true) → Contains (y ∷ xs) x × (p x ≡ true)
     later c = ((suc c.0.0, omega (arith, c.0.1), c.0.2), c.1)
 
-    by_place : (k : ℕ) → p y ≡ true → k < suc (length (filter p xs)) → get_or (y ∷ filter p xs) k x ≡ x → Contains (y ∷ xs) x × (p x ≡ true)
-    by_place zero e w is = ((0, omega arith, is), ap p (sym is) ∙ e)
-    by_place (suc k) e w is = later (kept-in p xs x (k, omega (arith, w), is))
+    by_place : (Contains (filter p xs) x → Contains xs x × (p x ≡ true)) → (k : ℕ) → p y ≡ true → k < suc (length (filter p xs)) → get_or (y ∷ filter p xs) k x ≡ x → Contains (y ∷ xs) x × (p x ≡ true)
+    by_place rest zero e w is = ((0, omega arith, is), ap p (sym is) ∙ e)
+    by_place rest (suc k) e w is = later (rest (k, omega (arith, w), is))
 
-    by_head : (b : Bool) → p y ≡ b → Contains (cond b (y ∷ filter p xs) (filter p xs)) x → Contains (y ∷ xs) x × (p x ≡ true)
-    by_head true e c = by_place c.0 e c.1 c.2
-    by_head false e c = later (kept-in p xs x c)
+    by_head : (Contains (filter p xs) x → Contains xs x × (p x ≡ true)) → (b : Bool) → p y ≡ b → Contains (cond b (y ∷ filter p xs) (filter p xs)) x → Contains (y ∷ xs) x × (p x ≡ true)
+    by_head rest true e c = by_place rest c.0 e c.1 c.2
+    by_head rest false e c = later (rest c)
 
 taken-in : {X : Type 0} (n : ℕ) (xs : List X) (x : X) → Contains (take n xs) x → Contains xs x
 taken-in zero xs x h = absurd (omega (arith, h.1))

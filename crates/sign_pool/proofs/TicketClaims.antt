@@ -102,15 +102,15 @@ module _ {X : Type 0} where
   pub keys-removed : (test : Ticket → Bool) (ticket : Ticket) → ((x : Ticket) → test x ≡ true → x ≡ ticket) → (es : List (Ticket × X)) (v : X) → lookup test es ≡ Some v
       → IsPermutation (keys_of es) (ticket ∷ keys_of (remove_entry test es))
   keys-removed test ticket one [] v h = absurd (cc)
-  keys-removed test ticket one (e ∷ es) v h = by_head (test e.0) refl h
+  keys-removed test ticket one (e ∷ es) v h = by_head (keys-removed test ticket one es v) (test e.0) refl h
     where
-      by_head : (b : Bool) → test e.0 ≡ b → cond b (Some e.1) (lookup test es) ≡ Some v
+      by_head : (lookup test es ≡ Some v → IsPermutation (keys_of es) (ticket ∷ keys_of (remove_entry test es))) → (b : Bool) → test e.0 ≡ b → cond b (Some e.1) (lookup test es) ≡ Some v
           → IsPermutation (e.0 ∷ keys_of es) (ticket ∷ keys_of (cond b es (e ∷ remove_entry test es)))
-      by_head true t k = subst (λ (x : Ticket). IsPermutation (e.0 ∷ keys_of es) (x ∷ keys_of es)) (one e.0 t) (IsPermutation-refl (e.0 ∷ keys_of es))
-      by_head false t k =
+      by_head later true t k = subst (λ (x : Ticket). IsPermutation (e.0 ∷ keys_of es) (x ∷ keys_of es)) (one e.0 t) (IsPermutation-refl (e.0 ∷ keys_of es))
+      by_head rest false t k =
           let later : List Ticket = keys_of (remove_entry test es) in
           IsPermutation-trans (e.0 ∷ keys_of es) (e.0 ∷ (ticket ∷ later)) (ticket ∷ (e.0 ∷ later))
-          (IsPermutation-cons e.0 (keys_of es) (ticket ∷ later) (keys-removed test ticket one es v k))
+          (IsPermutation-cons e.0 (keys_of es) (ticket ∷ later) (rest k))
           (IsPermutation-middle (e.0 ∷ []) ticket later)
 
   -- a ticket is among the keys exactly where it is found
