@@ -1,5 +1,5 @@
 //! The submitted jobs by their tickets.
-ghost use Rattle.std.specs.Prelude.{◌≡◌, ◌++◌, ◌<◌, List, All, AllPairs, ◌≢◌, Contains, IfOk, IsPermutation, IsSomeAnd, MatchOption, MatchBool, map, slice_get};
+ghost use Rattle.std.specs.Prelude.{◌≡◌, ◌++◌, ◌<◌, List, All, AllPairs, ◌≢◌, Contains, IfOk, IsPermutation, IsSomeAnd, IsTrue, MatchOption, MatchBool, map, slice_get};
 ghost use Rattle.std.specs.HashMap.{keys};
 ghost use Rattle.sign_pool.specs.Cleared.{joined, lists_of, tickets_of};
 ghost use Rattle.sign_pool.specs.Index.{HaveOwnTickets, IsIndexOf, IsPlaceOf, jobs_of};
@@ -48,7 +48,7 @@ fn index_list(
         (IsPermutation (keys index.old ++ tickets_of jobs.now) (keys index.new))
         (AllPairs (λ a b. a ≢ b) (keys index.old ++ tickets_of jobs.now) → ⊥)) }
     ensures places { (lists : List (List PoolJob)) → IsSomeAnd (slice_get lists submitter) (λ list. list ≡ jobs.now)
-        → All (IsPlaceOf lists) index.old.entries → IfOk result (λ own. All (IsPlaceOf lists) index.new.entries) }
+        → All (IsPlaceOf lists) index.old.entries → IfOk result (λ own. IsTrue own → All (IsPlaceOf lists) index.new.entries) }
 {
     for (at, job) in jobs.iter().enumerate() {
         let place = JobPlace { submitter, at };
@@ -69,7 +69,9 @@ pub(crate) fn job_of<'a>(
     ensures { MatchOption result (Contains (tickets_of (joined (lists_of submitted.now))) ticket → ⊥)
         (λ job. (job.now.ticket ≡ ticket) × Contains (joined (lists_of submitted.now)) job.now) }
 {
-    let place = *index.get(&ticket)?;
+    let Some(place) = index.get(&ticket) else {
+        return None;
+    };
     let jobs = submitted[place.submitter].as_slice();
     Some(&jobs[place.at])
 }
