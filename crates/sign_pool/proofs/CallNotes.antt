@@ -1,11 +1,11 @@
 -- How the note of a call follows the journal, entry by entry.
-use Rattle.std.proofs.Common.{◌≡◌, ◌≢◌, ℕ, zero, suc, ◌<◌, ◌≤◌, ◌+◌, ◌↔◌, Bool, true, false, cond, List, [], ◌∷◌, ◌++◌, Option, Some, None, length, get_or, take, drop, refl, sym, ◌∙◌, ap, subst, arith, is_some}
-use Rattle.std.specs.Prelude.{All, MatchOption, IfSome, IsSome, IsSomeAnd, slice_get}
+use Rattle.std.proofs.Common.{◌≡◌, ◌≢◌, ℕ, zero, suc, ◌<◌, ◌≤◌, ◌+◌, ◌↔◌, Bool, true, false, cond, List, [], ◌∷◌, ◌++◌, Option, Some, None, Result, Ok, Err, length, get_or, take, drop, refl, sym, ◌∙◌, ap, subst, arith, is_some}
+use Rattle.std.specs.Prelude.{All, OnOk, OnErr, MatchOption, IfSome, IsSome, IsSomeAnd, slice_get}
 use Rattle.std.specs.declared.time.Duration.{Duration}
 use Rattle.std.proofs.lemmas.Bool.{false≢true}
-use Rattle.std.proofs.lemmas.List.{take_more, drop_all, drop-append-le, length_push, length-take-le}
-use Rattle.std.proofs.lemmas.List.Elements.{All-nil, All-push, All-head, All-tail, All-same}
-use Rattle.std.proofs.lemmas.Option.{slice_get_within}
+use Rattle.std.proofs.lemmas.List.{take_more, get_or-take, drop_all, drop-append-le, length_push, length-take-le}
+use Rattle.std.proofs.lemmas.List.Elements.{All-nil, All-push, All-head, All-weaker}
+use Rattle.std.proofs.lemmas.Option.{slice_get_within, slice_get_read}
 use Rattle.sign_base.specs.declared.head.Head.{Head}
 use Rattle.wake_lock.specs.declared.CallId.{CallId}
 use Rattle.wake_lock.specs.Calls.{same_call}
@@ -16,6 +16,7 @@ use Rattle.sequential_signer.specs.declared.event.Event.{Event}
 use Rattle.sequential_signer.specs.declared.event.Event.TheVariants.{Begin, Poll, Provided, Signed, Cancel}
 use Rattle.sign_pool.specs.TrueAnswers.{HasNoneOf, IsLastOf}
 use Rattle.sign_pool.specs.Notes.{IsBeginWith, IfBegins, AreBeginsWith, AreBegins, IsNoteOf, blank_note}
+use Rattle.sign_pool.specs.declared.answer.Answer.{Answer}
 use Rattle.sign_pool.specs.declared.notes.Begins.{Begins}
 use Rattle.sign_pool.specs.declared.notes.Begins.TheVariants.{Never, Like, Differ}
 use Rattle.sign_pool.specs.declared.notes.CallNote.{CallNote}
@@ -209,3 +210,108 @@ pub blank-read : {K : Type 0} (call : CallId) (note : CallNote) → note ≡ bla
 blank-read {K} call note is =
     let P : CallNote → Type 0 = λ n. IsNoteOf {K = K} [] call n in
     subst P (sym is) (record { last = All-nil (λ (x : Entry K). call_of x.event ≢ call); begins = λ head expires_in. All-nil (λ (x : Entry K). IfBegins call head expires_in x.event) })
+
+-- the entry that is read at a place of the journal
+module _ {K : Type 0} (journal : List (Entry K)) (place : ℕ) (call : CallId) (about : IsSomeAnd (slice_get journal place) (λ x. call_of x.event ≡ call)) where
+  pub read-within : place < length journal
+  read-within = let f = open-some (slice_get journal place) (λ (x : Entry K). call_of x.event ≡ call) about in slice_get_within journal place f.0 f.1
+
+  before-long : place ≡ length (take place journal)
+  before-long = sym (length-take-le place journal (omega (arith, read-within)))
+
+  -- an entry of the journal before it
+  pub like-within : (p : ℕ) → AreBegins call (take place journal) (Like p) → p < length (take place journal)
+  like-within p h =
+      let Same : Entry K → Type 0 = λ x. (head : Head) (expires_in : Option Duration) → AreBeginsWith call (take place journal) head expires_in ↔ IsBeginWith head expires_in x.event in
+      let f = open-some (slice_get (take place journal) p) Same h in slice_get_within (take place journal) p f.0 f.1
+
+  pub like-below : (p : ℕ) → AreBegins call (take place journal) (Like p) → p < length journal
+  like-below p h = let b : p < length (take place journal) = like-within p h in omega (arith, before-long, read-within, b)
+
+  earlier : (p : ℕ) (first : Entry K) → p < length (take place journal) → first ≡ get_or journal p first → slice_get (take place journal) p ≡ Some first
+  earlier p first within is =
+      let b : p < place = omega (arith, before-long, within) in
+      slice_get_read (take place journal) (length (take place journal)) p first refl within (is ∙ sym (get_or-take place journal p first b))
+
+  module _ (e : Entry K) (is : e ≡ get_or journal place e) where
+    pub read-about : call_of e.event ≡ call
+    read-about =
+        let P : Option (Entry K) → Type 0 = λ o. IsSomeAnd o (λ x. call_of x.event ≡ call) in
+        subst P (slice_get_read journal (length journal) place e refl read-within is) about
+
+    grows : take (place + 1) journal ≡ take place journal ++ e ∷ []
+    grows = read-more journal place e read-within is
+
+    moved : (b : Begins) → AreBegins call (take place journal ++ e ∷ []) b → AreBegins call (take (place + 1) journal) b
+    moved b h = let P : List (Entry K) → Type 0 = λ l. AreBegins call l b in subst P (sym grows) h
+
+    -- the call's begins with it, where it begins no call
+    pub after-idle : ((c : CallId) (h : Head) (d : Option Duration) → e.event ≡ Begin c h d → ⊥) → (b : Begins) → AreBegins call (take place journal) b → AreBegins call (take (place + 1) journal) b
+    after-idle none b h = moved b (begins-idle call (take place journal) e (no-begin call e.event none) b h)
+
+    -- its last entry
+    pub after-last : IsLastOf call (take (place + 1) journal) place
+    after-last =
+        let P : List (Entry K) → Type 0 = λ l. IsLastOf call l place in
+        let Q : ℕ → Type 0 = λ n. IsLastOf call (take place journal ++ e ∷ []) n in
+        subst P (sym grows) (subst Q (sym before-long) (last-here call (take place journal) e read-about))
+
+    module _ (other : CallId) (mine : Head) (how_long : Option Duration) (begin : e.event ≡ Begin other mine how_long) where
+      pub after-first : AreBegins call (take place journal) Never → AreBegins call (take (place + 1) journal) (Like place)
+      after-first h = moved (Like place) (begins-first call (take place journal) e other mine how_long begin read-about place before-long h)
+
+      pub after-differ : AreBegins call (take place journal) Differ → AreBegins call (take (place + 1) journal) Differ
+      after-differ h = moved Differ (begins-differ call (take place journal) e other mine how_long begin read-about h)
+
+      module _ (p : ℕ) (first : Entry K) (at : first ≡ get_or journal p first) (h : AreBegins call (take place journal) (Like p)) where
+        pub after-alike : IsBeginWith mine how_long first.event → AreBegins call (take (place + 1) journal) (Like p)
+        after-alike like =
+            moved (Like p) (begins-alike call (take place journal) e other mine how_long begin read-about p first (earlier p first (like-within p h) at) h like)
+
+        pub after-unlike : (IsBeginWith mine how_long first.event → ⊥) → AreBegins call (take (place + 1) journal) Differ
+        after-unlike unlike =
+            moved Differ (begins-unlike call (take place journal) e other mine how_long begin read-about p first (earlier p first (like-within p h) at) h unlike)
+
+-- notes after one was put in
+module _ (call : CallId) (note : CallNote) (old new : CallId → Option CallNote) (changed : (q : CallId) → new q ≡ cond (same_call call q) (Some note) (old q)) where
+  pub kept-more : (q : CallId) → IsSome (old q) → IsSome (new q)
+  kept-more q h = by_call (same_call call q) refl
+    where
+      by_call : (b : Bool) → same_call call q ≡ b → IsSome (new q)
+      by_call true s = let P : Option CallNote → Type 0 = λ o. IsSome o in subst P (sym (changed q ∙ ap (λ b. cond b (Some note) (old q)) s)) refl
+      by_call false s = let P : Option CallNote → Type 0 = λ o. IsSome o in subst P (sym (changed q ∙ ap (λ b. cond b (Some note) (old q)) s)) h
+
+  pub there-now : IsSome (new call)
+  there-now = let P : Option CallNote → Type 0 = λ o. IsSome o in subst P (sym (changed call ∙ ap (λ b. cond b (Some note) (old call)) (same_call-refl call))) refl
+
+  pub blank-more : note ≡ blank_note → ((q : CallId) → IfSome (old q) (λ n. n ≡ blank_note)) → (q : CallId) → IfSome (new q) (λ n. n ≡ blank_note)
+  blank-more blank had q = by_call (same_call call q) refl
+    where
+      P : Option CallNote → Type 0
+      P o = IfSome o (λ n. n ≡ blank_note)
+
+      by_call : (b : Bool) → same_call call q ≡ b → P (new q)
+      by_call true s = subst P (sym (changed q ∙ ap (λ b. cond b (Some note) (old q)) s)) blank
+      by_call false s = subst P (sym (changed q ∙ ap (λ b. cond b (Some note) (old q)) s)) (had q)
+
+  pub has-more : (answers : List Answer) (i : ℕ) (a : Answer) → i < length answers → a ≡ get_or answers i a → a.call ≡ call
+      → All (λ x. IsSome (old x.call)) (take i answers) → All (λ x. IsSome (new x.call)) (take (i + 1) answers)
+  has-more answers i a below is own had =
+      let here : IsSome (new a.call) = subst (λ (c : CallId). IsSome (new c)) (sym own) there-now in
+      let P : List Answer → Type 0 = λ l. All (λ x. IsSome (new x.call)) l in
+      subst P (sym (read-more answers i a below is))
+      (All-push (λ (x : Answer). IsSome (new x.call)) (take i answers) a
+      (All-weaker (λ (x : Answer). IsSome (old x.call)) (λ (x : Answer). IsSome (new x.call)) (λ x. kept-more x.call) (take i answers) had) here)
+
+-- the value of a note that is there
+pub noted-there : (o : Option CallNote) (note : CallNote) (P : CallNote → Type 0) → o ≡ Some note → IfSome o P → P note
+noted-there o note P e h = let Q : Option CallNote → Type 0 = λ x. IfSome x P in subst Q e h
+
+-- what follows where a call can't have failed
+pub since-ok : {T E : Type 0} (r : Result T E) (P Q : Type 0) → OnOk r P → OnErr r Q → (Q → ⊥) → P
+since-ok (Ok x) P Q p q n = p
+since-ok (Err e) P Q p q n = absurd (n q)
+
+pub none-other : {X : Type 0} (o : Option X) → ((x : X) → o ≡ Some x → ⊥) → o ≡ None
+none-other None other = refl
+none-other (Some x) other = absurd (other x refl)
