@@ -1,11 +1,11 @@
 -- How the note of a call follows the journal, entry by entry.
 use Rattle.std.proofs.Common.{◌≡◌, ◌≢◌, ℕ, zero, suc, ◌<◌, ◌≤◌, ◌+◌, ◌↔◌, Bool, true, false, cond, List, [], ◌∷◌, ◌++◌, Option, Some, None, Result, Ok, Err, length, get_or, take, drop, refl, sym, ◌∙◌, ap, subst, arith, is_some}
-use Rattle.std.specs.Prelude.{All, OnOk, OnErr, MatchOption, IfSome, IsSome, IsSomeAnd, slice_get}
+use Rattle.std.specs.Prelude.{All, MatchBool, OnOk, OnErr, MatchOption, IfSome, IsSome, IsSomeAnd, slice_get}
 use Rattle.std.specs.declared.time.Duration.{Duration}
 use Rattle.std.proofs.lemmas.Bool.{false≢true}
 use Rattle.std.proofs.lemmas.List.{take_more, get_or-take, drop_all, drop-append-le, length_push, length-take-le}
 use Rattle.std.proofs.lemmas.List.Elements.{All-nil, All-push, All-head, All-weaker}
-use Rattle.std.proofs.lemmas.Option.{slice_get_within, slice_get_read}
+use Rattle.std.proofs.lemmas.Option.{slice_get_within, slice_get_read, get_or_from_slice_get}
 use Rattle.sign_base.specs.declared.head.Head.{Head}
 use Rattle.wake_lock.specs.declared.CallId.{CallId}
 use Rattle.wake_lock.specs.Calls.{same_call}
@@ -315,3 +315,17 @@ since-ok (Err e) P Q p q n = absurd (n q)
 pub none-other : {X : Type 0} (o : Option X) → ((x : X) → o ≡ Some x → ⊥) → o ≡ None
 none-other None other = refl
 none-other (Some x) other = absurd (other x refl)
+
+-- what is the same fact is decided alike
+pub decides-same : (b : Bool) (A B : Type 0) → (A → B) → (B → A) → MatchBool b B (B → ⊥) → MatchBool b A (A → ⊥)
+decides-same true A B to from h = from h
+decides-same false A B to from h = λ a. h (to a)
+
+-- the begins of a call that has one
+pub like-first : {K : Type 0} (call : CallId) (journal : List (Entry K)) (p : ℕ) → AreBegins call journal (Like p) → (d : Entry K) → (head : Head) (expires_in : Option Duration)
+    → AreBeginsWith call journal head expires_in ↔ IsBeginWith head expires_in (get_or journal p d).event
+like-first {K} call journal p h d head expires_in =
+    let Same : Entry K → Type 0 = λ x. (head : Head) (expires_in : Option Duration) → AreBeginsWith call journal head expires_in ↔ IsBeginWith head expires_in x.event in
+    let f = open-some (slice_get journal p) Same h in
+    let same : Same (get_or journal p d) = subst Same (sym (get_or_from_slice_get journal p f.0 d f.1)) f.2 in
+    same head expires_in
