@@ -28,6 +28,10 @@ module _ {X : Type 0} where
   joined-all lists n past = ap joined (take_all n lists past)
 
   module _ (P : X → Type 0) where
+    -- what holds of each item holds of one that is read
+    pub all-at : (xs : List X) (i : ℕ) (x : X) → i < length xs → x ≡ get_or xs i x → All P xs → P x
+    all-at xs i x below is h = subst P (sym is) (All-get_or P xs i x below h)
+
     pub all-left : (xs ys : List X) → All P (xs ++ ys) → All P xs
     all-left [] ys h = All-nil P
     all-left (x ∷ xs) ys h = All-cons P x xs (All-head P x (xs ++ ys) h) (all-left xs ys (All-tail P x (xs ++ ys) h))

@@ -5,6 +5,7 @@ mod TicketClaims
 mod ClaimSteps
 mod Indexes
 mod CallNotes
+mod Balances
 mod Books
 mod Finishing
 mod Signed

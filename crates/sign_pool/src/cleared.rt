@@ -31,9 +31,13 @@ pub(crate) fn is_cleared<K>(
         (IsCleared journal.now (joined (lists_of answers.now)) left.now (joined (lists_of submitted.now)))
         (IsCleared journal.now (joined (lists_of answers.now)) left.now (joined (lists_of submitted.now)) → ⊥) }
 {
-    are_as_submitted(&index, submitted, left)
-        && are_begun_as_submitted(&index, notes, journal, answers, submitted)
-        && are_each_once(index, answers, left)
+    if !are_as_submitted(&index, submitted, left) {
+        return false;
+    }
+    if !are_begun_as_submitted(&index, notes, journal, answers, submitted) {
+        return false;
+    }
+    are_each_once(index, answers, left)
 }
 
 /// Whether each job that is left is as it was submitted.
@@ -56,9 +60,17 @@ fn is_as_submitted(index: &JobIndex, submitted: &[Vec<PoolJob>], job: &PoolJob) 
         (Contains (joined (lists_of submitted.now)) job.now → ⊥) }
 {
     match job_of(index, submitted, job.ticket) {
-        Some(same) => same.expires_in == job.expires_in && same_head(&same.head, &job.head),
+        Some(same) => have_same_input(same, job),
         None => false,
     }
+}
+
+/// Whether two jobs have the same head and duration.
+fn have_same_input(a: &PoolJob, b: &PoolJob) -> bool
+    ensures { MatchBool result ((a.now.head ≡ b.now.head) × (a.now.expires_in ≡ b.now.expires_in))
+        ((a.now.head ≡ b.now.head) × (a.now.expires_in ≡ b.now.expires_in) → ⊥) }
+{
+    a.expires_in == b.expires_in && same_head(&a.head, &b.head)
 }
 
 /// Whether the tickets of answers and of the jobs that are left are those of the index, each once.
@@ -68,5 +80,11 @@ fn are_each_once(mut index: JobIndex, answers: &[Vec<Answer>], left: &[PoolJob])
         (IsPermutation (keys index) (answered_tickets (joined (lists_of answers.now)) ++ tickets_of left.now))
         (IsPermutation (keys index) (answered_tickets (joined (lists_of answers.now)) ++ tickets_of left.now) → ⊥) }
 {
-    claim_answers(&mut index, answers) && claim_left(&mut index, left) && index.is_empty()
+    if !claim_answers(&mut index, answers) {
+        return false;
+    }
+    if !claim_left(&mut index, left) {
+        return false;
+    }
+    index.is_empty()
 }
