@@ -145,7 +145,7 @@ module _ {K : Type 0} where
         by_last None e = absurd (none-and-some answer.call journal p (none-noted e) last)
         by_last (Some q) e = ap Some (one-last answer.call journal q p (last-noted q e) last)
 
-    As : Option ℕ → Type 0
+    abbrev As : Option ℕ → Type 0
     As last = MatchOption last (HasNoneOf answer.call journal × IsReadFrom {K = K} None answer.outcome) (λ at. IsSomeAnd (slice_get pass at) (IsReadOff journal answer))
 
     -- an answer without a receipt
@@ -164,7 +164,7 @@ module _ {K : Type 0} where
       false-past n t = let P : Option (Receipt K) → Type 0 = λ o. IsSomeAnd o (IsReadOff journal answer) in subst P n (subst As e t)
 
       module _ (r : Receipt K) (there : slice_get pass at ≡ Some r) where
-        read-off : IsTrueAnswer journal pass answer → IsReadOff journal answer r
+        pub read-off : IsTrueAnswer journal pass answer → IsReadOff journal answer r
         read-off t = let P : Option (Receipt K) → Type 0 = λ o. IsSomeAnd o (IsReadOff journal answer) in subst P there (subst As e t)
 
         pub true-some : IsEntryOf journal r → note.last ≡ Some r.place → IsReadFrom (Some r.entry.reply) answer.outcome → IsTrueAnswer journal pass answer

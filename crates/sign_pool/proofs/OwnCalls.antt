@@ -9,15 +9,13 @@ use Rattle.wake_lock.proofs.Calls.{same_call-refl}
 use Rattle.wake_lock.proofs.Truth.{and_left, and_right}
 use Rattle.sequential_signer.specs.Transcript.{call_of}
 use Rattle.sequential_signer.specs.declared.event.Entry.{Entry}
-use Rattle.sequential_signer.specs.declared.event.Event.{Event}
+use Rattle.sequential_signer.specs.declared.event.Reply.{Reply}
+use Rattle.sequential_signer.specs.declared.event.Reply.TheVariants as reply
 use Rattle.signer_book.specs.declared.pass.Receipt.{Receipt}
 use Rattle.signer_shared.specs.Gates.{GateMeaning}
-use Rattle.signer_shared.specs.Serving.{IsNext, IsStep, goes_on, gives_up, runs_out, IsCourse, ServesAll, StopsAtAJob, IsServing}
+use Rattle.signer_shared.specs.Serving.{IsNext, next_after, IsStep, goes_on, gives_up, runs_out, IsCourse, ServesAll, StopsAtAJob, IsServing}
 use Rattle.signer_shared.specs.declared.job.Job.{Job}
 use Rattle.signer_shared.specs.declared.job.Served.{Served}
-use Rattle.signer_shared.specs.declared.next.JobEnd.{JobEnd}
-use Rattle.signer_shared.specs.declared.next.Next.{Next}
-use Rattle.signer_shared.specs.declared.next.Next.TheVariants as next
 use Rattle.sign_pool.specs.Calls.{calls_of, has_only_calls_of}
 use Rattle.sign_pool.specs.declared.answer.Answer.{Answer}
 
@@ -74,60 +72,76 @@ module _ {K : Type 0} where
       (among-more answers a (call_of r.entry.event) here)
       (only-more answers a pass (and_right (is_among (call_of r.entry.event) (calls_of answers)) (has_only_calls_of answers pass) h))
 
-  module _ (gate : GateMeaning K) (turns : ℕ) (job : Job) where
-    about-next : (n : Next K) (e : Event K) → IsNext gate job n e → call_of e ≡ job.call
-    about-next next.Begin e h = ap call_of h
-    about-next next.Poll e h = ap call_of h.2
-    about-next (next.Load provider) e h = ap call_of h.4
-    about-next (next.Sign credential) e h = ap call_of h.2
-    about-next (next.Over end) e h = absurd h
+  module _ (gate : GateMeaning K) (turns : ℕ) (job : Job) (answers : List Answer) (here : is_among job.call (calls_of answers) ≡ true) where
+    -- the course of the job's call behind this reply
+    abbrev CourseAfter : Reply K → List (Receipt K) → Type 0
+    CourseAfter r own = (end : _) × IsCourse gate turns job (next_after r) own end
 
-    about-step : (before : Next K) (e : Entry K) (after : Next K) → IsStep gate turns job before e after → call_of e.event ≡ job.call
-    about-step before e after (goes_on n a) = about-next before e.event n
-    about-step before e after (gives_up g c a) = ap call_of c
-    about-step before e after (runs_out l c a) = ap call_of c
+    one-more : (r : Receipt K) (rest : List (Receipt K)) → call_of r.entry.event ≡ job.call → has_only_calls_of answers rest ≡ true → has_only_calls_of answers (r ∷ rest) ≡ true
+    one-more r rest about h = both (is_among (call_of r.entry.event) (calls_of answers)) (has_only_calls_of answers rest) (ap (λ c. is_among c (calls_of answers)) about ∙ here) h
 
-    module _ (answers : List Answer) (here : is_among job.call (calls_of answers) ≡ true) where
-      one-more : (r : Receipt K) (rest : List (Receipt K)) → call_of r.entry.event ≡ job.call → has_only_calls_of answers rest ≡ true → has_only_calls_of answers (r ∷ rest) ≡ true
-      one-more r rest about h =
-          both (is_among (call_of r.entry.event) (calls_of answers)) (has_only_calls_of answers rest) (ap (λ c. is_among c (calls_of answers)) about ∙ here) h
+    -- one step of a course, and what comes behind it
+    step-calls : (at : _) (after : _) (x : Receipt K) (rest : List (Receipt K)) (end : _) → (IsNext gate job at x.entry.event → call_of x.entry.event ≡ job.call)
+        → IsStep gate turns job at x.entry after → IsCourse gate turns job after rest end → (CourseAfter x.entry.reply rest → has_only_calls_of answers rest ≡ true)
+        → has_only_calls_of answers (x ∷ rest) ≡ true
+    step-calls at after x rest end about (goes_on n a) course later = one-more x rest (about n) (later (end, subst (λ s. IsCourse gate turns job s rest end) a course))
+    step-calls at after x rest end about (gives_up u e a) course later = one-more x rest (ap call_of e) (later (end, subst (λ s. IsCourse gate turns job s rest end) a course))
+    step-calls at after x rest end about (runs_out l e a) course later =
+        let over = subst (λ s. IsCourse gate turns job s rest end) a course in one-more x rest (ap call_of e) (ap (has_only_calls_of answers) over.0)
 
-      course-calls : (before : Next K) (receipts : List (Receipt K)) (end : JobEnd) → IsCourse gate turns job before receipts end → has_only_calls_of answers receipts ≡ true
-      course-calls (next.Over over) receipts end c = ap (has_only_calls_of answers) c.0
-      course-calls next.Begin [] end c = refl
-      course-calls next.Poll [] end c = refl
-      course-calls (next.Load provider) [] end c = refl
-      course-calls (next.Sign credential) [] end c = refl
-      course-calls next.Begin (r ∷ rest) end c = one-more r rest (about-step next.Begin r.entry c.2.0 c.2.1) (course-calls c.2.0 rest end c.2.2)
-      course-calls next.Poll (r ∷ rest) end c = one-more r rest (about-step next.Poll r.entry c.2.0 c.2.1) (course-calls c.2.0 rest end c.2.2)
-      course-calls (next.Load provider) (r ∷ rest) end c =
-          one-more r rest (about-step (next.Load provider) r.entry c.2.0 c.2.1) (course-calls c.2.0 rest end c.2.2)
-      course-calls (next.Sign credential) (r ∷ rest) end c =
-          one-more r rest (about-step (next.Sign credential) r.entry c.2.0 c.2.1) (course-calls c.2.0 rest end c.2.2)
+    calls-after : (r : Reply K) (own : List (Receipt K)) → CourseAfter r own → has_only_calls_of answers own ≡ true
+    calls-after r [] c = refl
+    calls-after reply.Begun (x ∷ rest) (end, c) = step-calls _ _ x rest end (λ n. ap call_of n.2) c.2.1 c.2.2 (calls-after x.entry.reply rest)
+    calls-after reply.Pending (x ∷ rest) (end, c) = step-calls _ _ x rest end (λ n. ap call_of n.2) c.2.1 c.2.2 (calls-after x.entry.reply rest)
+    calls-after (reply.Ask p) (x ∷ rest) (end, c) = step-calls _ _ x rest end (λ n. ap call_of n.4) c.2.1 c.2.2 (calls-after x.entry.reply rest)
+    calls-after (reply.Sign k w) (x ∷ rest) (end, c) = step-calls _ _ x rest end (λ n. ap call_of n.2) c.2.1 c.2.2 (calls-after x.entry.reply rest)
+    calls-after reply.NotNow (x ∷ rest) (end, c) = let none = c.0 in absurd (cc)
+    calls-after reply.OutOfMemory (x ∷ rest) (end, c) = let none = c.0 in absurd (cc)
+    calls-after (reply.Refused y w) (x ∷ rest) (end, c) = let none = c.0 in absurd (cc)
+    calls-after (reply.Done h) (x ∷ rest) (end, c) = let none = c.0 in absurd (cc)
+    calls-after (reply.Cancelled w) (x ∷ rest) (end, c) = let none = c.0 in absurd (cc)
 
-      whole-calls : (added : List (Receipt K)) → ServesAll gate turns (job ∷ []) added → has_only_calls_of answers added ≡ true
-      whole-calls added s =
-          let e : added ≡ s.0 = s.3 ∙ ap (λ l. s.0 ++ l) s.6 ∙ append-nil s.0 in
-          ap (has_only_calls_of answers) e ∙ course-calls next.Begin s.0 s.2 s.4
+    whole-calls : (added : List (Receipt K)) → ServesAll gate turns (job ∷ []) added → has_only_calls_of answers added ≡ true
+    whole-calls added ([], others, end, is, c, t, serves) = ap (has_only_calls_of answers) (is ∙ serves)
+    whole-calls added (x ∷ rest, others, end, is, c, t, serves) =
+        ap (has_only_calls_of answers) (is ∙ ap (λ l. (x ∷ rest) ++ l) serves ∙ append-nil (x ∷ rest))
+        ∙ step-calls _ _ x rest end (λ n. ap call_of n) c.2.1 c.2.2 (calls-after x.entry.reply rest)
 
-      stop-calls : (before : List Job) (stopped : Job) (after : List Job) (served own added : List (Receipt K)) (end : JobEnd)
-          → job ∷ [] ≡ before ++ stopped ∷ after → added ≡ served ++ own → ServesAll gate turns before served
-          → IsCourse gate turns stopped next.Begin own end → has_only_calls_of answers added ≡ true
-      stop-calls [] stopped after served own added end jobs are serves stops =
-          let P : Job → Type 0 = λ j. IsCourse gate turns j next.Begin own end in
-          let same : stopped ≡ job = cc in
-          ap (has_only_calls_of answers) (are ∙ ap (λ l. l ++ own) serves) ∙ course-calls next.Begin own end (subst P same stops)
-      stop-calls (x ∷ xs) stopped after served own added end jobs are serves stops =
-          absurd (omega (arith, ap length jobs, length-append xs (stopped ∷ after)))
+    -- a course that has no receipts, or begins with one
+    own-calls : (at : _) (end : _) (own : List (Receipt K)) → IsCourse gate turns job at own end
+        → ((x : Receipt K) (rest : List (Receipt K)) → IsCourse gate turns job at (x ∷ rest) end → has_only_calls_of answers (x ∷ rest) ≡ true) → has_only_calls_of answers own ≡ true
+    own-calls at end [] c first = refl
+    own-calls at end (x ∷ rest) c first = first x rest c
 
-      by-end : (out : Bool) (added : List (Receipt K)) (given_up : ℕ) → MatchBool out (StopsAtAJob gate turns (job ∷ []) added given_up) (ServesAll gate turns (job ∷ []) added)
-          → has_only_calls_of answers added ≡ true
-      by-end true added given_up s = stop-calls s.before s.job s.after s.served s.own added _ s.jobs_are s.added_are s.serves s.stops
-      by-end false added given_up s = whole-calls added s
+  module _ (gate : GateMeaning K) (turns : ℕ) (answers : List Answer) where
+    -- the one job of a list is the one at which the work stopped
+    only-job : (job stopped : Job) (before after : List Job) → job ∷ [] ≡ before ++ stopped ∷ after → (before ≡ []) × (stopped ≡ job)
+    only-job job stopped [] after e = (refl, cc)
+    only-job job stopped (x ∷ xs) after e = absurd (omega (arith, ap length e, length-append xs (stopped ∷ after)))
 
-      -- what serving the job adds is about its call
-      pub served-calls : (added : List (Receipt K)) (served : Served) → IsServing gate turns (job ∷ []) added served → has_only_calls_of answers added ≡ true
-      served-calls added served s = by-end served.out_of_memory added served.given_up s.course
+    none-served : (before : List Job) (served : List (Receipt K)) → before ≡ [] → ServesAll gate turns before served → served ≡ []
+    none-served [] served e s = s
+    none-served (x ∷ xs) served e s = absurd (cc)
+
+    stop-calls : (job : Job) → is_among job.call (calls_of answers) ≡ true → (added : List (Receipt K)) (given_up : ℕ) → StopsAtAJob gate turns (job ∷ []) added given_up
+        → has_only_calls_of answers added ≡ true
+    stop-calls job here added given_up s =
+        let only = only-job job s.job s.before s.after s.jobs_are in
+        let there : is_among s.job.call (calls_of answers) ≡ true = ap (λ (j : Job). is_among j.call (calls_of answers)) only.1 ∙ here in
+        let none : s.served ≡ [] = none-served s.before s.served only.0 s.serves in
+        ap (has_only_calls_of answers) (s.added_are ∙ ap (λ l. l ++ s.own) none)
+        ∙ own-calls gate turns s.job answers there _ _ s.own s.stops
+        (λ x rest c. step-calls gate turns s.job answers there _ _ x rest _ (λ n. ap call_of n) c.2.1 c.2.2 (calls-after gate turns s.job answers there x.entry.reply rest))
+
+    by-end : (job : Job) → is_among job.call (calls_of answers) ≡ true → (out : Bool) (added : List (Receipt K)) (given_up : ℕ)
+        → MatchBool out (StopsAtAJob gate turns (job ∷ []) added given_up) (ServesAll gate turns (job ∷ []) added) → has_only_calls_of answers added ≡ true
+    by-end job here true added given_up s = stop-calls job here added given_up s
+    by-end job here false added given_up s = whole-calls gate turns job answers here added s
+
+    -- what serving a job adds is about its call
+    pub served-calls : (job : Job) → is_among job.call (calls_of answers) ≡ true → (added : List (Receipt K)) (served : Served) → IsServing gate turns (job ∷ []) added served
+        → has_only_calls_of answers added ≡ true
+    served-calls job here added served s = by-end job here served.out_of_memory added served.given_up s.course
 
   -- a pass with more receipts, and one answer more
   pub still-own : (answers after : List Answer) (a : Answer) (pass added grown : List (Receipt K)) → has_only_calls_of answers pass ≡ true

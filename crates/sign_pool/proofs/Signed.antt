@@ -125,7 +125,7 @@ module _ {K : Type 0} where
       → (receipt : Receipt K) × Contains pass receipt × IsReadOff journal answer receipt
   done-receipt journal pass answer t done = by_last answer.last refl
     where
-      As : Option ℕ → Type 0
+      abbrev As : Option ℕ → Type 0
       As last = MatchOption last (HasNoneOf answer.call journal × IsReadFrom {K = K} None answer.outcome) (λ at. IsSomeAnd (slice_get pass at) (IsReadOff journal answer))
 
       by_last : (o : Option ℕ) → answer.last ≡ o → (receipt : Receipt K) × Contains pass receipt × IsReadOff journal answer receipt

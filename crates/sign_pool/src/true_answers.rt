@@ -1,5 +1,5 @@
 //! Whether answers are what the journal says, by the notes of their calls.
-ghost use Rattle.std.specs.Prelude.{◌≡◌, ◌<◌, All, IsSome, MatchBool, MatchOption, Some, length};
+ghost use Rattle.std.specs.Prelude.{◌≡◌, ◌≢◌, ◌<◌, All, IsSome, MatchBool, MatchOption, Some, length};
 ghost use Rattle.signer_book.specs.Settled.{AreEntriesOf, IsEntryOf};
 ghost use Rattle.sign_pool.specs.Cleared.{joined, lists_of};
 ghost use Rattle.sign_pool.specs.Notes.{AreRead, HaveNotes, note_of};
@@ -81,12 +81,20 @@ fn is_good<K>(notes: &CallNotes, journal: &[Entry<K>], pass: &[Receipt<K>], answ
     let Some(at) = answer.last else {
         return note.last.is_none() && answer.outcome == Outcome::OutOfMemory;
     };
-    match pass.get(at as usize) {
-        Some(receipt) => {
-            note.last == Some(receipt.place) && is_read_from(&receipt.entry.reply, answer.outcome)
-        }
-        None => false,
+    let Some(receipt) = pass.get(at as usize) else {
+        return false;
+    };
+    if !is_noted_at(note.last, receipt.place) {
+        return false;
     }
+    is_read_from(&receipt.entry.reply, answer.outcome)
+}
+
+/// Whether a call's last entry is at this place.
+fn is_noted_at(last: Option<u64>, place: u64) -> bool
+    ensures { MatchBool result (last ≡ Some place) (last ≢ Some place) }
+{
+    last == Some(place)
 }
 
 /// Whether the outcome is read from this reply.
