@@ -11,9 +11,10 @@ use Rattle.sequential_signer.specs.Transcript.{call_of}
 use Rattle.sequential_signer.specs.declared.event.Entry.{Entry}
 use Rattle.sequential_signer.specs.declared.event.Reply.{Reply}
 use Rattle.sequential_signer.specs.declared.event.Reply.TheVariants as reply
+use Rattle.signer_book.specs.OpenBegins.{is_cancelled}
 use Rattle.signer_book.specs.declared.pass.Receipt.{Receipt}
 use Rattle.signer_shared.specs.Gates.{GateMeaning}
-use Rattle.signer_shared.specs.Serving.{IsNext, next_after, IsStep, goes_on, gives_up, runs_out, IsCourse, ServesAll, StopsAtAJob, IsServing}
+use Rattle.signer_shared.specs.Serving.{replies, IsNext, next_after, IsStep, goes_on, gives_up, runs_out, IsCourse, ServesAll, StopsAtAJob, IsServing}
 use Rattle.signer_shared.specs.declared.job.Job.{Job}
 use Rattle.signer_shared.specs.declared.job.Served.{Served}
 use Rattle.sign_pool.specs.Calls.{calls_of, has_only_calls_of}
@@ -107,12 +108,6 @@ module _ {K : Type 0} where
         ap (has_only_calls_of answers) (is ∙ ap (λ l. (x ∷ rest) ++ l) serves ∙ append-nil (x ∷ rest))
         ∙ step-calls _ _ x rest end (λ n. ap call_of n) c.2.1 c.2.2 (calls-after x.entry.reply rest)
 
-    -- a course that has no receipts, or begins with one
-    own-calls : (at : _) (end : _) (own : List (Receipt K)) → IsCourse gate turns job at own end
-        → ((x : Receipt K) (rest : List (Receipt K)) → IsCourse gate turns job at (x ∷ rest) end → has_only_calls_of answers (x ∷ rest) ≡ true) → has_only_calls_of answers own ≡ true
-    own-calls at end [] c first = refl
-    own-calls at end (x ∷ rest) c first = first x rest c
-
   module _ (gate : GateMeaning K) (turns : ℕ) (answers : List Answer) where
     -- the one job of a list is the one at which the work stopped
     only-job : (job stopped : Job) (before after : List Job) → job ∷ [] ≡ before ++ stopped ∷ after → (before ≡ []) × (stopped ≡ job)
@@ -123,6 +118,16 @@ module _ {K : Type 0} where
     none-served [] served e s = s
     none-served (x ∷ xs) served e s = absurd (cc)
 
+    -- the receipts of the job at which the work stopped, by the parts of what is known of it
+    own-calls : (jobs : List Job) (added : List (Receipt K)) (given_up : ℕ) (before : List Job) (stopped : Job) (after : List Job) (served own : List (Receipt K)) (not_now : Bool)
+        (jobs_are : jobs ≡ before ++ stopped ∷ after) (added_are : added ≡ served ++ own) (serves : ServesAll gate turns before served) (stops : _) (counted : given_up ≡ replies is_cancelled served)
+        (s : StopsAtAJob gate turns jobs added given_up)
+        → s ≡ record { before = before; job = stopped; after = after; served = served; own = own; not_now = not_now; jobs_are = jobs_are; added_are = added_are; serves = serves; stops = stops; counted = counted }
+        → is_among stopped.call (calls_of answers) ≡ true → has_only_calls_of answers own ≡ true
+    own-calls jobs added given_up before stopped after served [] not_now jobs_are added_are serves stops counted s e here = refl
+    own-calls jobs added given_up before stopped after served (x ∷ rest) not_now jobs_are added_are serves stops counted s e here =
+        step-calls gate turns stopped answers here _ _ x rest _ (λ n. ap call_of n) stops.2.1 stops.2.2 (calls-after gate turns stopped answers here x.entry.reply rest)
+
     stop-calls : (job : Job) → is_among job.call (calls_of answers) ≡ true → (added : List (Receipt K)) (given_up : ℕ) → StopsAtAJob gate turns (job ∷ []) added given_up
         → has_only_calls_of answers added ≡ true
     stop-calls job here added given_up s =
@@ -130,8 +135,7 @@ module _ {K : Type 0} where
         let there : is_among s.job.call (calls_of answers) ≡ true = ap (λ (j : Job). is_among j.call (calls_of answers)) only.1 ∙ here in
         let none : s.served ≡ [] = none-served s.before s.served only.0 s.serves in
         ap (has_only_calls_of answers) (s.added_are ∙ ap (λ l. l ++ s.own) none)
-        ∙ own-calls gate turns s.job answers there _ _ s.own s.stops
-        (λ x rest c. step-calls gate turns s.job answers there _ _ x rest _ (λ n. ap call_of n) c.2.1 c.2.2 (calls-after gate turns s.job answers there x.entry.reply rest))
+        ∙ own-calls (job ∷ []) added given_up s.before s.job s.after s.served s.own s.not_now s.jobs_are s.added_are s.serves s.stops s.counted s refl there
 
     by-end : (job : Job) → is_among job.call (calls_of answers) ≡ true → (out : Bool) (added : List (Receipt K)) (given_up : ℕ)
         → MatchBool out (StopsAtAJob gate turns (job ∷ []) added given_up) (ServesAll gate turns (job ∷ []) added) → has_only_calls_of answers added ≡ true
