@@ -1,1 +1,11 @@
 mod Lasts
+mod OwnCalls
+mod Joined
+mod TicketClaims
+mod ClaimSteps
+mod Indexes
+mod CallNotes
+mod Balances
+mod Books
+mod Finishing
+mod Signed

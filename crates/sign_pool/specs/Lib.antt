@@ -1,3 +1,11 @@
 pub mod Pools
 pub mod Seats
+pub mod Calls
 pub mod Work
+pub mod Cleared
+pub mod TrueAnswers
+pub mod Index
+pub mod Notes
+pub mod Room
+pub mod Finish
+pub mod Laws

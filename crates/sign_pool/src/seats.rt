@@ -1,5 +1,6 @@
 //! Who submits jobs, and who works on them.
-ghost use Rattle.std.specs.Prelude.{◌≡◌};
+ghost use Rattle.std.specs.Prelude.{◌≡◌, true};
+ghost use Rattle.sign_pool.specs.Calls.{has_only_calls_of};
 
 use crate::answer::Answer;
 use crate::job::{PoolJob, Seat};
@@ -36,6 +37,7 @@ pub struct Worker<K> {
     pub(crate) handle: u32,
     pub(crate) pass: Pass<K>,
     pub(crate) answers: Vec<Answer>,
+    ghost calls: { has_only_calls_of answers.items pass ≡ true },
 }
 
 impl<K> Worker<K> {

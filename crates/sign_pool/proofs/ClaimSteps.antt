@@ -1,0 +1,97 @@
+-- Claims one after another, each of the ticket of an item.
+use Rattle.std.proofs.Common.{◌≡◌, ℕ, ◌<◌, ◌≤◌, ◌+◌, Bool, List, [], ◌∷◌, ◌++◌, Option, Some, None, is_some, length, get_or, take, drop, map, sym, ◌∙◌, ap, subst, arith}
+use Rattle.std.specs.Prelude.{Contains, IsPermutation, MatchBool}
+use Rattle.std.specs.Map.{lookup, remove_entry, keys_of}
+use Rattle.std.proofs.lemmas.List.{append-nil, map-append, take_more, take-append-drop, drop_more, take_all, length-append, nil_from_length}
+use Rattle.std.proofs.lemmas.List.Elements.{All-head}
+use Rattle.std.proofs.lemmas.List.Sorted.{IsPermutation-refl, length_permutation}
+use Rattle.sign_pool.specs.Cleared.{joined}
+use Rattle.sign_pool.specs.Index.{AreClaims}
+use Rattle.sign_pool.specs.declared.job.Ticket.{Ticket}
+use Rattle.sign_pool.proofs.TicketClaims.{Apart, same_ticket, no-key, claimed-key, claims-rest, claims-left, claims-same, claimed-more}
+use Rattle.sign_pool.proofs.Joined.{joined-around, joined-more}
+
+-- a claim, by what was taken out
+pub claim-decides : {X : Type 0} (old new : List (Ticket × X)) (ticket : Ticket) (o : Option X) (b : Bool) → o ≡ lookup (same_ticket ticket) old
+    → IsPermutation (remove_entry (same_ticket ticket) old) new → b ≡ is_some o
+    → MatchBool b (IsPermutation (keys_of old) (ticket ∷ keys_of new)) (Contains (keys_of old) ticket → ⊥)
+claim-decides old new ticket None b found moved is =
+    let P : Bool → Type 0 = λ v. MatchBool v (IsPermutation (keys_of old) (ticket ∷ keys_of new)) (Contains (keys_of old) ticket → ⊥) in
+    subst P (sym is) (no-key old ticket (sym found))
+claim-decides old new ticket (Some x) b found moved is =
+    let P : Bool → Type 0 = λ v. MatchBool v (IsPermutation (keys_of old) (ticket ∷ keys_of new)) (Contains (keys_of old) ticket → ⊥) in
+    subst P (sym is) (claimed-key old new ticket x (sym found) moved)
+
+module _ {X : Type 0} (f : X → Ticket) (those : List Ticket) where
+  -- nothing is claimed yet
+  pub claims-none : (keys : List Ticket) → keys ≡ those → IsPermutation those ([] ++ keys)
+  claims-none keys is = subst (λ (l : List Ticket). IsPermutation those l) (sym is) (IsPermutation-refl those)
+
+  module _ (xs : List X) (i : ℕ) (x : X) (keys : List Ticket) (below : i < length xs) (is : x ≡ get_or xs i x) (had : IsPermutation those (map f (take i xs) ++ keys)) where
+    -- one claim more
+    pub claims-step : (left : List Ticket) → IsPermutation keys (f x ∷ left) → IsPermutation those (map f (take (i + 1) xs) ++ left)
+    claims-step left now =
+        let one : take (i + 1) xs ≡ take i xs ++ x ∷ [] = take_more xs i x below ∙ ap (λ y. take i xs ++ y ∷ []) (sym is) in
+        let t : map f (take (i + 1) xs) ≡ map f (take i xs) ++ f x ∷ [] = ap (map f) one ∙ map-append f (take i xs) (x ∷ []) in
+        subst (λ (l : List Ticket). IsPermutation those (l ++ left)) (sym t) (claimed-more those (map f (take i xs)) keys (f x ∷ []) left had now)
+
+    -- a claim that fails
+    pub claims-fail : (Contains keys (f x) → ⊥) → AreClaims those (map f xs) → ⊥
+    claims-fail none claims =
+        let rest : List Ticket = map f (drop (i + 1) xs) in
+        let whole : xs ≡ take i xs ++ (x ∷ drop (i + 1) xs) =
+        sym (take-append-drop i xs) ∙ ap (λ l. take i xs ++ l) (drop_more xs i x below ∙ ap (λ y. y ∷ drop (i + 1) xs) (sym is)) in
+        let split : map f xs ≡ map f (take i xs) ++ (f x ∷ rest) = ap (map f) whole ∙ map-append f (take i xs) (x ∷ drop (i + 1) xs) in
+        let mine : AreClaims keys (f x ∷ rest) = claims-rest those (map f (take i xs)) keys (f x ∷ rest) had (subst (AreClaims those) split claims) in
+        none (All-head (Contains keys) (f x) rest mine.among)
+
+  -- all are claimed
+  pub claims-end : (xs : List X) (n : ℕ) (keys : List Ticket) → length xs ≤ n → IsPermutation those (map f (take n xs) ++ keys) → IsPermutation those (map f xs ++ keys)
+  claims-end xs n keys past had = subst (λ (l : List X). IsPermutation those (map f l ++ keys)) (take_all n xs past) had
+
+  module _ (lists : List (List X)) (i : ℕ) (list : List X) (keys : List Ticket) (below : i < length lists) (is : list ≡ get_or lists i list)
+      (had : IsPermutation those (map f (joined (take i lists)) ++ keys)) where
+    -- the claims of one list more
+    pub lists-step : (left : List Ticket) → IsPermutation keys (map f list ++ left) → IsPermutation those (map f (joined (take (i + 1) lists)) ++ left)
+    lists-step left now =
+        let t : map f (joined (take (i + 1) lists)) ≡ map f (joined (take i lists)) ++ map f list =
+        ap (map f) (joined-more lists i list below is) ∙ map-append f (joined (take i lists)) list in
+        subst (λ (l : List Ticket). IsPermutation those (l ++ left)) (sym t) (claimed-more those (map f (joined (take i lists))) keys (map f list) left had now)
+
+    -- a list whose claims fail
+    pub lists-fail : (AreClaims keys (map f list) → ⊥) → AreClaims those (map f (joined lists)) → ⊥
+    lists-fail none claims =
+        let around = joined-around lists i list below is in
+        let split : map f (joined lists) ≡ map f (joined (take i lists)) ++ (map f list ++ map f around.0) =
+        ap (map f) around.1 ∙ map-append f (joined (take i lists)) (list ++ around.0) ∙ ap (λ l. map f (joined (take i lists)) ++ l) (map-append f list around.0) in
+        none (claims-left keys (map f list) (map f around.0)
+        (claims-rest those (map f (joined (take i lists))) keys (map f list ++ map f around.0) had (subst (AreClaims those) split claims)))
+
+  pub lists-end : (lists : List (List X)) (n : ℕ) (keys : List Ticket) → length lists ≤ n → IsPermutation those (map f (joined (take n lists)) ++ keys) → IsPermutation those (map f (joined lists) ++ keys)
+  lists-end lists n keys past had = subst (λ (l : List (List X)). IsPermutation those (map f (joined l) ++ keys)) (take_all n lists past) had
+
+-- whether both claim, and nothing is left
+module _ (those answered more : List Ticket) (apart : Apart those) where
+  pub once-failed-first : (AreClaims those answered → ⊥) → IsPermutation those (answered ++ more) → ⊥
+  once-failed-first none moved = none (claims-left those answered more (claims-same those (answered ++ more) moved apart))
+
+  module _ (keys : List Ticket) (had : IsPermutation those (answered ++ keys)) where
+    pub once-failed-second : (AreClaims keys more → ⊥) → IsPermutation those (answered ++ more) → ⊥
+    once-failed-second none moved = none (claims-rest those answered keys more had (claims-same those (answered ++ more) moved apart))
+
+    module _ (left : List Ticket) (now : IsPermutation keys (more ++ left)) where
+      all-claimed : IsPermutation those ((answered ++ more) ++ left)
+      all-claimed = claimed-more those answered keys more left had now
+
+      pub once-left : (length left ≡ 0 → ⊥) → IsPermutation those (answered ++ more) → ⊥
+      once-left some moved =
+          let a : length (answered ++ more) ≡ length those = length_permutation those (answered ++ more) moved in
+          let b : length ((answered ++ more) ++ left) ≡ length those = length_permutation those ((answered ++ more) ++ left) all-claimed in
+          let n : length ((answered ++ more) ++ left) ≡ length (answered ++ more) + length left = length-append (answered ++ more) left in
+          let none : length left ≡ 0 = omega (arith, a, b, n) in
+          some none
+
+      pub once-each : length left ≡ 0 → IsPermutation those (answered ++ more)
+      once-each none =
+          let e : (answered ++ more) ++ left ≡ answered ++ more = ap (λ l. (answered ++ more) ++ l) (nil_from_length left none) ∙ append-nil (answered ++ more) in
+          subst (λ (l : List Ticket). IsPermutation those l) e all-claimed

@@ -1,0 +1,21 @@
+-- The memory that is taken before a pool is finished.
+use Rattle.std.specs.Prelude.{◌≡◌, ◌≤◌, ℕ, List, [], length, MatchOption, vec_capacity}
+use Rattle.sign_pool.specs.Cleared.{joined}
+use Rattle.sign_pool.specs.Index.{HaveOwnTickets, IsIndexOf, jobs_of}
+use Rattle.sign_pool.specs.Notes.{AreBlank, HaveNotes, answers_of}
+use Rattle.sign_pool.specs.declared.room.FinishRoom.{FinishRoom}
+use Rattle.sign_pool.specs.declared.seats.Submitter.{Submitter}
+use Rattle.sign_pool.specs.declared.seats.Worker.{Worker}
+
+-- an empty list with room for so many
+abbrev pub IsRoomFor : {X : Type 0} → List X → ℕ → ℕ → Type 0
+IsRoomFor items capacity count = (items ≡ []) × (count ≤ capacity)
+
+-- room for what the seats hand out, an index of their jobs, if there can be one, and a blank note for each answer
+pub record HasRoom {K : Type 0} (submitters : List Submitter) (workers : List (Worker K)) (room : FinishRoom K) : Type 0 where
+  pub passes : IsRoomFor room.passes.items (vec_capacity room.passes) (length workers)
+  pub answers : IsRoomFor room.answers.items (vec_capacity room.answers) (length workers)
+  pub left : room.left.items ≡ []
+  pub submitted : IsRoomFor room.submitted.items (vec_capacity room.submitted) (length submitters)
+  pub index : MatchOption room.index (HaveOwnTickets (joined (jobs_of submitters)) → ⊥) (IsIndexOf (jobs_of submitters))
+  pub notes : AreBlank room.notes × HaveNotes (answers_of workers) room.notes
