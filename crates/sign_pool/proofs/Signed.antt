@@ -79,7 +79,7 @@ module _ {K : Type 0} where
     input : b ≡ record { head = head; duration = option_map as_nanos expires_in }
 
   begun-entry : (entries : List (Entry K)) (call : CallId) (b : BeginInput) → begin_of entries call ≡ Some b → Begun entries call b
-  unfolding begin_in, entries_of
+  unfolding begin_in entries_of
   begun-entry entries call b h = by_found (find (λ (x : Entry K). is_begun x.reply) (filter (is_about call) entries)) refl h
     where
       by_event : (e : Entry K) → Contains (filter (is_about call) entries) e → (ev : Event K) → e.event ≡ ev → begun_with ev ≡ Some b → Begun entries call b
@@ -120,18 +120,19 @@ module _ {K : Type 0} where
   done-from (reply.Ask provider) h = absurd (cc)
   done-from (reply.Sign credential wake) h = absurd (cc)
 
+  -- what a true answer of a call with such a last receipt says
+  abbrev ReadAs : List (Entry K) → List (Receipt K) → Answer → Option ℕ → Type 0
+  ReadAs journal pass answer last = MatchOption last (HasNoneOf answer.call journal × IsReadFrom {K = K} None answer.outcome) (λ at. IsSomeAnd (slice_get pass at) (IsReadOff journal answer))
+
   -- the receipt of a true answer that says so
   done-receipt : (journal : List (Entry K)) (pass : List (Receipt K)) (answer : Answer) → IsTrueAnswer journal pass answer → answer.outcome ≡ Done
       → (receipt : Receipt K) × Contains pass receipt × IsReadOff journal answer receipt
   done-receipt journal pass answer t done = by_last answer.last refl
     where
-      abbrev As : Option ℕ → Type 0
-      As last = MatchOption last (HasNoneOf answer.call journal × IsReadFrom {K = K} None answer.outcome) (λ at. IsSomeAnd (slice_get pass at) (IsReadOff journal answer))
-
       by_last : (o : Option ℕ) → answer.last ≡ o → (receipt : Receipt K) × Contains pass receipt × IsReadOff journal answer receipt
-      by_last None e = let out = (subst As e t).1 in absurd (cc (out, done))
+      by_last None e = let out = (subst (ReadAs journal pass answer) e t).1 in absurd (cc (out, done))
       by_last (Some at) e =
-          let f = open-some (slice_get pass at) (IsReadOff journal answer) (subst As e t) in
+          let f = open-some (slice_get pass at) (IsReadOff journal answer) (subst (ReadAs journal pass answer) e t) in
           (f.0, (at, slice_get_within pass at f.0 f.1, get_or_from_slice_get pass at f.0 f.0 f.1), f.2)
 
 module _ {K D : Type 0} (policy : Policy K D) (setup : Setup D) where

@@ -1,8 +1,26 @@
-use Rattle.std.proofs.Common.{rules, ◌≡◌, ℕ, ◌+◌, ◌∷◌, [], refl, ap, subst, length}
+use Rattle.std.proofs.Common.{rules, ◌≡◌, ℕ, ◌+◌, List, ◌∷◌, ◌++◌, [], refl, ap, subst, length}
 use Rattle.signer_shared.specs.Serving.{IsServing}
 use Rattle.sign_pool.specs.Work.{job_of}
+use Rattle.sign_pool.specs.declared.answer.Answer.{Answer}
 use Rattle.sign_pool.proofs.Lasts.{answer-is}
+use Rattle.sign_pool.proofs.OwnCalls.{last-among, served-calls, still-own}
 use Rattle.sign_pool.proofs.pool.Pool.serve.Goals as goal
+
+pub invariant_of-seat : goal.invariant_of-seat
+invariant_of-seat g c =
+    let s = c.serve_jobs-served.ensures in
+    let answers : List Answer = c.args.seat.now.answers.items in
+    let answer : Answer = record {
+      ticket = c.args.job.ticket;
+      call = record { handle = c.args.seat.now.handle; number = c.len.result + 1 };
+      last = c.answer_of-last.result.0;
+      outcome = c.answer_of-last.result.1;
+    } in
+    let own = served-calls (g.G.Gate.meaning c.args.gate.now) c.args.turns (answers ++ answer ∷ []) (job_of c.args.job c.args.seat.now.handle (c.len.result + 1)) (last-among answers answer)
+    s.0 c.serve_jobs-served.result s.2 in
+    record {
+      calls = still-own answers c.push_reserved.new.self.items answer c.args.seat.now.pass s.0 c.serve_jobs-served.new.pass c.args.seat.now.calls c.push_reserved.ensures.items s.1 own;
+    }
 
 pub returns-clause-serves : goal.returns-clause-serves
 returns-clause-serves g c =

@@ -1,0 +1,26 @@
+use Rattle.sign_pool.proofs.Finishing.{index-of, noted-kept, entries-read, cleared-read}
+use Rattle.sign_pool.proofs.compare.finish_cause.Goals as goal
+
+pub is_cleared-requires-clause-index : goal.is_cleared-requires-clause-index
+is_cleared-requires-clause-index g c =
+    index-of c.args.finished.now.submitted.items c.as_slice-submitted.result.now c.as_slice-submitted.ensures.value c.args.index c.in-Some.index c.in-Some.is c.requires.index
+
+pub is_cleared-requires-clause-noted : goal.is_cleared-requires-clause-noted
+is_cleared-requires-clause-noted g c =
+    noted-kept c.args.finished.now.answers.items c.as_slice-answers.result.now c.as_slice-answers.ensures.value c.args.notes c.note_journal.new.notes c.note_journal.ensures.kept c.requires.notes.1
+
+pub returns-then-not-is_cleared : goal.returns-then-not-is_cleared
+returns-then-not-is_cleared g c = λ cleared.
+    c.if-not-is_cleared.ensures
+    (cleared-read c.args.finished.now.settled.journal.items c.as_slice-journal.result.now c.args.finished.now.answers.items c.as_slice-answers.result.now
+    c.args.finished.now.left.items c.as_slice-left.result.now c.args.finished.now.submitted.items c.as_slice-submitted.result.now
+    c.as_slice-journal.ensures.value c.as_slice-answers.ensures.value c.as_slice-left.ensures.value c.as_slice-submitted.ensures.value cleared)
+
+pub first_bad-requires-clause-entries : goal.first_bad-requires-clause-entries
+first_bad-requires-clause-entries g c =
+    entries-read c.args.finished.now.settled.journal.items c.as_slice-journal.result.now c.args.finished.now.settled.passes.items c.as_slice.result.now
+    c.as_slice-journal.ensures.value c.as_slice.ensures.value c.requires.settled.entries
+
+pub first_bad-requires-clause-noted : goal.first_bad-requires-clause-noted
+first_bad-requires-clause-noted g c =
+    noted-kept c.args.finished.now.answers.items c.as_slice-answers.result.now c.as_slice-answers.ensures.value c.args.notes c.note_journal.new.notes c.note_journal.ensures.kept c.requires.notes.1
