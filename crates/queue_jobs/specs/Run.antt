@@ -15,8 +15,8 @@ use Rattle.sign_pool.specs.declared.finished.FinishCause.{FinishCause}
 use Rattle.sign_pool.specs.declared.finished.Finished.{Finished}
 use Rattle.pool_jobs.specs.Setup.{pool_setup}
 use Rattle.queue_jobs.specs.Served.{AreSubmitted, ServesQueue}
-use Rattle.queue_jobs.specs.declared.finish.QueueRefused.{QueueRefused}
-use Rattle.queue_jobs.specs.declared.finish.QueueRefused.TheVariants as refused
+use Rattle.queue_jobs.specs.declared.refused.QueueRefused.{QueueRefused}
+use Rattle.queue_jobs.specs.declared.refused.QueueRefused.TheVariants as refused
 
 module _ (gate : GateMeaning ScriptCredential) (workers jobs : ℕ) where
   -- the signer is closed behind so many workers, who served so many jobs; and as many were submitted

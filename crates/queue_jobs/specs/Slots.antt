@@ -5,13 +5,13 @@ use Rattle.crossbeam_queue.specs.declared.array_queue.Doing.{Doing}
 use Rattle.crossbeam_queue.specs.declared.array_queue.Slotted.{Slotted}
 use Rattle.signctl_format.specs.declared.credential.ScriptCredential.{ScriptCredential}
 use Rattle.signer_shared.specs.Gates.{GateMeaning}
-use Rattle.sign_pool.specs.Cleared.{joined}
+use Rattle.sign_pool.specs.Cleared.{lists_of}
 use Rattle.sign_pool.specs.declared.job.Hand.{Hand}
 use Rattle.sign_pool.specs.declared.job.PoolJob.{PoolJob}
 use Rattle.sign_pool.specs.declared.seats.Submitter.{Submitter}
 use Rattle.sign_pool.specs.declared.seats.Worker.{Worker}
 use Rattle.queue_jobs.specs.Jobs.{IsQueueJob, share}
-use Rattle.queue_jobs.specs.Served.{DidNotRunOut, ServesAnswers}
+use Rattle.queue_jobs.specs.Served.{AreSubmitted, DidNotRunOut, ServesAnswers, ServesQueue}
 use Rattle.queue_jobs.specs.declared.slots.Slot.{Slot}
 
 -- what holds of each element and its place, from this place on
@@ -76,7 +76,7 @@ module _ {Q A : Type 0} (queue : Slotted (Option PoolJob) (Doing PoolJob Hand) Q
 
       -- the slot of this place when its thread has returned
       pub record IsRunSlot (place : ℕ) (slot : Slot) : Type 0 where
-        pub slot : IsSlot slot
+        pub state : IsSlot slot
         pub handle : slot.worker.handle ≡ place
         pub submitted : slot.out_of_memory ≡ false → length slot.submitter.jobs.items ≡ share workers jobs place
 
@@ -91,3 +91,10 @@ module _ {Q A : Type 0} (queue : Slotted (Option PoolJob) (Doing PoolJob Hand) Q
         pub none_stopped : All DidNotStop slots
         pub answered : answered_in slots ≡ jobs
         pub none_ran_out : All NoAnswerRanOut slots
+
+      -- all seats, in the order of the slots: theirs is this queue, and they have what was submitted and served
+      pub record AreServedSeats (submitters : List Submitter) (seats : List (Worker ScriptCredential)) : Type 0 where
+        pub submitter_seats : All (λ s. IsPassOf queue s.seat) submitters
+        pub worker_seats : All (λ w. IsPassOf queue w.seat) seats
+        pub submitted : AreSubmitted jobs (lists_of (map (λ s. s.jobs) submitters))
+        pub serves : ServesQueue gate workers jobs (map (λ w. w.pass) seats) (lists_of (map (λ w. w.answers) seats))

@@ -4,13 +4,14 @@
 
 mod check;
 mod desk;
-mod finish;
+mod refused;
 mod rest;
+mod seats;
 mod serve;
 mod slots;
 mod submit;
 mod threads;
 mod work;
 
-pub use finish::QueueRefused;
+pub use refused::QueueRefused;
 pub use serve::serve_queue;

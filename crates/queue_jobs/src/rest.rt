@@ -1,6 +1,6 @@
 //! What the caller does when all threads have returned.
-ghost use Rattle.std.specs.Prelude.{◌≡◌, ◌<◌, IfOk, true, length};
-ghost use Rattle.queue_jobs.specs.Slots.{AreRunSlots, answered_in};
+ghost use Rattle.std.specs.Prelude.{◌≡◌, ◌<◌, IfOk, true, length, All};
+ghost use Rattle.queue_jobs.specs.Slots.{AreRunSlots, DidNotStop, answered_in};
 
 use crate::desk::QueuePool;
 use crate::slots::Slot;
@@ -24,7 +24,9 @@ pub(crate) fn work_on_rest<G: Gate<ScriptCredential>, R: Wait>(
 ) -> Result<(), NoMemory<()>>
     requires some { 0 < workers }
     requires slots { AreRunSlots pool.now.queue (G.meaning gate.now) workers jobs slots.old }
+    requires stopped { All DidNotStop slots.old }
     ensures slots { IfOk result (λ _. AreRunSlots pool.now.queue (G.meaning gate.now) workers jobs slots.new) }
+    ensures stopped { IfOk result (λ _. All DidNotStop slots.new) }
     ensures answered { IfOk result (λ _. answered_in slots.new ≡ jobs) }
 {
     for _ in rt.forever() {

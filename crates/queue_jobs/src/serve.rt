@@ -1,16 +1,10 @@
 //! A queue of jobs, run to its end.
-ghost use Rattle.std.specs.Prelude.{◌≡◌, ◌<◌, ◌≤◌, MatchResult, IfOk};
+ghost use Rattle.std.specs.Prelude.{◌<◌, ◌≤◌, MatchResult};
 ghost use Rattle.queue_jobs.specs.Run.{IsFinishedQueue, IsRefusedQueue};
-ghost use Rattle.queue_jobs.specs.Slots.{AreNewSlots, AreServedSlots};
 
-use crate::check::{any_ran_out, any_stopped};
-use crate::desk::{QueuePool, queue_pool};
-use crate::finish::{QueueRefused, finish_queue};
-use crate::rest::work_on_rest;
-use crate::slots::{Slot, into_seats, new_slots};
-use crate::threads::run_threads;
-use sign_base::NoMemory;
-use sign_pool::Finished;
+use crate::refused::QueueRefused;
+use crate::seats::{ServedPool, served_pool};
+use sign_pool::{FinishError, FinishRefused, Finished};
 use signctl_format::{ScriptCredential, ScriptRule};
 use signer_shared::Gate;
 use std::alloc::Global;
@@ -20,7 +14,7 @@ use std::thread::Threads;
 /// Serves so many jobs by so many workers through a queue that holds so many, and finishes the pool. It may
 /// wait for its threads.
 ///
-/// An allocation that failed in a thread or in a job is an error, whatever finishing the pool gives.
+/// An allocation that failed in a thread or in a job is an error, whatever finishing the pool would give.
 pub fn serve_queue<G: Gate<ScriptCredential> + Sync, R: Threads + Wait + Sync>(
     rt: &R,
     alloc: Global,
@@ -34,44 +28,23 @@ pub fn serve_queue<G: Gate<ScriptCredential> + Sync, R: Threads + Wait + Sync>(
     ensures { MatchResult result (IsFinishedQueue (G.meaning gate.now) workers jobs)
         (IsRefusedQueue (G.meaning gate.now) workers jobs) }
 {
-    let Ok(mut pool) = queue_pool(alloc, workers, capacity) else {
+    let Ok(served) = served_pool(rt, alloc, workers, jobs, capacity, gate) else {
         return Err(QueueRefused::OutOfMemory);
     };
-    let Ok(mut slots) = new_slots(alloc, &mut pool, workers) else {
-        return Err(QueueRefused::OutOfMemory);
-    };
-    if run_slots(rt, alloc, &pool, gate, workers, jobs, slots.as_mut_slice()).is_err() {
-        return Err(QueueRefused::OutOfMemory);
+    let ServedPool {
+        pool,
+        submitters,
+        workers,
+    } = served;
+    match pool.finish(rt, submitters, workers) {
+        Ok(finished) => Ok(finished),
+        Err(FinishRefused::Early { why, .. }) => match why {
+            FinishError::OutOfMemory => Err(QueueRefused::OutOfMemory),
+            FinishError::Seats { .. } => unreachable!(),
+        },
+        Err(FinishRefused::Close { refused, .. }) => Err(QueueRefused::Close(refused)),
+        Err(FinishRefused::Uncleared { finished, why }) => {
+            Err(QueueRefused::Uncleared { finished, why })
+        }
     }
-    match into_seats(alloc, slots) {
-        Ok((submitters, seats)) => finish_queue(rt, pool, submitters, seats),
-        Err(_) => Err(QueueRefused::OutOfMemory),
-    }
-}
-
-/// Runs the threads, and works on what they left.
-///
-/// Errors: an allocation failed, in a thread or in a job.
-fn run_slots<G: Gate<ScriptCredential> + Sync, R: Threads + Wait + Sync>(
-    rt: &R,
-    alloc: Global,
-    pool: &QueuePool,
-    gate: &G,
-    workers: u32,
-    jobs: u64,
-    slots: &mut [Slot],
-) -> Result<(), NoMemory<()>>
-    requires some { 0 < workers }
-    requires slots { AreNewSlots pool.now.queue workers slots.old }
-    ensures { IfOk result (λ _. AreServedSlots pool.now.queue (G.meaning gate.now) workers jobs slots.new) }
-{
-    run_threads(rt, alloc, pool, gate, workers, jobs, slots);
-    if any_stopped(slots) {
-        return Err(NoMemory { back: () });
-    }
-    work_on_rest(rt, pool, gate, workers, jobs, slots)?;
-    if any_ran_out(slots) {
-        return Err(NoMemory { back: () });
-    }
-    Ok(())
 }

@@ -1,5 +1,5 @@
 //! The threads: each submits its share of the jobs and then works until the queue is empty.
-ghost use Rattle.std.specs.Prelude.{◌≡◌, ◌<◌, ◌+◌, false, length};
+ghost use Rattle.std.specs.Prelude.{◌≡◌, ◌<◌, ◌+◌, false, length, IfOk};
 ghost use Rattle.queue_jobs.specs.Jobs.{share};
 ghost use Rattle.queue_jobs.specs.Slots.{AreNewSlots, AreRunSlots, GoesOn, IsRun, IsSlot};
 
@@ -31,7 +31,7 @@ pub(crate) fn run_threads<G: Gate<ScriptCredential> + Sync, R: Threads + Wait + 
 {
     let threads = slots.len();
     let thread = move |place: usize, slot: &mut Slot|
-        requires { IsSlot pool.now.queue (G.meaning gate.now) slot.now }
+        requires { (0 < workers) × IsSlot pool.now.queue (G.meaning gate.now) slot.now }
         ensures { IsRun pool.entry.now.queue (G.meaning gate.entry.now) workers jobs place slot.entry.now slot.exit.now }
     { run_slot(rt, alloc, pool, gate, share(workers, jobs, place), slot) };
     thread::for_each_mut(rt, slots, threads, &thread);

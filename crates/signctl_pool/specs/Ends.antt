@@ -4,8 +4,10 @@ use Rattle.signctl_driver.specs.declared.status.Status.TheVariants as status
 use Rattle.signctl_pool.specs.declared.end.PoolEnd.{PoolEnd}
 use Rattle.signctl_pool.specs.declared.end.PoolEnd.TheVariants as end
 
--- the status of an end: a signer that was not closed is refused
+-- the status of an end: a signer that was not closed is refused, and so are books that do not balance
 abbrev pub status_of : PoolEnd → Status
 status_of (end.Done settled) = status.Done
+status_of (end.Finished finished) = status.Done
 status_of (end.Disagreed refused) = status.Refused
+status_of (end.Uncleared finished why) = status.Refused
 status_of (end.Ended why) = why
