@@ -1,6 +1,8 @@
 -- The status of each end of a run.
 use Rattle.signctl_driver.specs.declared.status.Status.{Status}
 use Rattle.signctl_driver.specs.declared.status.Status.TheVariants as status
+use Rattle.queue_jobs.specs.declared.refused.QueueRefused.{QueueRefused}
+use Rattle.queue_jobs.specs.declared.refused.QueueRefused.TheVariants as refused
 use Rattle.signctl_pool.specs.declared.end.PoolEnd.{PoolEnd}
 use Rattle.signctl_pool.specs.declared.end.PoolEnd.TheVariants as end
 
@@ -11,3 +13,9 @@ status_of (end.Finished finished) = status.Done
 status_of (end.Disagreed refused) = status.Refused
 status_of (end.Uncleared finished why) = status.Refused
 status_of (end.Ended why) = why
+
+-- the end of a queue that was not finished
+abbrev pub queue_end : QueueRefused → PoolEnd
+queue_end refused.OutOfMemory = end.Ended status.OutOfMemory
+queue_end (refused.Close close) = end.Disagreed close
+queue_end (refused.Uncleared finished why) = end.Uncleared finished why

@@ -1,13 +1,10 @@
 //! A queue of jobs for workers at one shared signer, run to its end: the command `queue`.
-ghost use Rattle.std.specs.Prelude.{◌≡◌, ℕ, ◌<◌, ◌≤◌};
+ghost use Rattle.std.specs.Prelude.{◌≡◌, ◌<◌, ◌≤◌};
 ghost use Rattle.sign_base.specs.Faults.{CountsFault};
 ghost use Rattle.signctl_driver.specs.Status.{is_write_fault};
-ghost use Rattle.signctl_format.specs.declared.credential.ScriptCredential.{ScriptCredential};
-ghost use Rattle.signer_shared.specs.Gates.{GateMeaning};
-ghost use Rattle.queue_jobs.specs.Run.{IsRefusedQueue};
 ghost use Rattle.signctl_pool.specs.Words.{most_capacity, most_jobs};
-ghost use Rattle.signctl_pool.specs.Ends.{status_of};
-ghost use Rattle.signctl_pool.specs.Queue.{EndsQueue, EndsQueueEarly};
+ghost use Rattle.signctl_pool.specs.Ends.{queue_end, status_of};
+ghost use Rattle.signctl_pool.specs.Queue.{EndsQueue};
 
 use crate::books::books_line;
 use crate::end::PoolEnd;
@@ -57,8 +54,7 @@ pub(crate) fn run_queue<
 
 /// The end of a run that was not finished.
 fn end_of(refused: QueueRefused) -> PoolEnd
-    ensures { (gate : GateMeaning ScriptCredential) (workers jobs : ℕ) → IsRefusedQueue gate workers jobs refused
-        → EndsQueueEarly gate workers jobs result }
+    ensures { result ≡ queue_end refused }
 {
     match refused {
         QueueRefused::OutOfMemory => PoolEnd::Ended(Status::OutOfMemory),
