@@ -7,7 +7,9 @@ use sign_base::{Field, Fields, Head, NoMemory, Octets, Version};
 use std::alloc::Global;
 
 /// The head of every job.
-pub(crate) fn pool_head(alloc: Global) -> Result<Head, NoMemory<()>>
+///
+/// Errors: an allocation failed.
+pub fn pool_head(alloc: Global) -> Result<Head, NoMemory<()>>
     ensures { IfOk result (λ head. head ≡ pool_head) }
 {
     Ok(Head {

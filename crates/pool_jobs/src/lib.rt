@@ -10,4 +10,5 @@ mod work;
 
 pub use desk::pool_desk;
 pub use gate::PoolGate;
+pub use head::pool_head;
 pub use work::pool_work;

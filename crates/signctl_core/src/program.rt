@@ -150,16 +150,17 @@ fn help_text() -> &'static str
     usage_line!(
         "
 These commands work. The first six read lines from standard input and answer them on standard
-output; the last two read nothing.
+output; the last three read nothing.
 
-  script    runs the request signer: events in, its replies out
-  hmac      digests, HMAC and Base64: a call and its arguments in, the text out
-  view      request heads in, what a signing service sees of each out
-  grant     runs a credential broker: events in, its replies out
-  sigv4     request heads with keys in, heads signed with AWS Signature Version 4 out
-  audit     events and the replies claimed for them in, whether these are the signer's out
-  load N    runs N made-up calls on the signer, and counts its replies
-  pool W J  serves J made-up calls by W threads at one shared signer, and counts them
+  script       runs the request signer: events in, its replies out
+  hmac         digests, HMAC and Base64: a call and its arguments in, the text out
+  view         request heads in, what a signing service sees of each out
+  grant        runs a credential broker: events in, its replies out
+  sigv4        request heads with keys in, heads signed with AWS Signature Version 4 out
+  audit        events and the replies claimed for them in, whether these are the signer's out
+  load N       runs N made-up calls on the signer, and counts its replies
+  pool W J     serves J made-up calls by W threads at one shared signer, and counts them
+  queue W J C  serves them from a queue that holds C, and counts what was answered and left
 
   --help, --version    print this text, the version
 

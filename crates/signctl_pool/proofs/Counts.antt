@@ -1,8 +1,25 @@
--- How many of the first elements of a list pass a test.
-use Rattle.std.proofs.Common.{ℕ, ◌≤◌, Bool, List, length, take, arith}
+-- How many of the first elements of a list pass a test, and how many items the first lists have.
+use Rattle.std.proofs.Common.{◌≡◌, ℕ, zero, suc, ◌+◌, ◌<◌, ◌≤◌, Bool, List, [], ◌∷◌, length, take, get_or, ap, arith}
+use Rattle.std.specs.Global.{Vec}
 use Rattle.std.specs.List.{count_by}
 use Rattle.std.proofs.lemmas.Grind.{common_steps}
+use Rattle.std.proofs.lemmas.List.{length-append}
+use Rattle.sign_pool.specs.Cleared.{joined, lists_of}
 
 -- no more than there are
 pub counts_few : {X : Type 0} (p : X → Bool) (xs : List X) (n : ℕ) → count_by p (take n xs) ≤ length xs
 counts_few p xs n = grind (arith, common_steps)
+
+-- the items of the lists before one, and its own, are no more than all
+pub lists_before : {X : Type 0} (vectors : List (Vec X)) (i : ℕ) (v : Vec X) → i < length vectors → v ≡ get_or vectors i v
+    → length (joined (lists_of (take i vectors))) + length v.items ≤ length (joined (lists_of vectors))
+lists_before {X} [] i v below is = absurd (omega arith)
+lists_before {X} (w ∷ vectors) zero v below is =
+    omega (arith, ap (λ (u : Vec X). length u.items) is, length-append w.items (joined (lists_of vectors)))
+lists_before {X} (w ∷ vectors) (suc i) v below is =
+    omega (
+      arith,
+      length-append w.items (joined (lists_of (take i vectors))),
+      length-append w.items (joined (lists_of vectors)),
+      lists_before vectors i v (omega arith) is,
+    )

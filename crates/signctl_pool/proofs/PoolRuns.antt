@@ -30,7 +30,8 @@ use Rattle.pool_jobs.specs.Setup.{pool_setup}
 use Rattle.pool_jobs.specs.Work.{pool_work, jobs_of_worker}
 use Rattle.pool_jobs.specs.Run.{ServesPool}
 use Rattle.signctl_pool.specs.Ends.{status_of}
-use Rattle.signctl_pool.specs.Pool.{Written, IsSettledPool, IsRefusedPool, EndsEarly, EndsPool, IsThreadsRun}
+use Rattle.signctl_pool.specs.Pool.{IsSettledPool, IsRefusedPool, EndsEarly, EndsPool, IsThreadsRun}
+use Rattle.signctl_pool.specs.Written.{Written}
 use Rattle.signctl_pool.specs.declared.end.PoolEnd.{PoolEnd}
 use Rattle.signctl_pool.specs.declared.end.PoolEnd.TheVariants as end
 use Rattle.signctl_pool.specs.declared.words.PoolCommand.TheVariants.{Pool}
@@ -121,6 +122,8 @@ module _ (gate : GateMeaning ScriptCredential) (workers jobs : ℕ) where
     ends_early sink (end.Ended status.ReadFault) h = h
     ends_early sink (end.Ended status.WriteFault) h = absurd h
     ends_early sink (end.Done settled) h = absurd h
+    ends_early sink (end.Finished finished) h = absurd h
+    ends_early sink (end.Uncleared finished why) h = absurd h
 
     -- and no write of it failed
     pub no_fault : (sink : D) (ended : PoolEnd) → EndsEarly gate workers jobs ended
@@ -133,6 +136,8 @@ module _ (gate : GateMeaning ScriptCredential) (workers jobs : ℕ) where
     no_fault sink (end.Ended status.ReadFault) h = refl
     no_fault sink (end.Ended status.WriteFault) h = absurd h
     no_fault sink (end.Done settled) h = refl
+    no_fault sink (end.Finished finished) h = absurd h
+    no_fault sink (end.Uncleared finished why) h = absurd h
 
     not_usage : (sink : Written D) (ended : PoolEnd) → EndsPool gate workers jobs ended sink → ended ≡ end.Ended status.Usage → ⊥
     not_usage sink ended h e = subst (λ x. EndsPool gate workers jobs x sink) e h

@@ -1,4 +1,4 @@
--- What a run of a pool gives, by how it ended.
+-- What a run of a pool gives, by how it ended; and what one of either command gives.
 use Rattle.std.specs.Prelude.{◌≡◌, ◌↔◌, ℕ, List, Option, None, IfSome}
 use Rattle.std.specs.Io.KnownBytes.{Appends}
 use Rattle.sign_base.specs.Faults.{CountsFault}
@@ -19,17 +19,12 @@ use Rattle.pool_jobs.specs.Setup.{pool_setup}
 use Rattle.pool_jobs.specs.Run.{ServesPool, IsPoolRun}
 use Rattle.signctl_pool.specs.Ends.{status_of}
 use Rattle.signctl_pool.specs.Line.{pool_line}
+use Rattle.signctl_pool.specs.Queue.{EndsQueue}
+use Rattle.signctl_pool.specs.Written.{Written}
 use Rattle.signctl_pool.specs.declared.end.PoolEnd.{PoolEnd}
 use Rattle.signctl_pool.specs.declared.end.PoolEnd.TheVariants as end
 use Rattle.signctl_pool.specs.declared.words.PoolCommand.{PoolCommand}
-use Rattle.signctl_pool.specs.declared.words.PoolCommand.TheVariants.{Pool}
-
--- a sink before and after a run: all that it holds, and how often it failed
-pub record Written (D : Type 0) : Type 0 where
-  pub holds : D → Option (List ℕ)
-  pub faults : D → ℕ
-  pub old : D
-  pub new : D
+use Rattle.signctl_pool.specs.declared.words.PoolCommand.TheVariants.{Pool, Queue}
 
 module _ (gate : GateMeaning ScriptCredential) (workers jobs : ℕ) where
   -- a signer that was closed behind a pool: its desk represents the journal of the run
@@ -61,11 +56,12 @@ module _ (gate : GateMeaning ScriptCredential) (workers jobs : ℕ) where
       (settled : Settled ScriptCredential ScriptRule) × IsSettledPool settled
       × AppendsPrefix (sink.holds sink.old) (sink.holds sink.new) (pool_line jobs settled.journal.items)
   EndsPool (end.Ended status.OutOfMemory) sink = sink.new ≡ sink.old
-  EndsPool (end.Ended _) sink = ⊥
+  EndsPool _ sink = ⊥
 
 -- what a run of a command gives
 abbrev pub EndsCommand : {D : Type 0} → GateMeaning ScriptCredential → PoolCommand → PoolEnd → Written D → Type 0
 EndsCommand gate (Pool workers jobs) ended sink = EndsPool gate workers jobs ended sink
+EndsCommand gate (Queue workers jobs capacity) ended sink = EndsQueue gate workers jobs ended sink
 
 -- a run did what its words ask for
 pub record IsThreadsRun {D : Type 0} (gate : GateMeaning ScriptCredential) (asked : Option PoolCommand) (ended : PoolEnd)

@@ -30,7 +30,8 @@ pub(crate) fn pool_line(
     Ok(line)
 }
 
-fn push_count(text: &mut Vec<u8>, kind: &[u8], count: u64) -> Result<(), NoMemory<()>>
+/// A kind of things, and how many there are.
+pub(crate) fn push_count(text: &mut Vec<u8>, kind: &[u8], count: u64) -> Result<(), NoMemory<()>>
     ensures { OnOk result (text.new.items ≡ text.old.items ++ spaced_words (kind.now ∷ decimal count ∷ [])) }
 {
     push_word(text, kind)?;
@@ -49,7 +50,7 @@ fn signed(journal: &[Entry<ScriptCredential>]) -> u64
 }
 
 /// How often the provider was asked.
-fn loads(journal: &[Entry<ScriptCredential>]) -> u64
+pub(crate) fn loads(journal: &[Entry<ScriptCredential>]) -> u64
     ensures { result ≡ loads journal.now }
 {
     let mut count: u64 = 0;

@@ -1,5 +1,5 @@
-//! A pool of workers at one shared signer, run to its end.
-ghost use Rattle.std.specs.Prelude.{◌≡◌, ◌<◌, ◌≤◌, [], ℕ, List, IfOk, IfErr, MatchResult, MatchBool, All, IsTrue, false, map, length, string_bytes};
+//! A pool of workers at one shared signer, run to its end: the command `pool`.
+ghost use Rattle.std.specs.Prelude.{◌≡◌, ◌<◌, ◌≤◌, [], ℕ, List, IfOk, IfErr, MatchResult, MatchBool, All, IsTrue, false, map, length};
 ghost use Rattle.std.specs.List.{list_any};
 ghost use Rattle.sign_base.specs.Faults.{CountsFault};
 ghost use Rattle.desk_parts.specs.Tables.{setup_of};
@@ -7,13 +7,12 @@ ghost use Rattle.signctl_driver.specs.Status.{is_write_fault};
 ghost use Rattle.signer_shared.specs.declared.job.Served.{Served};
 ghost use Rattle.pool_jobs.specs.Setup.{pool_setup};
 ghost use Rattle.pool_jobs.specs.Work.{pool_work};
-ghost use Rattle.signctl_pool.specs.Words.{pool_named, most_workers};
+ghost use Rattle.signctl_pool.specs.Words.{most_workers};
 ghost use Rattle.signctl_pool.specs.Ends.{status_of};
-ghost use Rattle.signctl_pool.specs.Pool.{IsSettledPool, EndsEarly, EndsPool, IsThreadsRun};
+ghost use Rattle.signctl_pool.specs.Pool.{IsSettledPool, EndsEarly, EndsPool};
 
 use crate::end::PoolEnd;
 use crate::line::pool_line;
-use crate::words::{PoolCommand, command_of};
 use pool_jobs::{pool_desk, pool_work};
 use sign_base::{NoMemory, Sink};
 use signctl_driver::Status;
@@ -27,31 +26,8 @@ use std::thread::Threads;
 /// How often a gate is asked for a provider's answer.
 const TURNS: u64 = 1;
 
-/// Runs the command that the words name, `pool W J`: W workers serve J calls at one shared signer, with the
-/// answers of the gate, and one line is written of the settled journal. It may wait for its threads.
-///
-/// The sink is as it was unless all went well, or its write failed. A worker that ran out of memory ends the
-/// run so, whatever closing the signer gave.
-pub fn run_pool<G: Gate<ScriptCredential> + Sync, D: Sink, R: Threads + Wait + Sync>(
-    rt: &R,
-    alloc: Global,
-    words: &[String],
-    gate: &G,
-    sink: &mut D,
-) -> PoolEnd
-    ensures { IsThreadsRun (G.meaning gate.now) (pool_named (map string_bytes words.now)) result
-        (record { holds = D.holds; faults = D.faults; old = sink.old; new = sink.new }) }
-{
-    match command_of(words) {
-        None => PoolEnd::Ended(Status::Usage),
-        Some(PoolCommand::Pool { workers, jobs }) => {
-            serve_pool(rt, alloc, workers, jobs, gate, sink)
-        }
-    }
-}
-
 /// Serves so many jobs by so many workers, and writes the line of the settled journal.
-fn serve_pool<G: Gate<ScriptCredential> + Sync, D: Sink, R: Threads + Wait + Sync>(
+pub(crate) fn serve_pool<G: Gate<ScriptCredential> + Sync, D: Sink, R: Threads + Wait + Sync>(
     rt: &R,
     alloc: Global,
     workers: u32,

@@ -1,0 +1,5 @@
+pub mod Answering
+pub mod Places
+pub mod Shares
+pub mod RunSlots
+pub mod Finishes
