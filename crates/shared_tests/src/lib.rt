@@ -7,5 +7,6 @@ mod gates;
 mod key;
 mod meeting;
 mod pool;
+mod queue;
 mod serving;
 mod signers;
