@@ -7,6 +7,7 @@ mod gates;
 mod key;
 mod meeting;
 mod pool;
+mod queue;
 mod refused_memory;
 mod serving;
 mod signers;

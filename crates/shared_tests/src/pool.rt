@@ -16,7 +16,7 @@ use std::thread::Threads;
 use wake_lock::CallId;
 
 /// The words, the bytes that the sink has room for; what is written, and how it ends.
-type Row = (&'static str, usize, &'static str, Status);
+pub type Row = (&'static str, usize, &'static str, Status);
 
 const ROWS: [Row; 14] = [
     (
@@ -56,7 +56,7 @@ const ROWS: [Row; 14] = [
 ];
 
 /// The words of a command line, parted by spaces.
-fn words(alloc: Global, line: &str) -> Result<Vec<String>, AllocError> {
+pub fn words(alloc: Global, line: &str) -> Result<Vec<String>, AllocError> {
     let mut words = Vec::new(alloc);
     for word in line.split(' ') {
         words.push(String::from_str(alloc, word)?)?;
@@ -65,7 +65,7 @@ fn words(alloc: Global, line: &str) -> Result<Vec<String>, AllocError> {
 }
 
 /// Whether a run writes this, and ends so.
-fn ends_as<G: Gate<ScriptCredential> + Sync, R: Threads + Wait + Sync>(
+pub fn ends_as<G: Gate<ScriptCredential> + Sync, R: Threads + Wait + Sync>(
     rt: &R,
     alloc: Global,
     gate: &G,
@@ -88,9 +88,9 @@ fn pools_end_as_their_words_say(rt: HostRuntime) {
 /// A pool's gate whose verdicts on the first calls of handles 0 and 1 wait for each other. A verdict that waited
 /// in vain is a failure.
 #[derive(Drop)]
-struct MeetingVerdicts {
-    asked: [AtomicU64; 2],
-    pool: PoolGate,
+pub struct MeetingVerdicts {
+    pub asked: [AtomicU64; 2],
+    pub pool: PoolGate,
 }
 
 impl Gate<ScriptCredential> for MeetingVerdicts {
