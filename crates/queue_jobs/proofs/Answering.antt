@@ -34,8 +34,7 @@ module _ (gate : GateMeaning ScriptCredential) where
       (own, [], ap (λ l. l ++ own) none ∙ sym (append-nil own), moved handle _ _ _ _ own answer n b h, refl)
   one_answer_more handle number before (first ∷ answers) receipts own answer served h =
       let n : number + length (first ∷ answers) ≡ suc number + length answers = omega arith in
-      let b : before + length receipts ≡ before + length served.0 + length served.1 = omega (arith, ap length served.2 ∙ length-append served.0 served.1) in
-      (
+      let b : before + length receipts ≡ before + length served.0 + length served.1 = omega (arith, ap length served.2 ∙ length-append served.0 served.1) in (
         served.0,
         served.1 ++ own,
         ap (λ l. l ++ own) served.2 ∙ append_assoc served.0 served.1 own,
@@ -56,8 +55,8 @@ module _ (gate : GateMeaning ScriptCredential) where
           outcome = outcome_of (last_reply did.added) did.served.out_of_memory;
         } in
         let made : ServesAnswers gate before.handle 1 0 (before.answers.items ++ answer ∷ []) (before.pass ++ did.added) =
-            one_answer_more before.handle 1 0 before.answers.items before.pass did.added answer h.serves
-            (moved before.handle _ _ _ _ did.added answer n b (record { job = job; served = did.served; serves = did.serves; answer_is = refl })) in
+        one_answer_more before.handle 1 0 before.answers.items before.pass did.added answer h.serves
+        (moved before.handle _ _ _ _ did.added answer n b (record { job = job; served = did.served; serves = did.serves; answer_is = refl })) in
         record {
           seat = seat;
           serves = subst (λ k. ServesAnswers gate k 1 0 after.answers.items after.pass) (sym did.handle)

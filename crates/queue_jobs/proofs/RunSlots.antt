@@ -114,7 +114,7 @@ module _ {Q A : Type 0} (queue : Slotted (Option PoolJob) (Doing PoolJob Hand) Q
           → AreRunSlots queue gate workers jobs (set slots 0 first)
       first_worked slots slot first h is some same_s same_o worker handle =
           let here : IsRunSlot queue gate workers jobs 0 slot =
-              subst (IsRunSlot queue gate workers jobs 0) (sym is) (each_here (IsRunSlot queue gate workers jobs) slots 0 slot h.each some) in
+          subst (IsRunSlot queue gate workers jobs 0) (sym is) (each_here (IsRunSlot queue gate workers jobs) slots 0 slot h.each some) in
           record {
             len = length-set slots 0 first ∙ h.len;
             each = each_set_first (IsRunSlot queue gate workers jobs) 0 slots first h.each (record {

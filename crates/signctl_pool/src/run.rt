@@ -36,10 +36,12 @@ pub fn run_pool<G: Gate<ScriptCredential> + Sync, D: Sink, R: Threads + Wait + S
         Some(PoolCommand::Pool { workers, jobs }) => {
             serve_pool(rt, alloc, workers, jobs, gate, sink)
         }
-        Some(PoolCommand::Queue {
-            workers,
-            jobs,
-            capacity,
-        }) => run_queue(rt, alloc, workers, jobs, capacity, gate, sink),
+        Some(
+            PoolCommand::Queue {
+                workers,
+                jobs,
+                capacity,
+            },
+        ) => run_queue(rt, alloc, workers, jobs, capacity, gate, sink),
     }
 }

@@ -17,7 +17,10 @@ const MOST_CAPACITY: u64 = 1_024;
 #[derive(Clone, Copy, Debug, PartialEq, Eq)]
 pub enum PoolCommand {
     /// So many jobs, by so many workers.
-    Pool { workers: u32, jobs: u64 },
+    Pool {
+        workers: u32,
+        jobs: u64,
+    },
     /// So many jobs, by so many workers, through a queue that holds so many.
     Queue {
         workers: u32,

@@ -15,7 +15,7 @@ returns-clause-seats g c =
     let submitters : c.in_ok-submitters.submitters.items ≡ submitters_of slots = c.in_ok-submitters.ensures.submitters ∙ ap submitters_of back in
     let workers : c.in_ok-submitters.workers.items ≡ workers_of slots = c.in_ok-submitters.ensures.workers ∙ ap workers_of back in
     let P : List Submitter → List (Worker ScriptCredential) → Type 0 =
-        λ ss ws. AreServedSeats c.new_slots.new.pool.queue (g.G.Gate.meaning c.args.gate.now) c.args.workers c.args.jobs ss ws in
+    λ ss ws. AreServedSeats c.new_slots.new.pool.queue (g.G.Gate.meaning c.args.gate.now) c.args.workers c.args.jobs ss ws in
     subst (λ ss. P ss c.in_ok-submitters.workers.items) (sym submitters)
     (subst (λ ws. P (submitters_of slots) ws) (sym workers)
     (are_served c.new_slots.new.pool.queue (g.G.Gate.meaning c.args.gate.now) c.args.workers c.args.jobs c.requires.some slots c.in_ok-serve_slots.ensures))
