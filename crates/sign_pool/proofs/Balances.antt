@@ -1,5 +1,5 @@
 -- When the books of a pool balance, by an index of its submitted jobs.
-use Rattle.std.proofs.Common.{◌≡◌, ℕ, ◌<◌, ◌↔◌, Bool, true, false, List, ◌++◌, length, get_or, map, refl, sym, ◌∙◌, ap, subst, arith}
+use Rattle.std.proofs.Common.{◌≡◌, ◌↔◌, Bool, true, false, List, ◌++◌, length, get_or, refl, subst, arith}
 use Rattle.std.specs.Prelude.{All, Contains, IsPermutation, IsTrue, MatchBool}
 use Rattle.std.proofs.lemmas.Bool.{false≢true}
 use Rattle.std.proofs.lemmas.List.{length-map, get_or-map}

@@ -1,28 +1,28 @@
 -- What a settled journal has, and how answers are judged by the notes of their calls.
-use Rattle.std.proofs.Common.{◌≡◌, ◌≢◌, ℕ, zero, suc, ◌<◌, ◌≤◌, ◌+◌, ◌-◌, ◌&&◌, ◌||◌, Bool, true, false, List, [], ◌∷◌, ◌++◌, Option, Some, None, length, get_or, take, drop, map, eqb, refl, sym, ◌∙◌, ap, subst, arith, ◌⊎◌, inl, inr, ⊎_elim}
+use Rattle.std.proofs.Common.{◌≡◌, ◌≢◌, ℕ, ◌<◌, ◌≤◌, ◌+◌, ◌-◌, Bool, true, false, List, [], ◌∷◌, Option, Some, None, length, get_or, drop, map, eqb, refl, sym, ◌∙◌, ap, subst, arith, ◌⊎◌, ⊎_elim}
 use Rattle.std.specs.Prelude.{All, AllPairs, Contains, MatchOption, IsSomeAnd, slice_get, IsTrue}
 use Rattle.std.specs.Cmp.{unsigned_Decides}
 use Rattle.std.specs.List.{list_all, list_any}
 use Rattle.std.proofs.lemmas.Bool.{false≢true}
 use Rattle.std.proofs.lemmas.List.{length-map, length-drop, get_or-map, get_or_default, get_or-drop}
-use Rattle.std.proofs.lemmas.List.Elements.{All-nil, All-cons, All-append, All-head, All-tail, All-contains, All-map, All-get_or}
+use Rattle.std.proofs.lemmas.List.Elements.{All-nil, All-cons, All-append, All-head, All-tail, All-contains, All-map}
 use Rattle.std.proofs.lemmas.List.Kept.{AllPairs-cons}
 use Rattle.std.proofs.lemmas.Map.Made.{is_member-Decides, IsDistinct-from_AllPairs}
 use Rattle.std.proofs.lemmas.Map.Steps.{length-le_from_distinct_below}
-use Rattle.std.proofs.lemmas.Option.{slice_get_within, slice_get-get_or, get_or_from_slice_get}
+use Rattle.std.proofs.lemmas.Option.{slice_get_within, get_or_from_slice_get}
 use Rattle.wake_lock.specs.declared.CallId.{CallId}
 use Rattle.wake_lock.specs.Calls.{is_among}
 use Rattle.wake_lock.proofs.Truth.{and_left, and_right}
 use Rattle.sequential_signer.specs.Transcript.{call_of}
 use Rattle.sequential_signer.specs.declared.event.Entry.{Entry}
-use Rattle.signer_book.specs.Settled.{IsSettled, IsEntryOf, AreEntriesOf, all_receipts, places}
+use Rattle.signer_book.specs.Settled.{IsSettled, IsEntryOf, all_receipts, places}
 use Rattle.signer_book.specs.declared.pass.Receipt.{Receipt}
 use Rattle.sign_pool.specs.Calls.{calls_of, has_only_calls_of}
 use Rattle.sign_pool.specs.Cleared.{joined, lists_of}
 use Rattle.sign_pool.specs.Notes.{IsNoteOf}
-use Rattle.sign_pool.specs.TrueAnswers.{HasNoneOf, IsLastOf, IsReadFrom, IsReadOff, IsTrueAnswer, IsGoodAnswer}
+use Rattle.sign_pool.specs.TrueAnswers.{HasNoneOf, IsLastOf, IsReadFrom, IsReadOff, IsTrueAnswer}
 use Rattle.sign_pool.specs.declared.answer.Answer.{Answer}
-use Rattle.sign_pool.specs.declared.answer.Outcome.TheVariants.{NotNow, OutOfMemory}
+use Rattle.sign_pool.specs.declared.answer.Outcome.TheVariants.{OutOfMemory}
 use Rattle.sign_pool.specs.declared.notes.CallNote.{CallNote}
 use Rattle.sign_pool.specs.declared.seats.Worker.{Worker}
 use Rattle.sign_pool.proofs.CallNotes.{open-some}

@@ -1,5 +1,5 @@
 -- How the note of a call follows the journal, entry by entry.
-use Rattle.std.proofs.Common.{◌≡◌, ◌≢◌, ℕ, zero, suc, ◌<◌, ◌≤◌, ◌+◌, ◌↔◌, Bool, true, false, cond, List, [], ◌∷◌, ◌++◌, Option, Some, None, Result, Ok, Err, length, get_or, take, drop, refl, sym, ◌∙◌, ap, subst, arith, is_some}
+use Rattle.std.proofs.Common.{◌≡◌, ◌≢◌, ℕ, zero, suc, ◌<◌, ◌+◌, ◌↔◌, Bool, true, false, cond, List, [], ◌∷◌, ◌++◌, Option, Some, None, Result, Ok, Err, length, get_or, take, drop, refl, sym, ◌∙◌, ap, subst, arith}
 use Rattle.std.specs.Prelude.{All, MatchBool, OnOk, OnErr, MatchOption, IfSome, IsSome, IsSomeAnd, slice_get}
 use Rattle.std.specs.declared.time.Duration.{Duration}
 use Rattle.std.proofs.lemmas.Bool.{false≢true}

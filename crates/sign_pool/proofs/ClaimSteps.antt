@@ -1,10 +1,10 @@
 -- Claims one after another, each of the ticket of an item.
-use Rattle.std.proofs.Common.{◌≡◌, ℕ, ◌<◌, ◌≤◌, ◌+◌, Bool, true, false, List, [], ◌∷◌, ◌++◌, Option, Some, None, is_some, length, get_or, take, drop, map, refl, sym, ◌∙◌, ap, subst, arith}
+use Rattle.std.proofs.Common.{◌≡◌, ℕ, ◌<◌, ◌≤◌, ◌+◌, Bool, List, [], ◌∷◌, ◌++◌, Option, Some, None, is_some, length, get_or, take, drop, map, sym, ◌∙◌, ap, subst, arith}
 use Rattle.std.specs.Prelude.{Contains, IsPermutation, MatchBool}
 use Rattle.std.specs.Map.{lookup, remove_entry, keys_of}
-use Rattle.std.proofs.lemmas.List.{append-nil, append_assoc, map-append, take_more, take-append-drop, drop_more, take_all, length-append, nil_from_length}
+use Rattle.std.proofs.lemmas.List.{append-nil, map-append, take_more, take-append-drop, drop_more, take_all, length-append, nil_from_length}
 use Rattle.std.proofs.lemmas.List.Elements.{All-head}
-use Rattle.std.proofs.lemmas.List.Sorted.{IsPermutation-refl, IsPermutation-trans, length_permutation}
+use Rattle.std.proofs.lemmas.List.Sorted.{IsPermutation-refl, length_permutation}
 use Rattle.sign_pool.specs.Cleared.{joined}
 use Rattle.sign_pool.specs.Index.{AreClaims}
 use Rattle.sign_pool.specs.declared.job.Ticket.{Ticket}

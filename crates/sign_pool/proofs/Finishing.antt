@@ -1,5 +1,5 @@
 -- What a finished pool has, by the seats that were handed in.
-use Rattle.std.proofs.Common.{◌≡◌, ℕ, List, map, length, sym, ◌∙◌, ap, subst}
+use Rattle.std.proofs.Common.{◌≡◌, List, map, length, sym, ◌∙◌, ap, subst}
 use Rattle.std.specs.Global.{Vec}
 use Rattle.std.specs.Prelude.{All, Option, Some, MatchOption, IsSome, IsTrue}
 use Rattle.std.specs.HashMap.{HashMap}

@@ -1,11 +1,10 @@
 -- Lists one after another, list by list.
-use Rattle.std.proofs.Common.{◌≡◌, ℕ, zero, suc, ◌<◌, ◌≤◌, ◌+◌, List, [], ◌∷◌, ◌++◌, Option, Some, length, get_or, take, drop, map, refl, sym, ◌∙◌, ap, subst, arith, ◌⊎◌, inl, inr}
+use Rattle.std.proofs.Common.{◌≡◌, ℕ, zero, suc, ◌<◌, ◌≤◌, ◌+◌, List, [], ◌∷◌, ◌++◌, length, get_or, take, sym, ◌∙◌, ap, subst, arith}
 use Rattle.std.specs.Global.{Vec}
-use Rattle.std.specs.Prelude.{All, Contains, slice_get, IsSomeAnd, IfSome, flat_map}
-use Rattle.std.proofs.lemmas.List.{append-nil, append_assoc, take_more, take_all, map-append, length-take, get_or-map, length-map, take-map, map_more}
+use Rattle.std.specs.Prelude.{All}
+use Rattle.std.proofs.lemmas.List.{append-nil, append_assoc, take_more, take_all, get_or-map, length-map}
 use Rattle.std.proofs.lemmas.List.Concat.{flat_map-append}
-use Rattle.std.proofs.lemmas.List.Elements.{All-append, All-same, All-nil, All-cons, All-more, All-head, All-tail, All-get_or, Contains-append_left, Contains-append_right}
-use Rattle.std.proofs.lemmas.Option.{slice_get-get_or}
+use Rattle.std.proofs.lemmas.List.Elements.{All-append, All-same, All-nil, All-cons, All-head, All-tail, All-get_or}
 use Rattle.sign_pool.specs.Cleared.{joined, lists_of}
 
 module _ {X : Type 0} where

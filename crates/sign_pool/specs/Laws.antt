@@ -1,6 +1,6 @@
 -- The law of finished pools: a head that an answer calls done is the one that the sequential signer makes at that point of
 -- the journal, for the head and the duration that were submitted under the answer's ticket.
-use Rattle.std.specs.Prelude.{◌≡◌, List, Option, Some, option_map, take, Contains}
+use Rattle.std.specs.Prelude.{◌≡◌, List, Some, option_map, take, Contains}
 use Rattle.std.specs.Duration.{as_nanos}
 use Rattle.sign_base.specs.declared.head.Head.{Head}
 use Rattle.sequential_signer.specs.ExpectedReply.{expected_reply}

@@ -1,12 +1,11 @@
-use Rattle.std.proofs.Common.{◌≡◌, ℕ, ◌<◌, List, Option, Some, Bool, true, false, take, length, get_or, map, refl, sym, ◌∙◌, ap, subst, arith}
-use Rattle.std.specs.Prelude.{IsPermutation, IsSomeAnd, MatchBool, slice_get, All}
-use Rattle.std.specs.Global.{Vec}
+use Rattle.std.proofs.Common.{◌≡◌, ℕ, ◌<◌, List, Option, Bool, true, false, take, length, get_or, map, refl, sym, ◌∙◌, ap, subst, arith}
+use Rattle.std.specs.Prelude.{IsPermutation, IsSomeAnd, MatchBool, slice_get}
 use Rattle.std.specs.HashMap.{keys}
-use Rattle.std.proofs.lemmas.List.{length-map, get_or-map, take_all}
+use Rattle.std.proofs.lemmas.List.{length-map, get_or-map}
 use Rattle.std.proofs.lemmas.List.Sorted.{IsPermutation-sym}
 use Rattle.std.proofs.lemmas.Option.{slice_get_read}
-use Rattle.sign_pool.specs.Cleared.{joined, lists_of, tickets_of}
-use Rattle.sign_pool.specs.Index.{jobs_of, IsPlaceOf}
+use Rattle.sign_pool.specs.Cleared.{joined, tickets_of}
+use Rattle.sign_pool.specs.Index.{jobs_of}
 use Rattle.sign_pool.specs.declared.job.PoolJob.{PoolJob}
 use Rattle.sign_pool.specs.declared.seats.Submitter.{Submitter}
 use Rattle.sign_pool.proofs.Indexes.{lists-more, lists-twice}

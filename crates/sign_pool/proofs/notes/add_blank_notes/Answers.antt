@@ -1,5 +1,5 @@
-use Rattle.std.proofs.Common.{◌≡◌, ◌<◌, length, refl, sym, subst, arith}
-use Rattle.std.specs.Prelude.{IsSome, All}
+use Rattle.std.proofs.Common.{◌<◌, length, refl, sym, arith}
+use Rattle.std.specs.Prelude.{IsSome}
 use Rattle.std.proofs.lemmas.List.{get_or_default, take_all}
 use Rattle.std.proofs.lemmas.List.Elements.{All-same}
 use Rattle.sign_pool.specs.Notes.{blank_note, note_of}

@@ -2,7 +2,6 @@ use Rattle.std.proofs.Common.{take, sym, ◌∙◌, ap, subst, arith}
 use Rattle.sequential_signer.specs.declared.event.Entry.{Entry}
 use Rattle.sign_pool.specs.Notes.{AreBegins, IsBeginWith}
 use Rattle.sign_pool.specs.declared.notes.Begins.{Begins}
-use Rattle.sign_pool.specs.declared.notes.Begins.TheVariants.{Never, Like, Differ}
 use Rattle.sign_pool.proofs.CallNotes.{like-below, after-idle, after-first, after-differ, after-alike, after-unlike}
 use Rattle.sign_pool.proofs.notes.begins_after.Goals as goal
 

@@ -4,7 +4,6 @@ use Rattle.std.specs.Prelude.{IsSome, All}
 use Rattle.std.proofs.lemmas.List.{append-nil, map-append, take_all}
 use Rattle.std.proofs.lemmas.List.Concat.{flat_map-append}
 use Rattle.std.proofs.lemmas.List.Elements.{All-append, All-same, All-weaker}
-use Rattle.wake_lock.specs.declared.CallId.{CallId}
 use Rattle.sign_pool.specs.Cleared.{joined, lists_of}
 use Rattle.sign_pool.specs.Notes.{answers_of, note_of}
 use Rattle.sign_pool.specs.declared.answer.Answer.{Answer}
@@ -24,16 +23,18 @@ answers-more {K} workers i w below is =
 pub loop-worker-preserved : goal.loop-worker-preserved
 loop-worker-preserved g c =
     let P : Answer → Type 0 = λ a. IsSome (note_of c.add_blank_notes.new.notes a.call) in
-    let Q : List Answer → Type 0 = λ l. All P l in
-    (c.in_ok-add_blank_notes.ensures.blank,
+    let Q : List Answer → Type 0 = λ l. All P l in (
+      c.in_ok-add_blank_notes.ensures.blank,
       All-same P (answers_of (take (c.loop-worker.worker-index + 1) c.args.workers.now)) (answers_of (take c.loop-worker.worker-index c.args.workers.now) ++ c.worker-item.result.answers.items)
-      (answers-more c.args.workers.now c.loop-worker.worker-index c.worker-item.result (omega arith) c.worker-item.is)
-      (All-append P (answers_of (take c.loop-worker.worker-index c.args.workers.now)) c.worker-item.result.answers.items
-      (All-weaker (λ (a : Answer). IsSome (note_of c.loop-worker.notes a.call)) P (λ a had. c.in_ok-add_blank_notes.ensures.kept a.call had) (answers_of (take c.loop-worker.worker-index c.args.workers.now)) c.loop-worker.invariant.1)
-      (subst Q c.answers.ensures c.in_ok-add_blank_notes.ensures.has)))
+          (answers-more c.args.workers.now c.loop-worker.worker-index c.worker-item.result (omega arith) c.worker-item.is)
+          (All-append P (answers_of (take c.loop-worker.worker-index c.args.workers.now)) c.worker-item.result.answers.items
+          (All-weaker (λ (a : Answer). IsSome (note_of c.loop-worker.notes a.call)) P (λ a had. c.in_ok-add_blank_notes.ensures.kept a.call had) (answers_of (take c.loop-worker.worker-index c.args.workers.now)) c.loop-worker.invariant.1)
+          (subst Q c.answers.ensures c.in_ok-add_blank_notes.ensures.has)),
+    )
 
 pub returns : goal.returns
 returns g c =
-    let P : Answer → Type 0 = λ a. IsSome (note_of c.loop-worker.notes a.call) in
-    (c.loop-worker.invariant.0,
-      All-same P (answers_of c.args.workers.now) (answers_of (take c.loop-worker.worker-index c.args.workers.now)) (sym (ap answers_of (take_all c.loop-worker.worker-index c.args.workers.now (omega arith)))) c.loop-worker.invariant.1)
+    let P : Answer → Type 0 = λ a. IsSome (note_of c.loop-worker.notes a.call) in (
+      c.loop-worker.invariant.0,
+      All-same P (answers_of c.args.workers.now) (answers_of (take c.loop-worker.worker-index c.args.workers.now)) (sym (ap answers_of (take_all c.loop-worker.worker-index c.args.workers.now (omega arith)))) c.loop-worker.invariant.1,
+    )

@@ -3,9 +3,9 @@ use Rattle.std.specs.Prelude.{All, IsSome, IsSomeAnd, slice_get}
 use Rattle.std.specs.List.{AllZip}
 use Rattle.signer_book.proofs.Receipts.{some-at}
 use Rattle.signer_book.specs.declared.pass.Receipt.{Receipt}
-use Rattle.sign_pool.specs.Cleared.{joined, lists_of}
+use Rattle.sign_pool.specs.Cleared.{lists_of}
 use Rattle.sign_pool.specs.Notes.{note_of}
-use Rattle.sign_pool.specs.TrueAnswers.{AreGoodAnswers, IsGoodAnswer, IsFirstBadOf}
+use Rattle.sign_pool.specs.TrueAnswers.{IsGoodAnswer, IsFirstBadOf}
 use Rattle.sign_pool.specs.declared.answer.Answer.{Answer}
 use Rattle.sign_pool.proofs.CallNotes.{read-more}
 use Rattle.sign_pool.proofs.Joined.{all-of-list, list-read, lists-length}

@@ -1,4 +1,4 @@
-use Rattle.std.proofs.Common.{rules, ◌≡◌, ◌≢◌, Some, length, refl, sym}
+use Rattle.std.proofs.Common.{rules, ◌≡◌, Some, length, refl, sym}
 use Rattle.std.specs.Prelude.{slice_get}
 use Rattle.std.proofs.lemmas.Option.{slice_get_read}
 use Rattle.signer_book.specs.Settled.{IsEntryOf}
@@ -26,6 +26,8 @@ returns g c =
     all-at (IsEntryOf c.args.journal.now) c.args.pass.now c.in-Some-last.at c.in-Some-get.receipt.now c.in-Some-get.ensures.lookup.3.0 c.in-Some-get.ensures.lookup.1 c.requires.entries in
     decides-same c.is_read_from.result _ _
     (λ good. (read-off c.args.journal.now c.args.pass.now c.args.answer.now c.in-Some.note.now noted c.in-Some-last.at c.in-Some-last.is c.in-Some-get.receipt.now there good.0).outcome)
-    (λ read. (true-some c.args.journal.now c.args.pass.now c.args.answer.now c.in-Some.note.now noted c.in-Some-last.at c.in-Some-last.is c.in-Some-get.receipt.now there entry c.if-not-is_noted_at.ensures read,
-      search rules))
+    (λ read. (
+      true-some c.args.journal.now c.args.pass.now c.args.answer.now c.in-Some.note.now noted c.in-Some-last.at c.in-Some-last.is c.in-Some-get.receipt.now there entry c.if-not-is_noted_at.ensures read,
+      search rules,
+    ))
     c.is_read_from.ensures

@@ -1,6 +1,4 @@
 use Rattle.std.proofs.Common.{◌∙◌}
-use Rattle.sequential_signer.specs.Policy.{policy_of}
-use Rattle.sign_pool.specs.Finish.{HandsOut, IsClosed}
 use Rattle.sign_pool.proofs.Finishing.{calls-own, noted-own, index-own}
 use Rattle.sign_pool.proofs.pool.Pool.finish_in.Goals as goal
 
@@ -27,15 +25,18 @@ returns-in-None-clause-closed g c =
 pub returns-clause-uncleared : goal.returns-clause-uncleared
 returns-clause-uncleared g c =
     let handed = c.hand_out_workers-passes.ensures in
-    let closed = c.in-Ok.ensures in
-    (record {
-      settled = closed.settled;
-      setup = closed.desk.0;
-      represents = closed.desk.1;
-      calls = calls-own c.args.workers.items c.in-Ok.settled.passes.items (closed.passes ∙ handed.passes) c.hand_out_workers-passes.result.1.items handed.answers c.in-Ok.settled.journal.items closed.settled;
-    }, c.in-Some.ensures, record {
-      passes_are = closed.passes ∙ handed.passes;
-      answers_are = handed.answers;
-      left_are = c.take_rest-left.ensures;
-      submitted_are = c.hand_out_submitters-submitted.ensures;
-    })
+    let closed = c.in-Ok.ensures in (
+      record {
+        settled = closed.settled;
+        setup = closed.desk.0;
+        represents = closed.desk.1;
+        calls = calls-own c.args.workers.items c.in-Ok.settled.passes.items (closed.passes ∙ handed.passes) c.hand_out_workers-passes.result.1.items handed.answers c.in-Ok.settled.journal.items closed.settled;
+      },
+      c.in-Some.ensures,
+      record {
+        passes_are = closed.passes ∙ handed.passes;
+        answers_are = handed.answers;
+        left_are = c.take_rest-left.ensures;
+        submitted_are = c.hand_out_submitters-submitted.ensures;
+      },
+    )
