@@ -1,17 +1,14 @@
 -- How a queue with all its seats is finished.
-use Rattle.std.proofs.Common.{◌≡◌, ℕ, List, [], ◌∷◌, ◌++◌, Option, length, map, refl, sym, ◌∙◌, ap, subst, arith}
-use Rattle.std.specs.Global.{Vec}
+use Rattle.std.proofs.Common.{◌≡◌, ℕ, List, [], ◌∷◌, ◌++◌, Option, length, map, refl, sym, subst, arith}
 use Rattle.std.proofs.lemmas.List.{length-append, length-map}
 use Rattle.std.proofs.lemmas.List.Sorted.{length_permutation}
 use Rattle.crossbeam_queue.specs.declared.array_queue.Doing.{Doing}
 use Rattle.crossbeam_queue.specs.declared.array_queue.Slotted.{Slotted}
 use Rattle.desk_parts.specs.Tables.{setup_of}
-use Rattle.sign_desk.specs.DeskState.{DeskState, Represents}
+use Rattle.sign_desk.specs.DeskState.{DeskState}
 use Rattle.signctl_format.specs.Policy.{script_policy}
 use Rattle.signctl_format.specs.declared.credential.ScriptCredential.{ScriptCredential}
 use Rattle.signctl_format.specs.declared.credential.ScriptRule.{ScriptRule}
-use Rattle.signer_book.specs.Close.{IsCloseCause}
-use Rattle.signer_book.specs.declared.settled.CloseRefused.{CloseRefused}
 use Rattle.signer_shared.specs.Gates.{GateMeaning}
 use Rattle.sign_pool.specs.Cleared.{answered_tickets, joined, lists_of, tickets_of}
 use Rattle.sign_pool.specs.Finish.{HandsOut, IsClearedPool, IsClosed}
@@ -23,7 +20,7 @@ use Rattle.sign_pool.specs.declared.seats.Submitter.{Submitter}
 use Rattle.sign_pool.specs.declared.seats.Worker.{Worker}
 use Rattle.pool_jobs.specs.Setup.{pool_setup}
 use Rattle.queue_jobs.specs.Served.{AreSubmitted, ServesQueue}
-use Rattle.queue_jobs.specs.Run.{IsClosedQueue, IsUnclosedQueue}
+use Rattle.queue_jobs.specs.Run.{IsClosedQueue}
 
 module _ {Q A : Type 0} (queue : Slotted (Option PoolJob) (Doing PoolJob Hand) Q A) (gate : GateMeaning ScriptCredential) (count jobs : ℕ)
     (submitters : List Submitter) (workers : List (Worker ScriptCredential)) where
@@ -41,21 +38,6 @@ module _ {Q A : Type 0} (queue : Slotted (Option PoolJob) (Doing PoolJob Hand) Q
     serves = subst (λ l. ServesQueue gate count jobs l (lists_of finished.answers.items)) (sym out.passes_are)
         (subst (λ l. ServesQueue gate count jobs (map (λ w. w.pass) workers) (lists_of l)) (sym out.answers_are) serves);
     submitted = subst (λ l. AreSubmitted jobs (lists_of l)) (sym out.submitted_are) submitted;
-  }
-
-  -- it is not
-  pub does_not_close : (plan : DeskState ScriptCredential ScriptRule) (close : CloseRefused ScriptCredential ScriptRule) (answers : Vec (Vec Answer)) (left : Vec PoolJob)
-      (submitted : Vec (Vec PoolJob)) → setup_of plan ≡ pool_setup count
-      → ServesQueue gate count jobs (map (λ w. w.pass) workers) (lists_of (map (λ w. w.answers) workers))
-      → close.plan ≡ plan → Represents script_policy close.book.desk close.book.journal
-      → IsCloseCause plan close.book close.passes.items close.why
-      → HandsOut queue submitters workers close.passes.items answers.items left.items submitted.items
-      → IsUnclosedQueue gate count jobs close
-  does_not_close plan close answers left submitted setup serves same book cause out = record {
-    setup = ap (λ (d : DeskState ScriptCredential ScriptRule). setup_of d) same ∙ setup;
-    book = book;
-    cause = subst (λ (d : DeskState ScriptCredential ScriptRule). IsCloseCause d close.book close.passes.items close.why) (sym same) cause;
-    serves = (lists_of (map (λ w. w.answers) workers), subst (λ l. ServesQueue gate count jobs l (lists_of (map (λ w. w.answers) workers))) (sym out.passes_are) serves);
   }
 
 nothing : {X : Type 0} (xs : List X) → length xs ≡ 0 → xs ≡ []

@@ -1,5 +1,5 @@
 -- What holds of each element and its place.
-use Rattle.std.proofs.Common.{◌≡◌, ℕ, zero, suc, ◌+◌, ◌<◌, List, [], ◌∷◌, ◌++◌, length, get_or, set, subst, arith}
+use Rattle.std.proofs.Common.{◌≡◌, ℕ, zero, suc, ◌+◌, ◌<◌, List, [], ◌∷◌, ◌++◌, length, get_or, subst, arith}
 use Rattle.std.specs.Prelude.{All}
 use Rattle.std.proofs.lemmas.List.Elements.{All-nil, All-cons}
 use Rattle.queue_jobs.specs.Slots.{EachFrom}
@@ -31,11 +31,6 @@ module _ {X : Type 0} (P : ℕ → X → Type 0) where
   each_push n (y ∷ xs) x h p =
       let e : n + suc (length xs) ≡ suc n + length xs = omega arith in
       (h.0, each_push (suc n) xs x h.1 (subst (λ k. P k x) e p))
-
-  -- another first
-  pub each_set_first : (n : ℕ) (xs : List X) (x : X) → EachFrom P n xs → P n x → EachFrom P n (set xs 0 x)
-  each_set_first n [] x h p = tt
-  each_set_first n (y ∷ xs) x h p = (p, h.1)
 
   -- what follows of each element, without its place
   pub each_all : (R : X → Type 0) → ((i : ℕ) (x : X) → P i x → R x) → (n : ℕ) (xs : List X) → EachFrom P n xs → All R xs

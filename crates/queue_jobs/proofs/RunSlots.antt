@@ -1,26 +1,24 @@
 -- What the slots have when all threads have returned.
-use Rattle.std.proofs.Common.{◌≡◌, ℕ, suc, ◌+◌, ◌<◌, ◌/◌, ◌%◌, List, [], ◌∷◌, ◌++◌, Option, length, map, set, get_or, refl, sym, ◌∙◌, ap, subst, arith}
+use Rattle.std.proofs.Common.{◌≡◌, ℕ, suc, ◌+◌, ◌<◌, ◌/◌, ◌%◌, List, [], ◌∷◌, ◌++◌, Option, length, map, get_or, refl, sym, ◌∙◌, ap, subst, arith}
 use Rattle.std.specs.Prelude.{All}
-use Rattle.std.proofs.lemmas.List.{length-append, length-map, length-set, length_push}
+use Rattle.std.proofs.lemmas.List.{length-append, length-map, length_push}
 use Rattle.std.proofs.lemmas.List.Sums.{sum_by-cons}
-use Rattle.std.proofs.lemmas.List.Elements.{All-nil, All-head, All-tail, All-append, All-push, All-map}
+use Rattle.std.proofs.lemmas.List.Elements.{All-nil, All-head, All-tail, All-append, All-map}
 use Rattle.crossbeam_queue.specs.Passes.{IsPassOf}
 use Rattle.crossbeam_queue.specs.declared.array_queue.Doing.{Doing}
 use Rattle.crossbeam_queue.specs.declared.array_queue.Slotted.{Slotted}
 use Rattle.signctl_format.specs.declared.credential.ScriptCredential.{ScriptCredential}
 use Rattle.signer_shared.specs.Gates.{GateMeaning}
 use Rattle.sign_pool.specs.Cleared.{joined, lists_of}
-use Rattle.sign_pool.specs.Finish.{HasAllSeats}
-use Rattle.sign_pool.specs.Seats.{IsSameSubmitter, Submits}
 use Rattle.sign_pool.specs.declared.job.Hand.{Hand}
 use Rattle.sign_pool.specs.declared.job.PoolJob.{PoolJob}
 use Rattle.sign_pool.specs.declared.seats.Submitter.{Submitter}
 use Rattle.sign_pool.specs.declared.seats.Worker.{Worker}
 use Rattle.queue_jobs.specs.Jobs.{IsQueueJob}
 use Rattle.queue_jobs.specs.Served.{AreSubmitted, DidNotRunOut, ServesAnswers, ServesHandles, ServesQueue}
-use Rattle.queue_jobs.specs.Slots.{AreNewSlots, AreRunSlots, AreServedSeats, AreServedSlots, DidNotStop, EachFrom, IsNewSlot, IsRun, IsRunSlot, IsSlot, IsSubmitter, IsWorker, NoAnswerRanOut, answered_in}
+use Rattle.queue_jobs.specs.Slots.{AreNewSlots, AreRunSlots, AreServedSeats, AreServedSlots, DidNotStop, EachFrom, IsNewSlot, IsRun, IsRunSlot, IsSlot, NoAnswerRanOut, answered_in}
 use Rattle.queue_jobs.specs.declared.slots.Slot.{Slot}
-use Rattle.queue_jobs.proofs.Places.{each_all, each_from, each_here, each_push, each_set_first}
+use Rattle.queue_jobs.proofs.Places.{each_all, each_from, each_here, each_push}
 use Rattle.queue_jobs.proofs.Shares.{all_dealt, dealt_from}
 
 -- the submitters, and the workers, of slots
@@ -58,19 +56,6 @@ new_slot_more {Q} {A} first second third one two count slots slot all submitter 
     }
 
 module _ {Q A : Type 0} (queue : Slotted (Option PoolJob) (Doing PoolJob Hand) Q A) where
-  -- a submitter who submitted a job of the command
-  pub submits : (before after : Submitter) (job : PoolJob) → IsSubmitter queue before → IsPassOf queue after.seat → Submits before after job
-      → IsQueueJob job → IsSubmitter queue after
-  submits before after job h seat did is = record {
-    seat = seat;
-    jobs = subst (All IsQueueJob) (sym did.jobs) (All-push IsQueueJob before.jobs.items job h.jobs is);
-  }
-
-  -- one who did not
-  pub same_submitter : (before after : Submitter) → IsSubmitter queue before → IsPassOf queue after.seat → IsSameSubmitter before after
-      → IsSubmitter queue after
-  same_submitter before after h seat did = record { seat = seat; jobs = subst (All IsQueueJob) (sym did.jobs) h.jobs }
-
   module _ (gate : GateMeaning ScriptCredential) where
     pub new_slot : (place : ℕ) (slot : Slot) → IsNewSlot queue place slot → IsSlot queue gate slot
     new_slot place slot h = record {
@@ -105,24 +90,6 @@ module _ {Q A : Type 0} (queue : Slotted (Option PoolJob) (Doing PoolJob Hand) Q
               let e : i ≡ 0 + i = omega arith in
               subst (λ k. IsRunSlot queue gate workers jobs k (get_or new i d)) e
               (ran i (get_or old i d) (get_or new i d) (each_here (IsNewSlot queue) old i d all.each inside) (each i d inside))
-
-      -- the first worker worked on
-      pub first_worked : (slots : List Slot) (slot first : Slot) → AreRunSlots queue gate workers jobs slots
-          → slot ≡ get_or slots 0 slot → 0 < length slots
-          → first.submitter ≡ slot.submitter → first.out_of_memory ≡ slot.out_of_memory
-          → IsWorker queue gate first.worker → first.worker.handle ≡ slot.worker.handle
-          → AreRunSlots queue gate workers jobs (set slots 0 first)
-      first_worked slots slot first h is some same_s same_o worker handle =
-          let here : IsRunSlot queue gate workers jobs 0 slot =
-          subst (IsRunSlot queue gate workers jobs 0) (sym is) (each_here (IsRunSlot queue gate workers jobs) slots 0 slot h.each some) in
-          record {
-            len = length-set slots 0 first ∙ h.len;
-            each = each_set_first (IsRunSlot queue gate workers jobs) 0 slots first h.each (record {
-              state = record { submitter = subst (IsSubmitter queue) (sym same_s) here.state.submitter; worker = worker };
-              handle = handle ∙ here.handle;
-              submitted = λ e. ap (λ (s : Submitter). length s.jobs.items) same_s ∙ here.submitted (sym same_o ∙ e);
-            });
-          }
 
       handles : (n : ℕ) (slots : List Slot) → EachFrom (IsRunSlot queue gate workers jobs) n slots
           → ServesHandles gate n (lists_of (map (λ w. w.answers) (workers_of slots))) (map (λ w. w.pass) (workers_of slots))
@@ -201,11 +168,4 @@ module _ {Q A : Type 0} (queue : Slotted (Option PoolJob) (Doing PoolJob Hand) Q
     worker_seats = worker_seats slots h;
     submitted = are_submitted some slots h;
     serves = serves_queue slots h;
-  }
-
-  -- they are all that there are
-  pub all_seats : (slots : List Slot) → AreServedSlots queue gate workers jobs slots → HasAllSeats workers workers (submitters_of slots) (workers_of slots)
-  all_seats slots h = record {
-    all_submitters = length-map slots (λ s. s.submitter) ∙ h.run.len;
-    all_workers = length-map slots (λ s. s.worker) ∙ h.run.len;
   }

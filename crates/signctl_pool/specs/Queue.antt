@@ -14,13 +14,6 @@ use Rattle.signctl_pool.specs.declared.end.PoolEnd.{PoolEnd}
 use Rattle.signctl_pool.specs.declared.end.PoolEnd.TheVariants as end
 
 module _ (gate : GateMeaning ScriptCredential) (workers jobs : ℕ) where
-  -- a run that ended before its line: the signer was not closed, the books do not balance, or an allocation failed
-  abbrev pub EndsQueueEarly : PoolEnd → Type 0
-  EndsQueueEarly (end.Disagreed refused) = IsUnclosedQueue gate workers jobs refused
-  EndsQueueEarly (end.Uncleared finished why) = IsUnclearedQueue gate workers jobs finished why
-  EndsQueueEarly (end.Ended status.OutOfMemory) = Unit {0}
-  EndsQueueEarly _ = ⊥
-
   -- What a run gives, by how it ended. Finished: the sink has the whole line of these jobs more. A failed write: it has a
   -- prefix of the line of a finished queue. Any other end leaves it as it was
   abbrev pub EndsQueue : {D : Type 0} → PoolEnd → Written D → Type 0
