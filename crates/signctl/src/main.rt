@@ -2,8 +2,9 @@
 //! commands that threads serve.
 #![tactic(auto)]
 
-use sign_base::{StdSink, StdSource};
-use signctl_core::{HeaderKeys, run_program};
+use sign_base::{Sink, StdSink, StdSource};
+use signctl_core::program::report;
+use signctl_core::{HeaderKeys, Status, run_program};
 use signctl_threads::{is_for_threads, run_threads};
 use std::hash::RandomState;
 use std::process::ExitCode;
@@ -13,7 +14,12 @@ use std::{env, io};
 fn main(rt: HostRuntime) -> ExitCode {
     let mut output = StdSink::new(io::writer(&rt));
     let mut errors = StdSink::new(rt.stderr());
-    let words = words(&rt).ok();
+    let words = match words(&rt) {
+        Err(error) if error.kind() == io::ErrorKind::OutOfMemory => return out_of_memory(
+            &mut errors,
+        ),
+        words => words.ok(),
+    };
     if is_for_threads(&words) {
         return ExitCode::from(run_threads(&rt, rt.alloc(), words, &mut output, &mut errors));
     }
@@ -29,6 +35,12 @@ fn main(rt: HostRuntime) -> ExitCode {
         &mut errors,
         keys,
     ))
+}
+
+/// Ends as a command does that finds no memory: here there was none for the words.
+fn out_of_memory<E: Sink>(errors: &mut E) -> ExitCode {
+    report(Status::OutOfMemory, errors);
+    ExitCode::from(Status::OutOfMemory.exit_status())
 }
 
 /// The words of the command line, from the program's name on.
