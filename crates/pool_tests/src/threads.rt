@@ -134,13 +134,20 @@ fn all_done(jobs: u64) -> Books {
     }
 }
 
+/// Two threads with a hundred jobs each, whose gate answers at once.
+fn hundreds<R: Threads + Wait + Sync>(
+    rt: &R,
+    alloc: Global,
+    capacity: usize,
+) -> Option<(bool, Books)> {
+    let gate = gate_of(alloc, Answers::Signs)?;
+    served(rt, alloc, capacity, 100, &gate)
+}
+
 #[test]
 fn two_threads_submit_and_serve(rt: HostRuntime) {
-    let Some(gate) = gate_of(rt.alloc(), Answers::Signs) else {
-        unreachable!()
-    };
     for capacity in [1usize, 2, 16] {
-        assert!(rt; served(&rt, rt.alloc(), capacity, 100, &gate) == Some((true, all_done(200))));
+        assert!(rt; hundreds(&rt, rt.alloc(), capacity) == Some((true, all_done(200))));
     }
 }
 
