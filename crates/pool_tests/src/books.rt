@@ -69,7 +69,9 @@ pub fn outcomes_of(alloc: Global, answers: &[Vec<Answer>]) -> Option<Vec<Outcome
 pub fn tickets_of(alloc: Global, jobs: &[PoolJob]) -> Option<Vec<(u32, u64)>> {
     let mut tickets = Vec::new(alloc);
     for job in jobs {
-        tickets.push((job.ticket.submitter, job.ticket.number)).ok()?;
+        tickets
+            .push((job.ticket.submitter, job.ticket.number))
+            .ok()?;
     }
     Some(tickets)
 }

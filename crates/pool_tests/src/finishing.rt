@@ -43,12 +43,14 @@ fn finished_late<R: Wait>(
     let Ok(mut late_workers) = workers.split_off(works) else {
         return None;
     };
-    let Err(FinishRefused::Early {
-        pool,
-        mut submitters,
-        mut workers,
-        why,
-    }) = pool.finish(rt, submitters, workers)
+    let Err(
+        FinishRefused::Early {
+            pool,
+            mut submitters,
+            mut workers,
+            why,
+        },
+    ) = pool.finish(rt, submitters, workers)
     else {
         return None;
     };
@@ -96,6 +98,8 @@ fn outcomes<R: Wait>(rt: &R, alloc: Global, change: bool) -> Option<Vec<Outcome>
 #[test]
 fn answers_come_in_the_order_of_seats(rt: HostRuntime) {
     for (change, want) in [(false, [Done, OutOfMemory]), (true, [OutOfMemory, Done])] {
-        assert!(rt; outcomes(&rt, rt.alloc(), change).is_some_and(|told| told.as_slice() == want.as_slice()));
+        assert!(rt;
+            outcomes(&rt, rt.alloc(), change).is_some_and(|told| told.as_slice() == want.as_slice())
+        );
     }
 }

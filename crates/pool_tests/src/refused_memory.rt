@@ -35,12 +35,14 @@ fn finishes<R: Wait>(rt: &R, seats: Seats) -> Option<Finished<Key, UntilNow>> {
         ..
     } = seats;
     match pool.finish(rt, submitters, workers) {
-        Err(FinishRefused::Early {
-            pool,
-            submitters,
-            workers,
-            ..
-        }) => pool.finish(rt, submitters, workers).ok(),
+        Err(
+            FinishRefused::Early {
+                pool,
+                submitters,
+                workers,
+                ..
+            },
+        ) => pool.finish(rt, submitters, workers).ok(),
         finished => finished.ok(),
     }
 }

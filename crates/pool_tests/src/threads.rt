@@ -104,7 +104,14 @@ fn run_stand<G: Gate<Key> + Sync, R: Threads + Wait + Sync>(
     gate: &G,
     jobs: u64,
 ) {
-    run_threads(rt, alloc, &stand.pool, gate, jobs, stand.slots.as_mut_slice());
+    run_threads(
+        rt,
+        alloc,
+        &stand.pool,
+        gate,
+        jobs,
+        stand.slots.as_mut_slice(),
+    );
 }
 
 /// A pool through whose queue, which holds so many jobs, two threads submitted so many jobs each, and served all.

@@ -1,4 +1,4 @@
-use Rattle.std.proofs.Common.{◌≡◌, subst, sym}
+use Rattle.std.proofs.Common.{subst, sym}
 use Rattle.std.specs.Prelude.{All}
 use Rattle.crossbeam_queue.specs.Passes.{IsPassOf}
 use Rattle.sign_pool.specs.declared.seats.Submitter.{Submitter}
