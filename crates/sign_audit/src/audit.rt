@@ -155,6 +155,7 @@ impl<K: SigningCredential, D: DeadlineRule<Credential = K>> Audit<K, D> {
             // An event of no cache is counted nowhere.
             return Claim::Legal;
         };
+        // What `stage_of` says shows that the cache is one of the desk's, and so has counts.
         let _placed = self.desk.stage_of(call);
         count(&mut self.counts, cache, &Reply::<K>::OutOfMemory);
         Claim::Legal
