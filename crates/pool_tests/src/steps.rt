@@ -112,7 +112,7 @@ const ROWS: [Row; 13] = [
         &[],
         &[(1, 0)],
     ),
-    // Gates of several kinds. Want of memory is an answer too, and the next job is served.
+    // Gates of several kinds. Out of memory is an answer too, and the next job is served.
     (Signs, 2, &TWO_JOBS, &[Done, Done], &[]),
     (RejectsHeads, 2, &TWO_JOBS, &[Refused, Refused], &[]),
     (FailsLoads, 2, &TWO_JOBS, &[Refused, Refused], &[]),
