@@ -2,7 +2,6 @@
 //! with ample memory. Heads and their views by the lines of `signctl view` are rows of `command_rows`.
 mod applied;
 mod bridge;
-mod floods;
 mod headers;
 mod limits;
 mod texts;

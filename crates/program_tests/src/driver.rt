@@ -118,6 +118,17 @@ fn nothing_follows_an_end_or_a_fault(rt: HostRuntime) {
     }
 }
 
+/// Answers of more than 65,536 bytes are written before the next read is due.
+#[test]
+fn many_answers_do_not_wait(rt: HostRuntime) {
+    let input = lines_of(rt.alloc(), 32_768, 2).expect(&rt, "memory");
+    let (reads, writes, status) = counted(rt.alloc(), input.as_slice(), input.len(), (NONE, NONE));
+    assert!(rt;
+        reads < writes && status == Status::Done,
+        "{reads} reads, {writes} writes"
+    );
+}
+
 /// So many exclamation marks, in pieces of a few thousand, the read that fails, and what is answered. A line
 /// that is too long is so before the command looks at it, and also where a read fails after it.
 const MARKS: [(usize, Fault, &[u8], Status); 4] = [
@@ -150,10 +161,12 @@ fn a_line_is_too_long(rt: HostRuntime) {
     }
 }
 
-/// So many bytes in lines that are as long as a line may be.
-fn long_lines(alloc: Global, count: usize) -> Result<Vec<u8>, AllocError> {
+/// So many bytes in lines of this length, with their newlines.
+fn lines_of(alloc: Global, count: usize, length: usize) -> Result<Vec<u8>, AllocError>
+    requires { 0 < length }
+{
     let mut bytes = vec![in alloc; b'a'; count]?;
-    for line in bytes.chunks_mut(65_537) {
+    for line in bytes.chunks_mut(length) {
         if let Some(last) = line.last_mut() {
             *last = b'\n';
         }
@@ -167,7 +180,7 @@ fn the_longest_input_is_read(rt: HostRuntime) {
         (67_108_864, b"1024 lines\n".as_slice(), Status::Done),
         (67_108_865, b"input too long\n".as_slice(), Status::Refused),
     ] {
-        let input = long_lines(rt.alloc(), count).expect(&rt, "memory");
+        let input = lines_of(rt.alloc(), count, 65_537).expect(&rt, "memory");
         let ran = driven(rt.alloc(), input, 4_096, Fault::Nowhere).expect(&rt, "memory");
         assert!(rt; ran.sink.written().ends_with(end) && ran.status == status);
     }

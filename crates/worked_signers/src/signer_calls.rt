@@ -18,6 +18,7 @@ use std::fmt;
 use std::process::Abort;
 
 mod objects;
+mod refused_memory;
 
 use objects::{Key, Loads, Source, Stamp, push_header};
 

@@ -20,9 +20,9 @@ fn file(alloc: Global) -> Option<String> {
     format!(in alloc; "{bytes:?}").ok()
 }
 
-fn file_as_string(alloc: Global) -> Option<String> {
+fn file_as_string(alloc: Global, path: &str) -> Option<String> {
     let ctx = always_a();
-    let mut read = ctx.file_read(alloc, "/a").ok()?;
+    let mut read = ctx.file_read(alloc, path).ok()?;
     let text = ctx.poll_file_read_as_string(alloc, &mut read);
     format!(in alloc; "{text:?}").ok()
 }
@@ -60,7 +60,8 @@ fn is_run(alloc: Global) -> Option<String> {
 #[test]
 fn objects_answer(rt: HostRuntime) {
     is_text(&rt, file(rt.alloc()), "Ready([97])");
-    is_text(&rt, file_as_string(rt.alloc()), "Ready(\"a\")");
+    is_text(&rt, file_as_string(rt.alloc(), "/a"), "Ready(\"a\")");
+    is_text(&rt, file_as_string(rt.alloc(), "/empty"), "Ready(\"\")");
     is_text(&rt, response(rt.alloc()), "[97]");
     is_text(&rt, response_as_string(rt.alloc()), "200 a");
     is_text(&rt, is_run(rt.alloc()), "true");

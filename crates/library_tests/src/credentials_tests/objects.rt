@@ -1,4 +1,4 @@
-//! Objects of the tests, each of which answers the one byte `a`.
+//! Objects of the tests, each of which answers the one byte `a`, but for the file `/empty`.
 ghost use Rattle.std.specs.Prelude.{⊤};
 
 use bytes::Bytes;
@@ -21,7 +21,8 @@ pub(crate) fn always_a() -> ContextOfA {
 }
 
 impl FileRead for AlwaysA {
-    type Read = ();
+    /// Whether the file is empty.
+    type Read = bool;
 
     ghost started = { λ object path read. ⊤ };
 
@@ -29,12 +30,13 @@ impl FileRead for AlwaysA {
 
     ghost gives = { λ object path answer. ⊤ };
 
-    fn file_read(&self, _alloc: Global, _path: &str) -> Result<(), NoMemory<()>> {
-        Ok(())
+    fn file_read(&self, _alloc: Global, path: &str) -> Result<bool, NoMemory<()>> {
+        Ok(path == "/empty")
     }
 
-    fn poll_read(&self, alloc: Global, _read: &mut ()) -> Polled<Vec<u8>> {
-        match Vec::from_slice(alloc, b"a") {
+    fn poll_read(&self, alloc: Global, read: &mut bool) -> Polled<Vec<u8>> {
+        let text = if *read { "" } else { "a" };
+        match Vec::from_slice(alloc, text.as_bytes()) {
             Ok(bytes) => Polled::Ready(bytes),
             Err(_) => Polled::OutOfMemory,
         }
