@@ -33,20 +33,29 @@ fn signs(signer: &mut Signer<Finds, LeavesHeads>, req: &mut Parts, now: Timestam
     }
 }
 
-/// What a call with this head takes.
-fn time(rt: &HostRuntime, head: &Head, keys: HeaderKeys) -> Option<Duration> {
-    let now = Timestamp::from_nanos(5)?;
-    let mut signer = signer_with(rt.alloc(), keys)?;
-    let mut req = parts_of_keyed(rt.alloc(), head, keys).ok()?;
+/// The least time of a call with this request.
+fn least_time(
+    rt: &HostRuntime,
+    signer: &mut Signer<Finds, LeavesHeads>,
+    req: &mut Parts,
+    now: Timestamp,
+) -> Option<Duration> {
     let mut least = Duration::MAX;
     for _ in 0..TIMES {
         let start = Instant::now(rt).ok()?;
-        if !signs(&mut signer, &mut req, now) {
+        if !signs(signer, req, now) {
             return None;
         }
         least = least.min(start.elapsed(rt).ok()?);
     }
     Some(least)
+}
+
+/// What a call with this head takes.
+fn time(rt: &HostRuntime, head: &Head, keys: HeaderKeys) -> Option<Duration> {
+    let mut signer = signer_with(rt.alloc(), keys)?;
+    let mut req = parts_of_keyed(rt.alloc(), head, keys).ok()?;
+    least_time(rt, &mut signer, &mut req, Timestamp::from_nanos(5)?)
 }
 
 #[test]
