@@ -9,6 +9,9 @@ use std::time::{Duration, Instant};
 
 const NAMES: u32 = 6_500;
 
+/// The bytes of these names where each is shown, after a space.
+const SHOWN: usize = 58_500;
+
 /// The bytes that are read or written at once, and that the answer has room for.
 const ROOM: usize = 1_048_576;
 
@@ -65,7 +68,7 @@ fn time(rt: &HostRuntime, line: &str, keys: HeaderKeys) -> Option<Duration> {
     for _ in 0..TIMES {
         let start = Instant::now(rt).ok()?;
         let (status, length) = viewed(rt.alloc(), line, keys)?;
-        if status != Status::Done || length < line.len() {
+        if status != Status::Done || length < SHOWN {
             return None;
         }
         least = least.min(start.elapsed(rt).ok()?);
