@@ -46,11 +46,14 @@ fn a_canonical_request_is_signed_alone(rt: HostRuntime) {
     is_text(&rt, signature_alone(rt.alloc(), &by), SIGNATURE);
 }
 
+fn has_target(alloc: Global, by: &Suite) -> bool {
+    target_to_sign(alloc, &by.head, &by.scope, HeaderKeys::default()).is_ok()
+}
+
 #[test]
 fn a_head_has_a_target_and_a_payload_a_word(rt: HostRuntime) {
     let by = plain(rt.alloc()).expect(&rt, "memory");
-    let target = target_to_sign(rt.alloc(), &by.head, &by.scope, HeaderKeys::default());
-    assert!(rt; target.is_ok());
+    assert!(rt; has_target(rt.alloc(), &by));
     let unsigned = Payload::unsigned(rt.alloc()).expect(&rt, "memory");
     assert!(rt; unsigned.word() == b"UNSIGNED-PAYLOAD".as_slice());
 }

@@ -27,16 +27,16 @@ fn admit(
 
 /// A link for ten minutes from the published moment on.
 fn link_for_ten_minutes(alloc: Global) -> Option<Head> {
-    let by = published(alloc)?;
     let now = Timestamp::from_nanos(PUBLISHED)?;
+    let by = published(alloc)?;
     presign(alloc, &by.head, &by.credential, &by.scope, 600, now).ok()
 }
 
 /// What the gateway answers so many seconds after the link was made.
 fn answer_after(alloc: Global, request: &Head, seconds: i128) -> Option<u16> {
-    let by = published(alloc)?;
     let after = seconds.checked_mul(1_000_000_000)?;
     let now = Timestamp::from_nanos(PUBLISHED.checked_add(after)?)?;
+    let by = published(alloc)?;
     admit(alloc, request, &by.credential, &by.scope, now).ok()
 }
 

@@ -82,18 +82,18 @@ const FOUND: [(i128, &str); 6] = [
     (DAY + 1, "Late"),
 ];
 
+/// What a link of five nanoseconds after the second is found to be at this moment.
+fn found_at(alloc: Global, by: &Suite, nanos: i128) -> Option<String> {
+    let now = Timestamp::from_nanos(PUBLISHED + 5)?;
+    let link = presign(alloc, &by.head, &by.credential, &by.scope, 86_400, now).ok()?;
+    checked_at(alloc, by, &link, nanos)
+}
+
 #[test]
 fn a_link_is_valid_to_the_last_nanosecond(rt: HostRuntime) {
     let by = published(rt.alloc()).expect(&rt, "memory");
-    let now = Timestamp::from_nanos(PUBLISHED + 5).expect(&rt, "a moment");
-    let link = presign(rt.alloc(), &by.head, &by.credential, &by.scope, 86_400, now).ok();
-    let link = link.expect(&rt, "a link");
     for (after, wanted) in FOUND {
-        is_text(
-            &rt,
-            checked_at(rt.alloc(), &by, &link, PUBLISHED + after),
-            wanted,
-        );
+        is_text(&rt, found_at(rt.alloc(), &by, PUBLISHED + after), wanted);
     }
 }
 
@@ -155,10 +155,16 @@ const LONGEST: usize = 65_256;
 
 /// What a link to a path of so many bytes is, once it was made.
 fn long_link(alloc: Global, bytes: usize) -> Option<String> {
-    let by = request_to(alloc, long_uri(alloc, bytes)?.as_str())?;
+    let uri = long_uri(alloc, bytes)?;
+    let by = request_to(alloc, uri.as_str())?;
+    link_found(alloc, &by)
+}
+
+/// What a link is at its second, or why there is none.
+fn link_found(alloc: Global, by: &Suite) -> Option<String> {
     let now = Timestamp::from_nanos(PUBLISHED)?;
     match presign(alloc, &by.head, &by.credential, &by.scope, 5, now) {
-        Ok(link) => checked_at(alloc, &by, &link, PUBLISHED),
+        Ok(link) => checked_at(alloc, by, &link, PUBLISHED),
         Err(why) => format!(in alloc; "{why:?}").ok(),
     }
 }

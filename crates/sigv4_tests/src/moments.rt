@@ -53,7 +53,8 @@ const REFUSED: [(&str, &str); 4] = [
 ];
 
 fn refused(alloc: Global, uri: &str) -> Option<String> {
-    signed_at(alloc, &request_to(alloc, uri)?, BEFORE_YEAR_0)
+    let by = request_to(alloc, uri)?;
+    signed_at(alloc, &by, BEFORE_YEAR_0)
 }
 
 #[test]
