@@ -14,6 +14,8 @@ mod keys;
 #[cfg(test)]
 mod links;
 #[cfg(test)]
+mod many_headers;
+#[cfg(test)]
 mod moments;
 #[cfg(test)]
 mod refusals;
