@@ -1,16 +1,16 @@
 //! Lines that are read, and moments that are written. Of a head the debug text shows what is no secret: heads
 //! come back whole in rows of `command_rows`, which also has the lines that are refused.
 use sequential_signer::{Event, Verdict};
-use sign_base::Timestamp;
+use sign_base::{Head, Timestamp};
 use signctl_format::{
-    Item, ScriptCredential, ScriptVersion, is_version_line, push_final, read_line,
+    Item, ScriptCredential, ScriptEvent, ScriptVersion, is_version_line, push_final, read_line,
 };
 use signctl_grant::read_grant_line;
-use std::alloc::{AllocError, Global};
+use std::alloc::Global;
 use std::process::Abort;
 
 /// Lines of either version, and the items that they spell.
-const SCRIPT: [(&str, &str); 20] = [
+static SCRIPT: [(&str, &str); 20] = [
     ("cache single", "Cache(Single)"),
     ("cache chain 0", "Cache(Chain(0))"),
     ("cache chain 4294967295", "Cache(Chain(4294967295))"),
@@ -73,7 +73,7 @@ const SCRIPT: [(&str, &str); 20] = [
 ];
 
 /// Lines of version 2 alone.
-const SECOND: [(&str, &str); 10] = [
+static SECOND: [(&str, &str); 10] = [
     (
         "poll 0 1 0.5",
         "Event(ScriptEvent { event: Poll { call: CallId { handle: 0, number: 1 }, now: Timestamp { nanos: 500000000 } } })",
@@ -117,7 +117,7 @@ const SECOND: [(&str, &str); 10] = [
 ];
 
 /// Lines of `grant`.
-const GRANT: [(&str, &str); 14] = [
+static GRANT: [(&str, &str); 14] = [
     ("", "Silent"),
     ("# begin 0 1 -", "Silent"),
     ("cache single", "Cache(Single)"),
@@ -161,10 +161,15 @@ const GRANT: [(&str, &str); 14] = [
     ),
 ];
 
+/// The debug text of an item.
+fn shown(alloc: Global, item: &Item<ScriptEvent>) -> Option<String> {
+    format!(in alloc; "{item:?}").ok()
+}
+
 /// The item that a line spells.
 fn read(alloc: Global, version: ScriptVersion, line: &[u8]) -> Option<String> {
     let item = read_line(alloc, version, line).ok()?;
-    format!(in alloc; "{item:?}").ok()
+    shown(alloc, &item)
 }
 
 fn read_grant(alloc: Global, line: &str) -> Option<String> {
@@ -172,37 +177,43 @@ fn read_grant(alloc: Global, line: &str) -> Option<String> {
     format!(in alloc; "{item:?}").ok()
 }
 
+/// Whether an item is this.
+fn is_item(rt: &impl Abort, item: &str, wanted: &str) {
+    assert!(rt; item == wanted, "{item}\nis not\n{wanted}");
+}
+
 /// Whether a line is read as this.
-fn is_item(rt: &impl Abort, item: Option<String>, wanted: &str) {
-    let item = item.expect(rt, wanted);
-    assert!(rt; item.as_str() == wanted, "{item}\nis not\n{wanted}");
+fn is_read(rt: &impl Abort, alloc: Global, version: ScriptVersion, line: &[u8], wanted: &str) {
+    let item = read(alloc, version, line).expect(rt, wanted);
+    is_item(rt, item.as_str(), wanted);
+}
+
+/// Whether these lines are read so.
+fn are_read(rt: &impl Abort, alloc: Global, version: ScriptVersion, rows: &[(&str, &str)]) {
+    for row in rows {
+        is_read(rt, alloc, version, row.0.as_bytes(), row.1);
+    }
 }
 
 #[test]
 fn lines_of_scripts_are_read(rt: HostRuntime) {
-    for (line, wanted) in &SCRIPT {
-        for version in [ScriptVersion::One, ScriptVersion::Two] {
-            is_item(&rt, read(rt.alloc(), version, line.as_bytes()), *wanted);
-        }
-    }
-    for (line, wanted) in &SECOND {
-        is_item(
-            &rt,
-            read(rt.alloc(), ScriptVersion::Two, line.as_bytes()),
-            *wanted,
-        );
-    }
-    is_item(
-        &rt,
-        read(rt.alloc(), ScriptVersion::One, b"#\x00\xff\r"),
-        "Silent",
-    );
+    let alloc = rt.alloc();
+    are_read(&rt, alloc, ScriptVersion::One, &SCRIPT);
+    are_read(&rt, alloc, ScriptVersion::Two, &SCRIPT);
+    are_read(&rt, alloc, ScriptVersion::Two, &SECOND);
+    is_read(&rt, alloc, ScriptVersion::One, b"#\x00\xff\r", "Silent");
+}
+
+/// Whether a line of `grant` is read as this.
+fn is_grant(rt: &impl Abort, alloc: Global, line: &str, wanted: &str) {
+    let item = read_grant(alloc, line).expect(rt, wanted);
+    is_item(rt, item.as_str(), wanted);
 }
 
 #[test]
 fn lines_of_grant_are_read(rt: HostRuntime) {
-    for (line, wanted) in &GRANT {
-        is_item(&rt, read_grant(rt.alloc(), *line), *wanted);
+    for row in &GRANT {
+        is_grant(&rt, rt.alloc(), row.0, row.1);
     }
 }
 
@@ -221,64 +232,81 @@ fn the_first_line_names_version_2(rt: HostRuntime) {
 }
 
 /// A line of 65,536 bytes, which ends in one digit again and again.
-fn long_line(alloc: Global, front: &[u8], digit: u8) -> Result<Vec<u8>, AllocError> {
-    let mut line = vec![in alloc; digit; 65_536]?;
-    for (byte, first) in line.iter_mut().zip(front) {
-        *byte = *first;
-    }
-    Ok(line)
+fn long_line(rt: &impl Abort, alloc: Global, front: &[u8], digit: u8) -> Vec<u8> {
+    let mut line = Vec::from_slice(alloc, front).expect(rt, "memory");
+    line.resize(65_536, digit).expect(rt, "memory");
+    line
+}
+
+/// Whether a line that ends in so many digits is refused.
+fn is_refused(rt: &impl Abort, alloc: Global, front: &[u8], digit: u8) {
+    let line = long_line(rt, alloc, front, digit);
+    assert!(rt; read(alloc, ScriptVersion::Two, line.as_slice()).is_none());
 }
 
 #[test]
 fn a_number_of_thousands_of_digits_is_refused(rt: HostRuntime) {
     for front in [b"poll 0 1 ".as_slice(), b"poll 0 1 5.", b"begin 0 1 "] {
-        for digit in [b'0', b'9'] {
-            let line = long_line(rt.alloc(), front, digit).expect(&rt, "memory");
-            assert!(rt; read(rt.alloc(), ScriptVersion::Two, line.as_slice()).is_none());
-        }
+        is_refused(&rt, rt.alloc(), front, b'0');
+        is_refused(&rt, rt.alloc(), front, b'9');
     }
 }
 
-/// The value of the first header of the head that a line accepts.
-fn accepted_value(alloc: Global, line: &[u8]) -> Option<Vec<u8>> {
-    let Ok(Item::Event(event)) = read_line(alloc, ScriptVersion::One, line) else {
+/// The head that an item accepts.
+fn accepted(item: &Item<ScriptEvent>) -> Option<&Head> {
+    let Item::Event(event) = item else {
         return None;
     };
-    let Event::Signed {
-        answer: Verdict::Accepted(head),
-        ..
-    } = event.as_event()
-    else {
-        return None;
-    };
-    let field = head.headers.as_slice().first()?;
-    Vec::from_slice(alloc, field.value.as_slice()).ok()
+    match event.as_event() {
+        Event::Signed {
+            answer: Verdict::Accepted(head),
+            ..
+        } => Some(head),
+        _ => None,
+    }
+}
+
+/// The value of the first header of the head that an item accepts.
+fn accepted_value(item: &Item<ScriptEvent>) -> Option<&[u8]> {
+    let field = accepted(item)?.headers.as_slice().first()?;
+    Some(field.value.as_slice())
+}
+
+/// Whether a line accepts a head whose first header has this value.
+fn is_accepted(rt: &impl Abort, alloc: Global, line: &[u8], value: &[u8]) {
+    let item = read_line(alloc, ScriptVersion::One, line).expect(rt, "an item");
+    assert!(rt; accepted_value(&item) == Some(value));
 }
 
 #[test]
 fn a_line_of_65_536_bytes_is_read(rt: HostRuntime) {
     let front = b"accept 0 1 GET / 1.1 name:";
-    let line = long_line(rt.alloc(), front, b'9').expect(&rt, "memory");
-    let value = accepted_value(rt.alloc(), line.as_slice()).expect(&rt, "a head");
-    assert!(rt; value.as_slice() == line.as_slice().get(front.len()..).unwrap_or(&[]));
+    let line = long_line(&rt, rt.alloc(), front, b'9');
+    let value = line.as_slice().get(front.len()..).unwrap_or(&[]);
+    is_accepted(&rt, rt.alloc(), line.as_slice(), value);
 }
 
-/// What is written of a cache whose credential has this moment thrice.
-fn written(alloc: Global, version: ScriptVersion, nanos: i128) -> Option<Vec<u8>> {
+/// A credential that has this moment thrice.
+fn credential_of(nanos: i128) -> Option<ScriptCredential> {
     let moment = Timestamp::from_nanos(nanos)?;
-    let credential = ScriptCredential {
+    Some(ScriptCredential {
         generation: 7,
         fresh: moment,
         expires: moment,
         required: moment,
-    };
+    })
+}
+
+/// Whether this is written of a cache with that credential.
+fn is_written(rt: &impl Abort, alloc: Global, version: ScriptVersion, nanos: i128, wanted: &str) {
+    let credential = credential_of(nanos).expect(rt, wanted);
     let mut text = Vec::new(alloc);
-    push_final(&mut text, version, 0, Some(credential)).ok()?;
-    Some(text)
+    push_final(&mut text, version, 0, Some(credential)).expect(rt, wanted);
+    assert!(rt; text.as_slice() == wanted.as_bytes(), "{wanted}");
 }
 
 /// Nanoseconds since 1970, and how they are written in each version.
-const MOMENTS: [(i128, &str, &str); 8] = [
+static MOMENTS: [(i128, &str, &str); 8] = [
     (0, "final 0 7 0 0 0", "final 0 7 0 0 0"),
     (
         600_000_000_000,
@@ -316,9 +344,7 @@ const MOMENTS: [(i128, &str, &str); 8] = [
 #[test]
 fn moments_are_written_in_each_version(rt: HostRuntime) {
     for (nanos, one, two) in &MOMENTS {
-        let text = written(rt.alloc(), ScriptVersion::One, *nanos).expect(&rt, *one);
-        assert!(rt; text.as_slice() == one.as_bytes(), "{one}");
-        let text = written(rt.alloc(), ScriptVersion::Two, *nanos).expect(&rt, *two);
-        assert!(rt; text.as_slice() == two.as_bytes(), "{two}");
+        is_written(&rt, rt.alloc(), ScriptVersion::One, *nanos, *one);
+        is_written(&rt, rt.alloc(), ScriptVersion::Two, *nanos, *two);
     }
 }

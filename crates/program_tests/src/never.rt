@@ -56,12 +56,17 @@ impl DeadlineRule for UntilNow {
     }
 }
 
+/// A desk of fleeting credentials.
+type FleetingDesk = Desk<Fleeting, UntilNow>;
+
 /// A desk with one cache and one handle.
-fn desk_of_one_handle(alloc: Global) -> Option<Desk<Fleeting, UntilNow>> {
+fn desk_of_one_handle(rt: &impl Abort, alloc: Global) -> FleetingDesk {
     let mut desk = Desk::new(alloc);
-    desk.add_cache(Loader::Single).ok()?;
-    desk.add_handle_with_rule(0, UntilNow).ok()?;
-    Some(desk)
+    desk.add_cache(Loader::Single).ok().expect(rt, "a cache");
+    desk.add_handle_with_rule(0, UntilNow)
+        .ok()
+        .expect(rt, "a handle");
+    desk
 }
 
 /// What happens to a call.
@@ -114,9 +119,11 @@ fn told(reply: &Reply<Fleeting>) -> (&'static str, Option<u64>) {
     }
 }
 
-/// Three calls, two of which wait for the first, and one that comes after them: what happens to which, and what
-/// is replied.
-const STEPS: [(Step, u64, (&str, Option<u64>)); 14] = [
+/// What happens to the call of a number, and what is replied.
+type Row = (Step, u64, (&'static str, Option<u64>));
+
+/// Three calls, two of which wait for the first, and one that comes after them.
+static STEPS: [Row; 14] = [
     (Step::Begin, 1, ("begun", None)),
     (Step::Begin, 2, ("begun", None)),
     (Step::Begin, 3, ("begun", None)),
@@ -133,13 +140,28 @@ const STEPS: [(Step, u64, (&str, Option<u64>)); 14] = [
     (Step::Found, 4, ("short", None)),
 ];
 
+/// Whether a desk replies to an event as its row says.
+fn is_told(rt: &impl Abort, desk: &mut FleetingDesk, event: &Event<Fleeting>, row: &Row) {
+    assert!(rt; told(&desk.step(event)) == row.2);
+}
+
+/// Steps a desk with the event of a row.
+fn is_stepped(rt: &impl Abort, alloc: Global, desk: &mut FleetingDesk, row: &Row, usable: bool) {
+    let event = event(alloc, row.0, row.1, usable).expect(rt, "an event");
+    is_told(rt, desk, &event, row);
+}
+
+/// Steps a desk with all rows.
+fn are_stepped(rt: &impl Abort, alloc: Global, desk: &mut FleetingDesk, usable: bool) {
+    for row in &STEPS {
+        is_stepped(rt, alloc, desk, row, usable);
+    }
+}
+
 /// Whether a desk replies so where what is found can be used now, or not.
 fn is_short(rt: &impl Abort, alloc: Global, usable: bool) {
-    let mut desk = desk_of_one_handle(alloc).expect(rt, "a desk");
-    for (step, number, wanted) in STEPS {
-        let event = event(alloc, step, number, usable).expect(rt, "an event");
-        assert!(rt; told(&desk.step(&event)) == wanted);
-    }
+    let mut desk = desk_of_one_handle(rt, alloc);
+    are_stepped(rt, alloc, &mut desk, usable);
 }
 
 #[test]

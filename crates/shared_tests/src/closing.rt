@@ -116,7 +116,8 @@ fn begin<R: Wait>(
         head: head(alloc)?,
         expires_in: None,
     };
-    match signer.step(rt, pass, &event) {
+    let reply = signer.step(rt, pass, &event);
+    match &reply {
         Reply::OutOfMemory => None,
         _ => Some(()),
     }

@@ -73,8 +73,18 @@ pub fn ends_as<G: Gate<ScriptCredential> + Sync, R: Threads + Wait + Sync>(
 ) -> Option<bool> {
     let words = words(alloc, row.0).ok()?;
     let mut sink = MemorySink::new(alloc, row.1).ok()?;
-    let status = run_pool(rt, alloc, words.as_slice(), gate, &mut sink).status();
+    let status = status_of(rt, alloc, gate, words.as_slice(), &mut sink);
     Some(status == row.3 && sink.written() == row.2.as_bytes())
+}
+
+fn status_of<G: Gate<ScriptCredential> + Sync, R: Threads + Wait + Sync>(
+    rt: &R,
+    alloc: Global,
+    gate: &G,
+    words: &[String],
+    sink: &mut MemorySink,
+) -> Status {
+    run_pool(rt, alloc, words, gate, sink).status()
 }
 
 #[test]

@@ -204,8 +204,13 @@ fn done_answers<G: Gate<ScriptCredential> + Sync, R: Threads + Wait + Sync>(
 ) -> Option<usize> {
     let words = words(alloc, line).ok()?;
     let mut sink = MemorySink::new(alloc, 99).ok()?;
-    match run_pool(rt, alloc, words.as_slice(), gate, &mut sink) {
-        PoolEnd::Finished(finished) => Some(with_outcome(&finished, Outcome::Done)),
+    let end = run_pool(rt, alloc, words.as_slice(), gate, &mut sink);
+    done_of(&end)
+}
+
+fn done_of(end: &PoolEnd) -> Option<usize> {
+    match end {
+        PoolEnd::Finished(finished) => Some(with_outcome(finished, Outcome::Done)),
         _ => None,
     }
 }

@@ -33,25 +33,48 @@ fn steps<R: Wait>(
     pass.receipts().len() == before + 1
 }
 
+fn two_passes(alloc: Global) -> Option<Vec<Pass<Key>>> {
+    let mut passes = Vec::new(alloc);
+    for _ in 0..2 {
+        passes.push(Pass::new(alloc)).ok()?;
+    }
+    Some(passes)
+}
+
+/// Whether each event is in its own pass.
+fn both_step<R: Wait>(
+    rt: &R,
+    signer: &SharedSigner<Key, UntilNow>,
+    passes: &mut Vec<Pass<Key>>,
+    events: &[Event<Key>; 2],
+) -> Option<bool> {
+    let first = steps(rt, signer, passes.get_mut(0)?, &events[0]);
+    let second = steps(rt, signer, passes.get_mut(1)?, &events[1]);
+    Some(first && second)
+}
+
+/// The length of the settled journal, or 0 where it is not settled.
+fn settled(signer: SharedSigner<Key, UntilNow>, passes: Vec<Pass<Key>>) -> usize {
+    if passes.len() > 2 {
+        return 0;
+    }
+    match signer.close(passes) {
+        Ok(settled) => settled.journal.len(),
+        Err(_) => 0,
+    }
+}
+
 /// The length of the journal of two begins, each through its own pass. `None` where an allocation failed
 /// before the first of them.
 fn two_begins<R: Wait>(rt: &R, alloc: Global) -> Option<usize> {
     let rule = UntilNow { place: 0 };
-    let signer = signer_of(alloc, rule, rule)?;
-    let mut passes = Vec::with_capacity(alloc, 2).ok()?;
     let events = [begin(alloc, 1)?, begin(alloc, 2)?];
-    let mut first = Pass::new(alloc);
-    let mut second = Pass::new(alloc);
-    let both = steps(rt, &signer, &mut first, &events[0])
-        && steps(rt, &signer, &mut second, &events[1]);
-    passes.push(first).ok()?;
-    passes.push(second).ok()?;
-    if passes.len() > 2 {
-        return None;
-    }
-    match signer.close(passes) {
-        Ok(settled) if both => Some(settled.journal.len()),
-        _ => Some(0),
+    let mut passes = two_passes(alloc)?;
+    let signer = signer_of(alloc, rule, rule)?;
+    if both_step(rt, &signer, &mut passes, &events)? {
+        Some(settled(signer, passes))
+    } else {
+        Some(0)
     }
 }
 
