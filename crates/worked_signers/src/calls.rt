@@ -67,6 +67,14 @@ impl CallAnswer {
             _ => None,
         }
     }
+
+    /// Whether the call is over.
+    fn is_over(&self) -> bool {
+        match self {
+            CallAnswer::Done | CallAnswer::Refused(_) => true,
+            CallAnswer::Pending | CallAnswer::OutOfMemory => false,
+        }
+    }
 }
 
 impl CallPoll {
@@ -78,12 +86,8 @@ impl CallPoll {
         }
     }
 
-    /// Whether the call is over.
-    fn is_over(&self) -> bool {
-        match self.answer {
-            CallAnswer::Done | CallAnswer::Refused(_) => true,
-            CallAnswer::Pending | CallAnswer::OutOfMemory => false,
-        }
+    fn into_answer(self) -> CallAnswer {
+        self.answer
     }
 }
 
@@ -141,10 +145,12 @@ where
 
     /// Polls the call of this number, and tells whether it has to wait and nobody is woken.
     pub(crate) fn waits(&mut self, number: usize, req: &mut Parts, now: Timestamp) -> bool {
-        match self.poll(number, req, now) {
-            Some(polled) => polled.is_waiting(),
-            None => false,
-        }
+        let Some(polled) = self.poll(number, req, now) else {
+            return false;
+        };
+        let waits = polled.is_waiting();
+        drop(polled);
+        waits
     }
 
     /// Polls the call of this number until it is over, four times at the most. One of the polls may name the
@@ -157,16 +163,41 @@ where
     ) -> Option<CallPoll> {
         let mut wake = None;
         for _ in 0..4 {
-            let polled = self.poll(number, req, now)?;
+            let mut polled = self.poll(number, req, now)?;
             wake = wake.or(polled.wake);
-            if polled.is_over() {
-                return Some(CallPoll {
-                    answer: polled.answer,
-                    wake,
-                });
+            if polled.answer.is_over() {
+                polled.wake = wake;
+                return Some(polled);
             }
+            drop(polled);
         }
         None
+    }
+
+    /// Begins a call and polls it until it is over. None where it is not begun, or does not end.
+    fn begin_and_finish(
+        &mut self,
+        alloc: Global,
+        req: &mut Parts,
+        second: i64,
+    ) -> Option<CallAnswer> {
+        let now = Timestamp::from_second(alloc, second).ok()?;
+        let number = self.begin(alloc, 0, req, None).ok()?;
+        let over = self.finish(number, req, now)?;
+        Some(over.into_answer())
+    }
+
+    /// Begins a call and polls it once, and tells whether it has to wait and nobody is woken.
+    pub(crate) fn begin_and_wait(
+        &mut self,
+        alloc: Global,
+        req: &mut Parts,
+        now: Timestamp,
+    ) -> bool {
+        match self.begin(alloc, 0, req, None).ok() {
+            Some(number) => self.waits(number, req, now),
+            None => false,
+        }
     }
 
     /// Gives the call of this number up, and returns the number of the call that has its turn by this.
@@ -184,13 +215,13 @@ fn number_of(call: Option<CallId>) -> Option<usize> {
     }
 }
 
-/// Signs one request with a signer that has begun no call. None where the call is not begun, or does not
+/// Signs one request at this second with a signer that has begun no call. None where the call is not begun, or does not
 /// end.
 pub(crate) fn signed<P, S>(
     alloc: Global,
     signer: Signer<P, S>,
     req: &mut Parts,
-    now: Timestamp,
+    second: i64,
 ) -> Option<CallAnswer>
 where
     P: ProvideCredential,
@@ -199,11 +230,9 @@ where
     requires { signer.begun ≡ 0 }
 {
     let mut calls = Calls::new(alloc, signer);
-    let Ok(number) = calls.begin(alloc, 0, req, None) else {
-        return None;
-    };
-    let over = calls.finish(number, req, now)?;
-    Some(over.answer)
+    let answer = calls.begin_and_finish(alloc, req, second);
+    drop(calls);
+    answer
 }
 
 /// The state of the call of this number, which leaves none at its place.

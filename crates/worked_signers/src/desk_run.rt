@@ -1,8 +1,12 @@
 //! Three calls on a cold cache, run as one list of events, and each refusal of an adding call.
+ghost use Rattle.std.specs.Prelude.{◌≡◌, []};
+ghost use Rattle.desk_parts.specs.Tables.{setup_of};
+
 use sign_base::NoMemory;
-use sign_desk::{AddError, Desk, Event, Loader};
+use sign_desk::{AddError, Desk, Event, Loader, Reply};
 use signctl_format::{Item, ScriptCredential, ScriptRule, ScriptVersion, push_reply, read_line};
 use std::alloc::Global;
+use std::process::Abort;
 
 const EVENTS: [&str; 9] = [
     "begin 0 1 - GET https://e.x/ 1.1",
@@ -23,32 +27,66 @@ const REPLIES: &str = "begun\nbegun\nbegun\nask 0\npending\npending\nsign 1 wake
 fn events(alloc: Global) -> Result<Vec<Event<ScriptCredential>>, NoMemory<()>> {
     let mut events = Vec::new(alloc);
     for line in EVENTS {
-        if let Ok(Item::Event(event)) = read_line(alloc, ScriptVersion::One, line.as_bytes()) {
-            events.push(event.into_event())?;
+        if let Some(event) = event_of(alloc, line) {
+            events.push(event)?;
         }
     }
     Ok(events)
 }
 
+fn event_of(alloc: Global, line: &str) -> Option<Event<ScriptCredential>> {
+    match read_line(alloc, ScriptVersion::One, line.as_bytes()) {
+        Ok(Item::Event(event)) => Some(event.into_event()),
+        _ => None,
+    }
+}
+
 /// A desk with one cache, one rule and one handle.
 fn desk_of_one_handle(alloc: Global) -> Option<Desk<ScriptCredential, ScriptRule>> {
     let mut desk = Desk::new(alloc);
+    let Some(()) = add_one_of_each(&mut desk) else {
+        drop(desk);
+        return None;
+    };
+    Some(desk)
+}
+
+fn add_one_of_each(desk: &mut Desk<ScriptCredential, ScriptRule>) -> Option<()>
+    requires { setup_of desk.old ≡ record { loaders = []; rules = []; handles = [] } }
+{
     desk.add_cache(Loader::Single).ok()?;
     desk.add_rule(ScriptRule::Now).ok()?;
     desk.add_handle(0, 0).ok()?;
-    Some(desk)
+    Some(())
 }
 
 /// What a desk with one handle replies to the events, a line each.
 fn replies(alloc: Global) -> Option<Vec<u8>> {
     let mut desk = desk_of_one_handle(alloc)?;
-    let replies = desk.run(events(alloc).ok()?.as_slice()).ok()?;
+    let text = replies_of(alloc, &mut desk);
+    drop(desk);
+    text
+}
+
+fn replies_of(alloc: Global, desk: &mut Desk<ScriptCredential, ScriptRule>) -> Option<Vec<u8>> {
+    let events = events(alloc).ok()?;
+    let replies = desk.run(events.as_slice()).ok();
+    drop(events);
+    lines_of(alloc, replies?.as_slice())
+}
+
+fn lines_of(alloc: Global, replies: &[Reply<ScriptCredential>]) -> Option<Vec<u8>> {
     let mut text = Vec::new(alloc);
-    for reply in &replies {
-        push_reply(&mut text, reply).ok()?;
+    push_lines(&mut text, replies)?;
+    Some(text)
+}
+
+fn push_lines(text: &mut Vec<u8>, replies: &[Reply<ScriptCredential>]) -> Option<()> {
+    for reply in replies {
+        push_reply(text, reply).ok()?;
         text.extend_from_slice(b"\n").ok()?;
     }
-    Some(text)
+    Some(())
 }
 
 #[test]
@@ -84,12 +122,22 @@ fn with_rule(desk: &mut Desk<ScriptCredential, ScriptRule>) -> Option<u32> {
 #[test]
 fn adding_is_refused_with_its_cause(rt: HostRuntime) {
     let mut desk = Desk::new(rt.alloc());
-    assert!(rt; with_handle(&mut desk) == Some(Err(AddError::NoCache(0))));
-    assert!(rt; with_cache(&mut desk) == Some(Ok(0)));
-    assert!(rt; with_handle(&mut desk) == Some(Err(AddError::NoRule(0))));
-    assert!(rt; with_rule(&mut desk) == Some(0));
-    assert!(rt; with_handle(&mut desk) == Some(Ok(0)));
-    let events = events(rt.alloc()).expect(&rt, "memory");
-    let _begun = desk.step(events.as_slice().first().expect(&rt, "there is a begin"));
+    adds_in_order(&rt, &mut desk);
+    begins_a_call(&rt, rt.alloc(), &mut desk);
     assert!(rt; with_cache(&mut desk) == Some(Err(AddError::Late)));
+    drop(desk);
+}
+
+/// A handle is added where there is a cache and a rule.
+fn adds_in_order(rt: &impl Abort, desk: &mut Desk<ScriptCredential, ScriptRule>) {
+    assert!(rt; with_handle(desk) == Some(Err(AddError::NoCache(0))));
+    assert!(rt; with_cache(desk) == Some(Ok(0)));
+    assert!(rt; with_handle(desk) == Some(Err(AddError::NoRule(0))));
+    assert!(rt; with_rule(desk) == Some(0));
+    assert!(rt; with_handle(desk) == Some(Ok(0)));
+}
+
+fn begins_a_call(rt: &impl Abort, alloc: Global, desk: &mut Desk<ScriptCredential, ScriptRule>) {
+    let events = events(alloc).expect(rt, "memory");
+    drop(desk.step(events.as_slice().first().expect(rt, "there is a begin")));
 }

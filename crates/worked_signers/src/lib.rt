@@ -6,6 +6,8 @@ mod calls;
 #[cfg(test)]
 mod desk_run;
 #[cfg(test)]
+mod heads;
+#[cfg(test)]
 mod one_signer;
 #[cfg(test)]
 mod signer_calls;

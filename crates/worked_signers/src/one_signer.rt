@@ -1,9 +1,11 @@
 //! A signer of one's own on the desk: its credential, its rule, and calls that are driven from their
 //! begin to their signed head. Its provider and its service answer at once.
-ghost use Rattle.std.specs.Prelude.{int_lt};
+ghost use Rattle.std.specs.Prelude.{◌≡◌, [], int_lt};
+ghost use Rattle.desk_parts.specs.Tables.{setup_of};
 
+use crate::heads::{plain, push_header};
 use credentials::{DeadlineRule, SigningCredential};
-use sign_base::{Field, Fields, Head, NoMemory, Octets, Timestamp, Version};
+use sign_base::{Head, NoMemory, Octets, Timestamp};
 use sign_desk::{Answer, Desk, Event, Loader, Reply, Verdict};
 use std::alloc::Global;
 use std::time::Duration;
@@ -82,26 +84,10 @@ impl Keys {
 
 /// The head that the service makes of a path: it names the key in a header.
 fn made(alloc: Global, path: &str, key: &Key) -> Result<Head, NoMemory<()>> {
-    let mut head = plain(alloc, path)?;
     let value = format!(in alloc; "key {}", key.number)?;
-    let field = Field {
-        name: Octets::from_slice(alloc, b"authorization")?,
-        value: Octets::from_slice(alloc, value.as_bytes())?,
-    };
-    match head.headers.push(field) {
-        Ok(()) => Ok(head),
-        Err(_) => Err(NoMemory { back: () }),
-    }
-}
-
-/// The head of a request that is not signed yet.
-fn plain(alloc: Global, path: &str) -> Result<Head, NoMemory<()>> {
-    Ok(Head {
-        method: Octets::from_slice(alloc, b"GET")?,
-        uri: Octets::from_slice(alloc, path.as_bytes())?,
-        version: Version::V11,
-        headers: Fields::new(alloc),
-    })
+    let mut head = plain(alloc, path.as_bytes())?;
+    push_header(alloc, b"authorization", value.as_bytes(), &mut head)?;
+    Ok(head)
 }
 
 /// The last reply to a call that was driven.
@@ -119,50 +105,89 @@ impl KeySigner {
     /// Begins a call and drives it. Where an allocation fails the call is given up, so that none stays
     /// behind.
     fn sign(&mut self, call: CallId, path: &str, now: Timestamp) -> Driven {
-        let begin = Event::Begin {
+        let begun = self.begin(call, path)?;
+        if !matches!(begun, Reply::Begun) {
+            return Ok(begun);
+        }
+        drop(begun);
+        self.drive_or_give_up(call, path, now)
+    }
+
+    fn begin(&mut self, call: CallId, path: &str) -> Driven {
+        let head = plain(self.alloc, path.as_bytes())?;
+        Ok(self.step(Event::Begin {
             call,
-            head: plain(self.alloc, path)?,
+            head,
             expires_in: Some(Duration::from_secs(60)),
-        };
-        match self.desk.step(&begin) {
-            Reply::Begun => {}
-            other => return Ok(other),
+        }))
+    }
+
+    /// Ends in `drop`, which is one call: the drops of an event's parts stand in no other body then.
+    fn step(&mut self, event: Event<Key>) -> Reply<Key> {
+        let reply = self.desk.step(&event);
+        drop(event);
+        reply
+    }
+
+    fn drive_or_give_up(&mut self, call: CallId, path: &str, now: Timestamp) -> Driven {
+        let driven = self.drive(call, path, now);
+        if !is_out_of_memory(&driven) {
+            return driven;
         }
-        match self.drive(call, path, now) {
-            Ok(Reply::OutOfMemory) | Err(_) => {
-                let _given_up = self.desk.step(&Event::Cancel { call });
-                Err(NoMemory { back: () })
-            }
-            ended => ended,
-        }
+        drop(driven);
+        drop(self.step(Event::Cancel { call }));
+        Err(NoMemory { back: () })
     }
 
     /// Drives a begun call until it is signed or refused: the provider is asked only where the desk
     /// says so, and the service signs with what the desk hands out.
     fn drive(&mut self, call: CallId, path: &str, now: Timestamp) -> Driven {
-        let mut reply = self.desk.step(&Event::Poll { call, now });
-        if let Reply::Ask { .. } = reply {
-            let answer = self.keys.answer(now);
-            reply = self.desk.step(&Event::Provided { call, now, answer });
+        let reply = self.load(call, now);
+        let Some(key) = key_of(&reply) else {
+            return Ok(reply);
+        };
+        drop(reply);
+        self.put_signed(call, path, &key)
+    }
+
+    fn load(&mut self, call: CallId, now: Timestamp) -> Reply<Key> {
+        let reply = self.step(Event::Poll { call, now });
+        if !matches!(reply, Reply::Ask { .. }) {
+            return reply;
         }
-        match reply {
-            Reply::Sign { credential, .. } => Ok(
-                self.desk.step(&Event::Signed {
-                    call,
-                    answer: Verdict::Accepted(made(self.alloc, path, &credential)?),
-                }),
-            ),
-            other => Ok(other),
-        }
+        drop(reply);
+        let answer = self.keys.answer(now);
+        self.step(Event::Provided { call, now, answer })
+    }
+
+    fn put_signed(&mut self, call: CallId, path: &str, key: &Key) -> Driven {
+        let answer = Verdict::Accepted(made(self.alloc, path, key)?);
+        Ok(self.step(Event::Signed { call, answer }))
+    }
+}
+
+/// The key with which the service is to sign.
+fn key_of(reply: &Reply<Key>) -> Option<Key> {
+    match reply {
+        Reply::Sign { credential, .. } => Some(*credential),
+        _ => None,
+    }
+}
+
+fn is_out_of_memory(driven: &Driven) -> bool {
+    match driven {
+        Ok(Reply::OutOfMemory) | Err(_) => true,
+        Ok(_) => false,
     }
 }
 
 /// The signer's one cache, rule and handle.
 fn key_signer(alloc: Global) -> Option<KeySigner> {
     let mut desk = Desk::new(alloc);
-    desk.add_cache(Loader::Single).ok()?;
-    desk.add_rule(ToTheEnd).ok()?;
-    desk.add_handle(0, 0).ok()?;
+    let Some(()) = add_one_of_each(&mut desk) else {
+        drop(desk);
+        return None;
+    };
     let keys = Keys {
         lifetime: Duration::from_secs(600),
         asked: 0,
@@ -170,17 +195,27 @@ fn key_signer(alloc: Global) -> Option<KeySigner> {
     Some(KeySigner { alloc, desk, keys })
 }
 
+fn add_one_of_each(desk: &mut Desk<Key, ToTheEnd>) -> Option<()>
+    requires { setup_of desk.old ≡ record { loaders = []; rules = []; handles = [] } }
+{
+    desk.add_cache(Loader::Single).ok()?;
+    desk.add_rule(ToTheEnd).ok()?;
+    desk.add_handle(0, 0).ok()?;
+    Some(())
+}
+
 /// The first header of the head that a call at this second comes to.
 fn signed(signer: &mut KeySigner, number: u64, second: i64) -> Option<Octets> {
     let now = Timestamp::from_second(signer.alloc, second).ok()?;
-    match signer.sign(CallId { handle: 0, number }, "/a", now).ok()? {
-        Reply::Done { head } => head
-            .headers
-            .as_slice()
-            .first()?
-            .value
-            .try_clone(signer.alloc)
-            .ok(),
+    let reply = signer.sign(CallId { handle: 0, number }, "/a", now).ok()?;
+    let value = first_header(signer.alloc, &reply);
+    drop(reply);
+    value
+}
+
+fn first_header(alloc: Global, reply: &Reply<Key>) -> Option<Octets> {
+    match reply {
+        Reply::Done { head } => head.headers.as_slice().first()?.value.try_clone(alloc).ok(),
         _ => None,
     }
 }
@@ -199,4 +234,5 @@ fn a_key_is_asked_for_once_while_it_lasts(rt: HostRuntime) {
         assert!(rt; value.as_slice() == header.as_bytes() && signer.keys.asked == asked);
     }
     assert!(rt; signer.desk.live() == 0);
+    drop(signer);
 }

@@ -5,16 +5,15 @@ ghost use Rattle.worked_signers.specs.Usable.{is_before};
 ghost use Rattle.credentials.specs.declared.polled.Polled.{Polled};
 ghost use Rattle.credentials.specs.Deadline.{operation_end};
 
-use crate::calls::{CallAnswer, CallPoll, Calls, signed};
+use crate::calls::{CallAnswer, Calls, signed};
+use crate::heads::{field, plain};
 use credentials::{
     Context, DeadlineRule, FileRead, NoopCommandExecute, NoopHttpSend, Polled, ProvideCredential,
     ProvideCredentialChain, Providers, SignRequest, SigningCredential, StaticEnv, operation_end,
 };
 use hmac_core::hash;
 use http::request::Parts;
-use sign_base::{
-    Error, ErrorKind, Field, Fields, Head, NoMemory, Octets, Redact, Timestamp, Version,
-};
+use sign_base::{Error, ErrorKind, Field, Head, NoMemory, Redact, Timestamp};
 use sign_request::{SigningRequest, parts_of};
 use signer::Signer;
 use std::alloc::Global;
@@ -240,31 +239,38 @@ fn key_of_environment(alloc: Global, ctx: &KeyContext) -> Result<Option<AccessKe
 
 /// The key of a file, where the text is one.
 fn key_of_text(alloc: Global, text: &[u8]) -> Result<Option<AccessKey>, NoMemory<()>> {
-    let Ok(text) = std::str::from_utf8(text) else {
+    let Some((id, secret, second)) = words_of_key(text) else {
         return Ok(None);
     };
-    let mut words = text.split(' ');
-    let (Some(id), Some(secret), Some(second), None) = (
-        words.next(),
-        words.next(),
-        words.next(),
-        words.next(),
-    ) else {
+    let Some(expires) = moment_of_second(alloc, second)? else {
         return Ok(None);
-    };
-    let Ok(second) = second.parse::<i64>() else {
-        return Ok(None);
-    };
-    let expires = match Timestamp::from_second(alloc, second) {
-        Ok(moment) => moment,
-        Err(error) if error.kind() == ErrorKind::OutOfMemory => return Err(NoMemory { back: () }),
-        Err(_) => return Ok(None),
     };
     Ok(Some(AccessKey {
         id: String::from_str(alloc, id)?,
         secret: String::from_str(alloc, secret)?,
         expires: Some(expires),
     }))
+}
+
+/// The id, the secret and the second of a key, between spaces.
+fn words_of_key(text: &[u8]) -> Option<(&str, &str, i64)> {
+    let text = std::str::from_utf8(text).ok()?;
+    let mut words = text.split(' ');
+    let (id, secret) = (words.next()?, words.next()?);
+    let second = words.next()?.parse::<i64>().ok()?;
+    match words.next() {
+        None => Some((id, secret, second)),
+        Some(_) => None,
+    }
+}
+
+/// The moment of a second, where it is one.
+fn moment_of_second(alloc: Global, second: i64) -> Result<Option<Timestamp>, NoMemory<()>> {
+    match Timestamp::from_second(alloc, second) {
+        Ok(moment) => Ok(Some(moment)),
+        Err(error) if error.kind() == ErrorKind::OutOfMemory => Err(NoMemory { back: () }),
+        Err(_) => Ok(None),
+    }
 }
 
 /// Signs by an HMAC of the request's canonical texts, in the header `authorization`.
@@ -339,34 +345,46 @@ impl SignRequest for HeaderHmac {
 
 /// The header that signs this head.
 fn authorization(alloc: Global, key: &AccessKey, head: &Head) -> Result<Field, Error> {
-    let parts = parts_of(alloc, head)?;
-    let text = canonical_text(alloc, SigningRequest::build(alloc, &parts)?)?;
+    let text = signed_text(alloc, head)?;
     Ok(header(alloc, key, text.as_bytes())?)
 }
 
+fn signed_text(alloc: Global, head: &Head) -> Result<String, Error> {
+    let mut view = view_of(alloc, head)?;
+    let text = canonical_text(alloc, &mut view);
+    drop(view);
+    Ok(text?)
+}
+
+fn view_of(alloc: Global, head: &Head) -> Result<SigningRequest, Error> {
+    let parts = parts_of(alloc, head)?;
+    let view = SigningRequest::build(alloc, &parts);
+    drop(parts);
+    view
+}
+
 /// What is signed of a request: method, authority, path and sorted query, a line each.
-fn canonical_text(alloc: Global, view: SigningRequest) -> Result<String, NoMemory<()>> {
-    let method = view.method;
-    let authority = view.authority;
-    let path = view.path;
-    let query = SigningRequest::query_to_string(alloc, view.query, "=", "&").map_err(|_| NoMemory {
-        back: (),
-    })?;
-    Ok(format!(in alloc;
-        "{}\n{}\n{path}\n{query}\n",
-        method.as_str(),
-        authority.as_str()
-    )?)
+fn canonical_text(alloc: Global, view: &mut SigningRequest) -> Result<String, NoMemory<()>> {
+    let query = std::mem::replace(&mut view.query, Vec::new(alloc));
+    let query = query_text(alloc, query)?;
+    lines_of(alloc, view, query.as_str())
+}
+
+/// The pairs of a query as one text, sorted.
+fn query_text(alloc: Global, query: Vec<(String, String)>) -> Result<String, NoMemory<()>> {
+    SigningRequest::query_to_string(alloc, query, "=", "&").map_err(|_| NoMemory { back: () })
+}
+
+fn lines_of(alloc: Global, view: &SigningRequest, query: &str) -> Result<String, NoMemory<()>> {
+    let (method, authority, path) = (view.method.as_str(), view.authority.as_str(), &view.path);
+    Ok(format!(in alloc; "{method}\n{authority}\n{path}\n{query}\n")?)
 }
 
 /// The header with the key's id and the HMAC of the text under its secret.
 fn header(alloc: Global, key: &AccessKey, text: &[u8]) -> Result<Field, NoMemory<()>> {
     let hmac = hash::hex_hmac_sha256(alloc, key.secret.as_bytes(), text)?;
     let value = format!(in alloc; "HMAC {}:{hmac}", key.id)?;
-    Ok(Field {
-        name: Octets::from_slice(alloc, b"authorization")?,
-        value: Octets::from_slice(alloc, value.as_bytes())?,
-    })
+    field(alloc, b"authorization", value.as_bytes())
 }
 
 /// A context with the file and no variables.
@@ -396,19 +414,9 @@ const URI: &str = "https://example.com/a%2Fb?y=2&x=1";
 const SIGNED_BY_ME: &str =
     "HMAC me:e359a741623dc63f085e2aa8af69a333a750346530903cdce9ff1a89a0f82f94";
 
-/// A head to be signed.
-fn head(alloc: Global) -> Result<Head, NoMemory<()>> {
-    Ok(Head {
-        method: Octets::from_slice(alloc, b"GET")?,
-        uri: Octets::from_slice(alloc, URI.as_bytes())?,
-        version: Version::V11,
-        headers: Fields::new(alloc),
-    })
-}
-
 /// A request to be signed.
 fn request(alloc: Global) -> Option<Parts> {
-    parts_of(alloc, &head(alloc).ok()?).ok()
+    parts_of(alloc, &plain(alloc, URI.as_bytes()).ok()?).ok()
 }
 
 fn key(alloc: Global) -> Option<AccessKey> {
@@ -421,11 +429,23 @@ fn key(alloc: Global) -> Option<AccessKey> {
 
 /// What the service puts on a head.
 fn signed_head(alloc: Global) -> Option<Head> {
-    let mut work = HmacWork { key: key(alloc)? };
-    let mut candidate = head(alloc).ok()?;
-    match HeaderHmac.poll_sign(alloc, &key_context(alloc), &mut work, &mut candidate) {
-        Polled::Ready(()) => Some(candidate),
-        _ => None,
+    let mut candidate = plain(alloc, URI.as_bytes()).ok()?;
+    if is_ready(alloc, HmacWork { key: key(alloc)? }, &mut candidate) {
+        Some(candidate)
+    } else {
+        None
+    }
+}
+
+/// Whether the service has signed the candidate.
+fn is_ready(alloc: Global, work: HmacWork, candidate: &mut Head) -> bool {
+    let (mut work, ctx) = (work, key_context(alloc));
+    let polled = HeaderHmac.poll_sign(alloc, &ctx, &mut work, candidate);
+    drop(ctx);
+    drop(work);
+    match polled {
+        Polled::Ready(()) => true,
+        _ => false,
     }
 }
 
@@ -441,12 +461,33 @@ fn heads_are_signed(rt: HostRuntime) {
 /// The id of the key that a chain finds at its second poll.
 fn second_found(alloc: Global) -> Option<String> {
     let ctx = key_context(alloc);
+    let found = second_found_in(alloc, &ctx);
+    drop(ctx);
+    found
+}
+
+fn second_found_in(alloc: Global, ctx: &KeyContext) -> Option<String> {
     let chain = environment_then_file(alloc, "/keys").ok()?;
-    let mut load = chain.provide_credential(alloc, &ctx).ok()?;
-    let Polled::Pending = chain.poll_load(alloc, &ctx, &mut load) else {
+    let polled = second_polled(alloc, ctx, &chain);
+    drop(chain);
+    id_of(polled?)
+}
+
+/// The answer of a second poll, where the first is pending.
+fn second_polled(
+    alloc: Global,
+    ctx: &KeyContext,
+    chain: &ProvideCredentialChain<KeyProvider>,
+) -> Option<Polled<Option<AccessKey>>> {
+    let mut load = chain.provide_credential(alloc, ctx).ok()?;
+    let Polled::Pending = chain.poll_load(alloc, ctx, &mut load) else {
         return None;
     };
-    match chain.poll_load(alloc, &ctx, &mut load) {
+    Some(chain.poll_load(alloc, ctx, &mut load))
+}
+
+fn id_of(polled: Polled<Option<AccessKey>>) -> Option<String> {
+    match polled {
         Polled::Ready(Some(key)) => Some(key.id),
         _ => None,
     }
@@ -465,10 +506,21 @@ fn the_chain_goes_on_to_the_file(rt: HostRuntime) {
 fn eight_calls_wait_for_one_load(rt: HostRuntime) {
     let signer = key_signer(rt.alloc(), "/keys").expect(&rt, "memory");
     let mut calls = Calls::new(rt.alloc(), signer);
-    let now = Timestamp::from_second(rt.alloc(), 5).expect(&rt, "a moment");
-    let mut reqs = waiting_requests(rt.alloc(), &mut calls, now).expect(&rt, "calls that wait");
-    assert!(rt; calls.cancel(3).is_none());
-    assert!(rt; served(&mut calls, &mut reqs, now) == Some((7, None)));
+    assert!(rt; served_but_one(rt.alloc(), &mut calls) == Some((7, None)));
+    drop(calls);
+}
+
+/// Begins eight calls, gives one up that has nobody to wake, and serves the others.
+fn served_but_one(
+    alloc: Global,
+    calls: &mut Calls<KeyProvider, HeaderHmac>,
+) -> Option<(u32, Option<usize>)> {
+    let now = Timestamp::from_second(alloc, 5).ok()?;
+    let mut reqs = waiting_requests(alloc, calls, now)?;
+    match calls.cancel(3) {
+        None => served(calls, reqs.as_mut_slice(), now),
+        Some(_) => None,
+    }
 }
 
 /// Begins eight calls and polls each once, which finds that it has to wait.
@@ -478,21 +530,40 @@ fn waiting_requests(
     now: Timestamp,
 ) -> Option<Vec<Parts>> {
     let mut reqs = Vec::new(alloc);
-    for _ in 0..8 {
-        let mut req = request(alloc)?;
-        let call = calls.begin(alloc, 0, &req, None).ok()?;
-        if !calls.waits(call, &mut req, now) {
-            return None;
-        }
-        reqs.push(req).ok()?;
-    }
+    push_waiting(alloc, calls, now, &mut reqs)?;
     Some(reqs)
+}
+
+fn push_waiting(
+    alloc: Global,
+    calls: &mut Calls<KeyProvider, HeaderHmac>,
+    now: Timestamp,
+    reqs: &mut Vec<Parts>,
+) -> Option<()> {
+    for _ in 0..8 {
+        reqs.push(waiting_request(alloc, calls, now)?).ok()?;
+    }
+    Some(())
+}
+
+fn waiting_request(
+    alloc: Global,
+    calls: &mut Calls<KeyProvider, HeaderHmac>,
+    now: Timestamp,
+) -> Option<Parts> {
+    let mut req = request(alloc)?;
+    if calls.begin_and_wait(alloc, &mut req, now) {
+        Some(req)
+    } else {
+        drop(req);
+        None
+    }
 }
 
 /// Serves call 0 and whoever is woken, seven calls at the most: how many were signed, and who is left.
 fn served(
     calls: &mut Calls<KeyProvider, HeaderHmac>,
-    reqs: &mut Vec<Parts>,
+    reqs: &mut [Parts],
     now: Timestamp,
 ) -> Option<(u32, Option<usize>)> {
     let mut turn = Some(0);
@@ -501,8 +572,10 @@ fn served(
             return Some((signed, None));
         };
         let req = reqs.get_mut(call)?;
-        let CallPoll { answer, wake } = calls.finish(call, req, now)?;
-        if !is_signed(answer, req) {
+        let over = calls.finish(call, req, now)?;
+        let (wake, is_signed) = (over.wake, is_signed(&over.answer, req));
+        drop(over);
+        if !is_signed {
             return None;
         }
         turn = wake;
@@ -511,7 +584,7 @@ fn served(
 }
 
 /// Whether the call is done, and the request has the header.
-fn is_signed(answer: CallAnswer, req: &Parts) -> bool {
+fn is_signed(answer: &CallAnswer, req: &Parts) -> bool {
     match (answer, req.headers.get("authorization")) {
         (CallAnswer::Done, Some(value)) => value.as_bytes() == SIGNED_BY_ME.as_bytes(),
         _ => false,
@@ -520,9 +593,17 @@ fn is_signed(answer: CallAnswer, req: &Parts) -> bool {
 
 /// The text of the error of a call for which no provider has a key.
 fn error_text(alloc: Global) -> Option<String> {
-    let now = Timestamp::from_second(alloc, 5).ok()?;
     let mut req = request(alloc)?;
-    let answer = signed(alloc, key_signer(alloc, "/no/keys")?, &mut req, now)?;
+    let answer = answer_without_key(alloc, &mut req);
+    drop(req);
+    refusal_text(alloc, answer?)
+}
+
+fn answer_without_key(alloc: Global, req: &mut Parts) -> Option<CallAnswer> {
+    signed(alloc, key_signer(alloc, "/no/keys")?, req, 5)
+}
+
+fn refusal_text(alloc: Global, answer: CallAnswer) -> Option<String> {
     let error = answer.into_error(alloc, AccessKey::NAME)?;
     format!(in alloc; "{error}").ok()
 }

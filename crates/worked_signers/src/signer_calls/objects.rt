@@ -2,10 +2,11 @@
 ghost use Rattle.std.specs.Prelude.{true, ⊤};
 ghost use Rattle.credentials.specs.Deadline.{operation_end};
 
+use crate::heads::push_header;
 use credentials::{
     DeadlineRule, Polled, ProvideCredential, SignRequest, SigningCredential, operation_end,
 };
-use sign_base::{Error, Field, Head, NoMemory, Octets, Timestamp, Version};
+use sign_base::{Error, Head, NoMemory, Octets, Timestamp, Version};
 use std::alloc::Global;
 use std::cell::Cell;
 use std::time::Duration;
@@ -222,15 +223,10 @@ fn stamped(
     candidate: &mut Head,
 ) -> Result<(), NoMemory<()>> {
     match stamp {
-        Stamp::Header | Stamp::HeaderLater | Stamp::HeaderWithoutMemory => {
-            let value = format!(in alloc; "{}", key.load)?;
-            push_header(alloc, b"load", value.as_bytes(), candidate)
-        }
-        Stamp::MethodAndVersion => {
-            candidate.method = Octets::from_slice(alloc, b"PUT")?;
-            candidate.version = Version::V2;
-            Ok(())
-        }
+        Stamp::Header | Stamp::HeaderLater | Stamp::HeaderWithoutMemory => push_load(
+            alloc, key, candidate,
+        ),
+        Stamp::MethodAndVersion => set_method_and_version(alloc, candidate),
         Stamp::Uri => set_uri(alloc, "https://e.x/b?c", candidate),
         Stamp::Colon => set_uri(alloc, ": ", candidate),
         Stamp::SpaceInUri => set_uri(alloc, "https://e.x/ 5551234", candidate),
@@ -238,23 +234,19 @@ fn stamped(
     }
 }
 
-fn set_uri(alloc: Global, uri: &str, candidate: &mut Head) -> Result<(), NoMemory<()>> {
-    candidate.uri = Octets::from_slice(alloc, uri.as_bytes())?;
+/// Puts the number of the key's load into a header.
+fn push_load(alloc: Global, key: Key, candidate: &mut Head) -> Result<(), NoMemory<()>> {
+    let value = format!(in alloc; "{}", key.load)?;
+    push_header(alloc, b"load", value.as_bytes(), candidate)
+}
+
+fn set_method_and_version(alloc: Global, candidate: &mut Head) -> Result<(), NoMemory<()>> {
+    candidate.method = Octets::from_slice(alloc, b"PUT")?;
+    candidate.version = Version::V2;
     Ok(())
 }
 
-pub(crate) fn push_header(
-    alloc: Global,
-    name: &[u8],
-    value: &[u8],
-    candidate: &mut Head,
-) -> Result<(), NoMemory<()>> {
-    let field = Field {
-        name: Octets::from_slice(alloc, name)?,
-        value: Octets::from_slice(alloc, value)?,
-    };
-    match candidate.headers.push(field) {
-        Ok(()) => Ok(()),
-        Err(_) => Err(NoMemory { back: () }),
-    }
+fn set_uri(alloc: Global, uri: &str, candidate: &mut Head) -> Result<(), NoMemory<()>> {
+    candidate.uri = Octets::from_slice(alloc, uri.as_bytes())?;
+    Ok(())
 }

@@ -1,8 +1,7 @@
 //! Eight calls on an empty cache, where memory is refused and each step is tried once more.
 use super::objects::{Source, Stamp};
-use super::{request, signer_of};
-use crate::calls::{CallAnswer, CallPoll, Calls};
-use credentials::Providers;
+use super::{calls_of, request};
+use crate::calls::{CallAnswer, Calls};
 use http::request::Parts;
 use sign_base::Timestamp;
 use std::alloc::Global;
@@ -24,22 +23,30 @@ fn all_wait(
     now: Timestamp,
 ) -> bool {
     for req in reqs.iter_mut() {
-        let call = match calls.begin(alloc, 0, req, None) {
-            Ok(call) => Ok(call),
-            Err(_) => calls.begin(alloc, 0, req, None),
-        };
-        let Ok(call) = call else {
-            return false;
-        };
-        if !calls.waits(call, req, now) && !calls.waits(call, req, now) {
+        if !waits(alloc, calls, req, now) {
             return false;
         }
     }
     true
 }
 
+fn waits(alloc: Global, calls: &mut Calls<Source, Stamp>, req: &mut Parts, now: Timestamp) -> bool {
+    match begun(alloc, calls, req) {
+        Some(call) => calls.waits(call, req, now) || calls.waits(call, req, now),
+        None => false,
+    }
+}
+
+/// The number of a call that is begun at the first or at the second try.
+fn begun(alloc: Global, calls: &mut Calls<Source, Stamp>, req: &Parts) -> Option<usize> {
+    match calls.begin(alloc, 0, req, None).ok() {
+        None => calls.begin(alloc, 0, req, None).ok(),
+        call => call,
+    }
+}
+
 /// Whether the call is done, and the request has the key of this load.
-fn is_signed(answer: CallAnswer, req: &Parts, load: &[u8]) -> bool {
+fn is_signed(answer: &CallAnswer, req: &Parts, load: &[u8]) -> bool {
     match (answer, req.headers.get("load")) {
         (CallAnswer::Done, Some(value)) => value.as_bytes() == load,
         _ => false,
@@ -49,12 +56,39 @@ fn is_signed(answer: CallAnswer, req: &Parts, load: &[u8]) -> bool {
 /// How many calls are signed with the key of this load. None where an allocation failed before the first call.
 fn signed_calls(alloc: Global, source: Source, load: &[u8]) -> Option<u32> {
     let mut reqs = requests(alloc)?;
+    let signed = signed_requests(alloc, source, reqs.as_mut_slice(), load);
+    drop(reqs);
+    signed
+}
+
+/// The same of these requests.
+fn signed_requests(alloc: Global, source: Source, reqs: &mut [Parts], load: &[u8]) -> Option<u32> {
+    let mut calls = calls_of(alloc, source, Stamp::Header)?;
+    let signed = signed_by(alloc, &mut calls, reqs, load);
+    drop(calls);
+    signed
+}
+
+fn signed_by(
+    alloc: Global,
+    calls: &mut Calls<Source, Stamp>,
+    reqs: &mut [Parts],
+    load: &[u8],
+) -> Option<u32> {
     let now = Timestamp::from_nanos(5_000_000_000)?;
-    let signer = signer_of(alloc, Providers::Single(source), Stamp::Header)?;
-    let mut calls = Calls::new(alloc, signer);
-    if !all_wait(alloc, &mut calls, reqs.as_mut_slice(), now) {
+    if !all_wait(alloc, calls, reqs, now) {
         return Some(0);
     }
+    served(calls, reqs, now, load)
+}
+
+/// Serves the first call and whoever is woken, and counts those with the key of this load.
+fn served(
+    calls: &mut Calls<Source, Stamp>,
+    reqs: &mut [Parts],
+    now: Timestamp,
+    load: &[u8],
+) -> Option<u32> {
     let mut signed = 0u32;
     let mut turn = Some(0);
     for _ in 0..8 {
@@ -62,11 +96,12 @@ fn signed_calls(alloc: Global, source: Source, load: &[u8]) -> Option<u32> {
             break;
         };
         let req = reqs.get_mut(call)?;
-        let CallPoll { answer, wake } = calls.finish(call, req, now)?;
-        if is_signed(answer, req, load) {
+        let over = calls.finish(call, req, now)?;
+        if is_signed(&over.answer, req, load) {
             signed = signed.saturating_add(1);
         }
-        turn = wake;
+        turn = over.wake;
+        drop(over);
     }
     Some(signed)
 }
