@@ -11,7 +11,7 @@ fn undecoded(alloc: Global, text: &str) -> Option<String> {
 
 #[test]
 fn other_texts_are_no_base64(rt: HostRuntime) {
-    for text in [
+    for text in &[
         "SGkgVGhlcmU",
         "SGl=",
         "SGk*",
@@ -23,7 +23,7 @@ fn other_texts_are_no_base64(rt: HostRuntime) {
     ] {
         is_text(
             &rt,
-            undecoded(rt.alloc(), text),
+            undecoded(rt.alloc(), *text),
             "unexpected error: base64 decode failed",
         );
     }

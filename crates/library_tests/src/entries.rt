@@ -4,9 +4,10 @@ use crate::told::hides_with_stars;
 use sequential_signer::{
     Answer, Entry, Event, GrantEntry, GrantEvent, GrantReply, Made, Reply, Verdict,
 };
-use sign_base::{Head, NoMemory, Timestamp};
+use sign_base::{Head, Timestamp};
 use std::alloc::Global;
 use std::fmt;
+use std::process::Abort;
 use wake_lock::CallId;
 
 /// A credential whose author hides it.
@@ -28,31 +29,29 @@ const CALL: CallId = CallId {
 
 const HEADERS: Headers<'static> = &[("authorization", b"open sesame to the cave")];
 
-fn signed(alloc: Global) -> Result<Head, NoMemory<()>> {
-    plain_head(alloc, "GET", "https://e.x/a?sig=sesame", HEADERS)
+fn signed(rt: &impl Abort, alloc: Global) -> Head {
+    plain_head(alloc, "GET", "https://e.x/a?sig=sesame", HEADERS).expect(rt, "memory")
 }
 
-fn begun(alloc: Global) -> Result<Entry<Key>, NoMemory<()>> {
-    let event = Event::Begin {
-        call: CALL,
-        head: signed(alloc)?,
-        expires_in: None,
-    };
-    let reply = Reply::Done {
-        head: signed(alloc)?,
-    };
-    Ok(Entry { event, reply })
+fn begun(head: Head, done: Head) -> Entry<Key> {
+    Entry {
+        event: Event::Begin {
+            call: CALL,
+            head,
+            expires_in: None,
+        },
+        reply: Reply::Done { head: done },
+    }
 }
 
-fn accepted(alloc: Global) -> Result<Entry<Key>, NoMemory<()>> {
-    let event = Event::Signed {
-        call: CALL,
-        answer: Verdict::Accepted(signed(alloc)?),
-    };
-    Ok(Entry {
-        event,
+fn accepted(head: Head) -> Entry<Key> {
+    Entry {
+        event: Event::Signed {
+            call: CALL,
+            answer: Verdict::Accepted(head),
+        },
         reply: Reply::Pending,
-    })
+    }
 }
 
 fn provided(now: Timestamp) -> Entry<Key> {
@@ -95,12 +94,18 @@ fn granted(now: Timestamp) -> GrantEntry<Key> {
     }
 }
 
+/// Whether an entry, which is dropped here, shows no secret.
+fn is_hidden<E: fmt::Debug + Drop>(rt: &impl Abort, alloc: Global, entry: E) {
+    hides_with_stars(rt, alloc, &entry);
+}
+
 #[test]
 fn entries_show_no_secret(rt: HostRuntime) {
     let now = Timestamp::from_nanos(7).expect(&rt, "a moment");
-    hides_with_stars(&rt, rt.alloc(), &begun(rt.alloc()));
-    hides_with_stars(&rt, rt.alloc(), &accepted(rt.alloc()));
-    hides_with_stars(&rt, rt.alloc(), &provided(now));
-    hides_with_stars(&rt, rt.alloc(), &found(now));
-    hides_with_stars(&rt, rt.alloc(), &granted(now));
+    let (head, done) = (signed(&rt, rt.alloc()), signed(&rt, rt.alloc()));
+    is_hidden(&rt, rt.alloc(), begun(head, done));
+    is_hidden(&rt, rt.alloc(), accepted(signed(&rt, rt.alloc())));
+    is_hidden(&rt, rt.alloc(), provided(now));
+    is_hidden(&rt, rt.alloc(), found(now));
+    is_hidden(&rt, rt.alloc(), granted(now));
 }

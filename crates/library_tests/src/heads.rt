@@ -1,24 +1,9 @@
 //! Plain heads of the tests.
-use sign_base::{Field, Fields, Head, NoMemory, Octets, Version};
+use sign_base::{Field, Fields, Head, Octets, Version};
 use std::alloc::Global;
 
 /// Names and values of headers.
 pub(crate) type Headers<'a> = &'a [(&'a str, &'a [u8])];
-
-fn field(alloc: Global, name: &[u8], value: &[u8]) -> Result<Field, NoMemory<()>> {
-    Ok(Field {
-        name: Octets::from_slice(alloc, name)?,
-        value: Octets::from_slice(alloc, value)?,
-    })
-}
-
-fn fields(alloc: Global, headers: Headers<'_>) -> Result<Fields, NoMemory<()>> {
-    let mut fields = Vec::new(alloc);
-    for (name, value) in headers {
-        fields.push(field(alloc, name.as_bytes(), *value)?)?;
-    }
-    Ok(Fields::from_vec(fields))
-}
 
 /// A head of this method, URI and headers.
 pub(crate) fn plain_head(
@@ -26,24 +11,33 @@ pub(crate) fn plain_head(
     method: &str,
     uri: &str,
     headers: Headers<'_>,
-) -> Result<Head, NoMemory<()>> {
-    Ok(Head {
-        method: Octets::from_slice(alloc, method.as_bytes())?,
-        uri: Octets::from_slice(alloc, uri.as_bytes())?,
+) -> Option<Head> {
+    let mut head = bare_head(alloc, method, uri)?;
+    push_headers(alloc, &mut head, headers)?;
+    Some(head)
+}
+
+fn bare_head(alloc: Global, method: &str, uri: &str) -> Option<Head> {
+    let method = Octets::from_slice(alloc, method.as_bytes()).ok()?;
+    let uri = Octets::from_slice(alloc, uri.as_bytes()).ok()?;
+    Some(Head {
+        method,
+        uri,
         version: Version::V11,
-        headers: fields(alloc, headers)?,
+        headers: Fields::from_vec(Vec::new(alloc)),
     })
 }
 
-/// Puts one header more on a head.
-pub(crate) fn push_header(
-    alloc: Global,
-    head: &mut Head,
-    name: &[u8],
-    value: &[u8],
-) -> Result<(), NoMemory<()>> {
-    match head.headers.push(field(alloc, name, value)?) {
-        Ok(()) => Ok(()),
-        Err(_) => Err(NoMemory { back: () }),
+fn push_headers(alloc: Global, head: &mut Head, headers: Headers<'_>) -> Option<()> {
+    for (name, value) in headers {
+        push_header(alloc, head, name.as_bytes(), *value)?;
     }
+    Some(())
+}
+
+/// Puts one header more on a head.
+pub(crate) fn push_header(alloc: Global, head: &mut Head, name: &[u8], value: &[u8]) -> Option<()> {
+    let name = Octets::from_slice(alloc, name).ok()?;
+    let value = Octets::from_slice(alloc, value).ok()?;
+    head.headers.push(Field { name, value }).ok()
 }

@@ -15,6 +15,8 @@ mod heads;
 #[cfg(test)]
 mod locks;
 #[cfg(test)]
+mod pairs;
+#[cfg(test)]
 mod request_tests;
 #[cfg(test)]
 mod told;

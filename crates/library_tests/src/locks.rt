@@ -57,7 +57,7 @@ fn next(lock: &mut WaitLock) -> Option<CallId> {
 
 #[test]
 fn room_can_be_taken(rt: HostRuntime) {
-    for (n, taken) in [
+    for (n, taken) in &[
         (2, true),
         (1_000, true),
         (4_294_967_296, false),
@@ -65,7 +65,7 @@ fn room_can_be_taken(rt: HostRuntime) {
         (1_000, true),
     ] {
         let mut lock = WaitLock::new(rt.alloc());
-        assert!(rt; lock.reserve(n).is_ok() == taken);
+        assert!(rt; lock.reserve(*n).is_ok() == *taken);
         assert!(rt; come(&mut lock, call(1)) == Some(Entered::Granted));
     }
 }
@@ -100,7 +100,11 @@ fn one_leaves(lock: &mut WaitLock, list: &mut Vec<u64>, number: u64) -> bool {
     let left = lock.cancel(call(number)) == Left::Waiter;
     let once = lock.cancel(call(number)) == Left::Absent;
     take(list, number);
-    left && once && lock.first() == list.first().map(|first| call(*first))
+    left && once && lock.first() == first_of(list)
+}
+
+fn first_of(list: &Vec<u64>) -> Option<CallId> {
+    Some(call(*list.first()?))
 }
 
 /// Whether so many left in this order.
@@ -121,19 +125,24 @@ fn others_are_served(lock: &mut WaitLock, list: &Vec<u64>) -> bool {
     as_they_should && next(lock).is_none() && lock.holder().is_none()
 }
 
+/// Whether all come, and leave in this order or are served.
+fn come_and_leave(lock: &mut WaitLock, list: &mut Vec<u64>, order: Order) -> bool {
+    lock.reserve(WAITERS as usize + 1).is_ok()
+        && all_come(lock)
+        && leavers_leave(lock, list, order)
+        && others_are_served(lock, list)
+}
+
 #[test]
 fn waiters_leave_in_any_order(rt: HostRuntime) {
-    for order in [
+    for order in &[
         Order::FromTheFront,
         Order::FromTheBack,
         Order::EverySecond,
         Order::Shuffled,
     ] {
-        let mut lock = WaitLock::new(rt.alloc());
         let mut list = listed(rt.alloc()).expect(&rt, "memory");
-        assert!(rt; lock.reserve(WAITERS as usize + 1).is_ok());
-        assert!(rt; all_come(&mut lock));
-        assert!(rt; leavers_leave(&mut lock, &mut list, order));
-        assert!(rt; others_are_served(&mut lock, &list));
+        let mut lock = WaitLock::new(rt.alloc());
+        assert!(rt; come_and_leave(&mut lock, &mut list, *order));
     }
 }

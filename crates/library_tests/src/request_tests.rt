@@ -15,13 +15,20 @@ use sign_request::{SigningRequest, parts_of};
 use std::alloc::Global;
 
 fn parts(alloc: Global, uri: &str, headers: Headers<'_>) -> Option<Parts> {
-    let head = plain_head(alloc, "GET", uri, headers).ok()?;
+    let head = plain_head(alloc, "GET", uri, headers)?;
     parts_of(alloc, &head).ok()
 }
 
 fn view(alloc: Global, uri: &str, headers: Headers<'_>) -> Option<SigningRequest> {
     let parts = parts(alloc, uri, headers)?;
     SigningRequest::build(alloc, &parts).ok()
+}
+
+/// What a call answered, and the head after it.
+fn told_with_head(alloc: Global, answer: Result<(), Error>, head: &Parts) -> Option<String> {
+    let answer = told(alloc, answer)?;
+    let (method, uri, headers) = (&head.method, &head.uri, &head.headers);
+    format!(in alloc; "{answer}, {method} {uri} {headers:?}").ok()
 }
 
 /// What a call answered: `done`, or the kind and the message of its error.

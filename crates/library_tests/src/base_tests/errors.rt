@@ -1,8 +1,8 @@
 //! Errors: their parts, their texts, the kinds that they are made with, and what is kept of the errors of
 //! libraries and of the system.
-use crate::told::{Told, is_told, shown};
+use crate::told::{Told, error_told, is_told, shown};
 use http_header::{HeaderNameError, HeaderValue, HeaderValueError};
-use http_uri::{Parts, Uri};
+use http_uri::{Authority, Parts, PathAndQuery, Uri};
 use sign_base::{Error, ErrorKind, NoMemory};
 use std::alloc::Global;
 use std::io;
@@ -106,49 +106,42 @@ fn made(alloc: Global, of: Of) -> Made {
     }
 }
 
+/// The error of a call that has to fail.
+fn failed<T: Drop, E: Drop>(answer: Result<T, E>) -> Result<E, NoMemory<()>> {
+    match answer {
+        Ok(_) => Err(NoMemory { back: () }),
+        Err(error) => Ok(error),
+    }
+}
+
 fn of_header_text(alloc: Global) -> Made {
-    let Ok(value) = HeaderValue::from_bytes(alloc, b"\xff") else {
-        return Ok(Error::out_of_memory());
-    };
-    match value.to_str() {
-        Ok(_) => Ok(Error::out_of_memory()),
-        Err(error) => Error::from_to_str(alloc, &error),
+    match HeaderValue::from_bytes(alloc, b"\xff") {
+        Ok(value) => Error::from_to_str(alloc, &failed(value.to_str())?),
+        Err(_) => Err(NoMemory { back: () }),
     }
 }
 
 fn of_text(alloc: Global) -> Made {
-    match String::from_utf8(Vec::from_slice(alloc, b"\xff")?) {
-        Ok(_) => Ok(Error::out_of_memory()),
-        Err(error) => Error::from_utf8(alloc, &error),
-    }
+    let bytes = Vec::from_slice(alloc, b"\xff")?;
+    Error::from_utf8(alloc, &failed(String::from_utf8(bytes))?)
 }
 
 fn of_uri(alloc: Global, text: &str) -> Made {
-    match Uri::from_str(alloc, text) {
-        Ok(_) => Ok(Error::out_of_memory()),
-        Err(error) => Error::from_uri(alloc, &error),
-    }
+    Error::from_uri(alloc, &failed(Uri::from_str(alloc, text))?)
 }
 
 /// The error of a URI that is put together without its scheme.
 fn of_uri_parts(alloc: Global) -> Made {
-    let Ok(uri) = Uri::from_str(alloc, "https://e.x/a") else {
-        return Ok(Error::out_of_memory());
-    };
-    match Uri::from_parts(Parts {
+    let parts = Parts {
         scheme: None,
-        ..uri.into_parts()
-    }) {
-        Ok(_) => Ok(Error::out_of_memory()),
-        Err(error) => Error::from_uri_parts(alloc, &error),
-    }
+        authority: Authority::from_static("e.x").ok(),
+        path_and_query: PathAndQuery::from_static("/a").ok(),
+    };
+    Error::from_uri_parts(alloc, &failed(Uri::from_parts(parts))?)
 }
 
 fn told(alloc: Global, of: Of) -> Told {
-    let error = made(alloc, of)?;
-    let kind = error.kind();
-    let retryable = error.is_retryable();
-    Ok(format!(in alloc; "{kind:?} {retryable} {error}")?)
+    error_told(alloc, &made(alloc, of)?)
 }
 
 #[test]
@@ -166,38 +159,44 @@ fn with(alloc: Global, error: Error, text: &str) -> Made {
     }
 }
 
-/// An error with two texts of context, and its parts.
-fn told_with_context(alloc: Global) -> Told {
+/// An error with two texts of context.
+fn denied(alloc: Global) -> Made {
     let denied = Error::permission_denied(alloc, "access denied")?;
     let denied = with(alloc, denied, "role: reader")?;
-    let denied = with(alloc, denied, "region: eu")?;
-    let kind = denied.kind();
-    let context = denied.context();
-    Ok(format!(in alloc; "{kind:?} {context:?}")?)
+    with(alloc, denied, "region: eu")
+}
+
+fn told_with_context(alloc: Global) -> Told {
+    let denied = denied(alloc)?;
+    shown(alloc, &(denied.kind(), denied.context()))
 }
 
 /// Whether an error that can be retried is one, and is not where that is set so.
 fn told_retryable(alloc: Global) -> Told {
     let quota = Error::rate_limited(alloc, "quota exceeded")?;
     let before = quota.is_retryable();
-    let after = quota.set_retryable(false).is_retryable();
-    Ok(format!(in alloc; "{before} {after}")?)
+    shown(alloc, &(before, quota.set_retryable(false).is_retryable()))
 }
 
 fn shown_config(alloc: Global) -> Told {
     let config = Error::config_invalid(alloc, "missing region")?;
-    shown(alloc, &with(alloc, config, "file: ~/.aws/config")?)
+    let config = with(alloc, config, "file: ~/.aws/config")?;
+    shown(alloc, &config)
 }
 
 const CONFIG: &str =
     "Error { kind: ConfigInvalid, message: \"missing region\", context: [\"file: ~/.aws/config\"], retryable: false }";
 
 fn shown_with_source(alloc: Global) -> Told {
-    let Ok(caused) = Error::from_anyhow(alloc, anyhow::Error::msg("m")) else {
-        return Err(NoMemory { back: () });
-    };
-    let kind = caused.kind();
-    Ok(format!(in alloc; "{caused:?} {kind}: {caused}")?)
+    match Error::from_anyhow(alloc, anyhow::Error::msg("m")) {
+        Ok(caused) => both_texts(alloc, &caused),
+        Err(_) => Err(NoMemory { back: () }),
+    }
+}
+
+fn both_texts(alloc: Global, error: &Error) -> Told {
+    let kind = error.kind();
+    Ok(format!(in alloc; "{error:?} {kind}: {error}")?)
 }
 
 const WITH_SOURCE: &str =
@@ -205,9 +204,9 @@ const WITH_SOURCE: &str =
 
 #[test]
 fn errors_carry_their_parts_and_print(rt: HostRuntime) {
-    let parts = r#"PermissionDenied ["role: reader", "region: eu"]"#;
+    let parts = r#"(PermissionDenied, ["role: reader", "region: eu"])"#;
     is_told(&rt, told_with_context(rt.alloc()), parts);
-    is_told(&rt, told_retryable(rt.alloc()), "true false");
+    is_told(&rt, told_retryable(rt.alloc()), "(true, false)");
     is_told(&rt, shown_config(rt.alloc()), CONFIG);
     is_told(&rt, shown_with_source(rt.alloc()), WITH_SOURCE);
 }

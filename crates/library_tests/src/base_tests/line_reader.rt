@@ -5,15 +5,23 @@ ghost use Rattle.std.specs.Prelude.{◌<◌};
 use crate::told::{Told, is_told};
 use sign_base::{Failed, FaultySource, LineReader, MemorySource, Next, Source};
 use std::alloc::{AllocError, Global};
+use std::process::Abort;
 use std::str;
 
 /// Adds an answer to a text: a short line itself, a longer one as its number of bytes, each with a
 /// bar after it; or why there is no line.
 fn push_answer(text: &mut String, answer: Next<'_>) -> Result<(), AllocError> {
     match answer {
-        Next::Line(line) if line.len() < 9 => write!(text, "{}|", as_text(line)),
-        Next::Line(line) => write!(text, "{}|", line.len()),
+        Next::Line(line) => push_line(text, line),
         other => write!(text, "{other:?}|"),
+    }
+}
+
+fn push_line(text: &mut String, line: &[u8]) -> Result<(), AllocError> {
+    if line.len() < 9 {
+        write!(text, "{}|", as_text(line))
+    } else {
+        write!(text, "{}|", line.len())
     }
 }
 
@@ -74,17 +82,25 @@ fn inputs_are_read_in_lines(rt: HostRuntime) {
     }
 }
 
-/// The number and the byte of a line of equal bytes.
-fn equal_bytes(answer: Next<'_>) -> Option<(usize, u8)> {
-    let Next::Line(line) = answer else {
-        return None;
-    };
-    let first = *line.first()?;
-    if line.iter().all(|byte| *byte == first) {
-        Some((line.len(), first))
-    } else {
-        None
+/// Whether a line is 30,000 times this letter.
+fn is_line_of(line: &[u8], letter: u8) -> bool {
+    let mut is_so = line.len() == 30_000;
+    for byte in line {
+        is_so &= *byte == letter;
     }
+    is_so
+}
+
+/// Whether the answers are a line of each letter.
+fn are_lines_of_letters(reader: &mut LineReader, source: &mut FaultySource) -> bool {
+    let mut are_so = true;
+    for letter in b'a'..=b'z' {
+        are_so &= match reader.next(source) {
+            Next::Line(line) => is_line_of(line, letter),
+            _ => false,
+        };
+    }
+    are_so
 }
 
 fn lines_of_letters(alloc: Global) -> Result<Vec<u8>, AllocError> {
@@ -101,10 +117,7 @@ fn lines_keep_their_bytes_as_the_buffer_moves(rt: HostRuntime) {
     let input = lines_of_letters(rt.alloc()).expect(&rt, "memory");
     let mut source = FaultySource::new(input, 4_099, Vec::new(rt.alloc()));
     let mut reader = LineReader::new(rt.alloc()).expect(&rt, "memory");
-    for letter in b'a'..=b'z' {
-        let answer = equal_bytes(reader.next(&mut source));
-        assert!(rt; answer == Some((30_000, letter)));
-    }
+    assert!(rt; are_lines_of_letters(&mut reader, &mut source));
     assert!(rt; reader.taken() == 26 * 30_001);
 }
 
@@ -114,47 +127,58 @@ fn with_two_faults(alloc: Global) -> Result<FaultySource, AllocError> {
     Ok(FaultySource::new(input, 1, Vec::from_array(alloc, [4, 6])?))
 }
 
+/// Whether the source gives the byte `d`, and then fails.
+fn gives_d_and_fails(source: &mut FaultySource) -> bool {
+    let mut buf = [0];
+    source.read(&mut buf) == Ok(1) && buf[0] == b'd' && source.read(&mut buf) == Err(Failed)
+}
+
 /// The fifth read fails inside the second line. Were there one more, the seventh would be next: the
 /// source gives one byte more, and then fails.
 #[test]
 fn nothing_is_read_after_a_fault(rt: HostRuntime) {
     let mut source = with_two_faults(rt.alloc()).expect(&rt, "memory");
     let mut reader = LineReader::new(rt.alloc()).expect(&rt, "memory");
-    is_told(
-        &rt,
-        answers(rt.alloc(), &mut reader, &mut source, 3),
-        "ab|Fault|Fault|",
-    );
-    let mut buf = [0];
-    let first = source.read(&mut buf);
-    assert!(rt; reader.taken() == 4 && first == Ok(1) && buf[0] == b'd');
-    assert!(rt; source.read(&mut buf) == Err(Failed));
+    let answers = answers(rt.alloc(), &mut reader, &mut source, 3);
+    is_told(&rt, answers, "ab|Fault|Fault|");
+    assert!(rt; reader.taken() == 4);
+    assert!(rt; gives_d_and_fails(&mut source));
 }
 
-/// Whether a read is needed, and how many bytes were taken after the next answer.
+/// Whether a read is needed, and what the next answer is, after which five bytes were taken.
+fn answers_next(
+    rt: &impl Abort,
+    alloc: Global,
+    reader: &mut LineReader,
+    source: &mut MemorySource,
+    (needed, answer): (bool, &str),
+) {
+    assert!(rt; reader.needs_read() == needed);
+    is_told(rt, answers(alloc, reader, source, 1), answer);
+    assert!(rt; reader.taken() == 5);
+}
+
 #[test]
 fn a_read_is_needed_only_for_what_is_not_whole(rt: HostRuntime) {
     let input = Vec::from_slice(rt.alloc(), b"a\nb\nc").expect(&rt, "memory");
     let mut source = MemorySource::new(input);
     let mut reader = LineReader::new(rt.alloc()).expect(&rt, "memory");
-    for (needed, answer) in [(true, "a|"), (false, "b|"), (true, "c|"), (false, "End|")] {
-        assert!(rt; reader.needs_read() == needed);
-        is_told(
-            &rt,
-            answers(rt.alloc(), &mut reader, &mut source, 1),
-            answer,
-        );
-        assert!(rt; reader.taken() == 5);
+    for next in &[(true, "a|"), (false, "b|"), (true, "c|"), (false, "End|")] {
+        answers_next(&rt, rt.alloc(), &mut reader, &mut source, *next);
     }
 }
 
 /// Lines of 65,535 bytes, each with its newline, of 67,108,864 bytes in all, and then these.
 fn longest_input(alloc: Global, end: &[u8]) -> Result<Vec<u8>, AllocError> {
     let mut input = repeated(alloc, b'x', 67_108_864, end)?;
+    end_lines(input.as_mut_slice());
+    Ok(input)
+}
+
+fn end_lines(input: &mut [u8]) {
     for line in input.chunks_exact_mut(65_536) {
         line[65_535] = b'\n';
     }
-    Ok(input)
 }
 
 static ENDS: [(&[u8], &str); 3] = [
@@ -163,12 +187,20 @@ static ENDS: [(&[u8], &str); 3] = [
     (b"x", "TooMuch|TooMuch|"),
 ];
 
+/// Whether the answers are all those lines, and then this.
+fn are_lines_and_then(answers: &str, wanted: &str) -> bool {
+    answers.matches("65535|").count() == 1_024 && answers.ends_with(wanted)
+}
+
+fn longest_answers(rt: &impl Abort, alloc: Global, end: &[u8]) -> String {
+    let input = longest_input(alloc, end).expect(rt, "memory");
+    answers_in_pieces(alloc, input, 131_072, 1_026).expect(rt, "memory")
+}
+
 #[test]
 fn an_input_has_at_most_67_108_864_bytes(rt: HostRuntime) {
     for (more, wanted) in &ENDS {
-        let input = longest_input(rt.alloc(), *more).expect(&rt, "memory");
-        let answers = answers_in_pieces(rt.alloc(), input, 131_072, 1_026).expect(&rt, "memory");
-        assert!(rt; answers.as_str().matches("65535|").count() == 1_024);
-        assert!(rt; answers.as_str().ends_with(*wanted));
+        let answers = longest_answers(&rt, rt.alloc(), *more);
+        assert!(rt; are_lines_and_then(answers.as_str(), *wanted));
     }
 }

@@ -1,5 +1,5 @@
 //! Moments as texts: printed in four formats, read, and refused.
-use crate::told::{Told, is_told};
+use crate::told::{Told, error_told, is_told};
 use sign_base::{Error, Timestamp};
 use std::alloc::Global;
 use std::process::Abort;
@@ -126,23 +126,33 @@ fn formatted(alloc: Global, moment: Timestamp, format: usize) -> Told {
     }
 }
 
+/// Whether these are the four texts of a moment.
+fn prints_as(rt: &impl Abort, alloc: Global, moment: Timestamp, texts: &[&str; 4]) {
+    for (format, text) in texts.iter().enumerate() {
+        is_told(rt, formatted(alloc, moment, format), *text);
+    }
+}
+
 #[test]
 fn moments_print_in_four_formats(rt: HostRuntime) {
     for (second, texts) in &MOMENTS {
         let moment = Timestamp::from_second(rt.alloc(), *second).expect(&rt, "a moment");
-        for (format, text) in texts.iter().enumerate() {
-            is_told(&rt, formatted(rt.alloc(), moment, format), *text);
-        }
+        prints_as(&rt, rt.alloc(), moment, texts);
     }
+}
+
+/// The text of this second of a day.
+fn day_and_time(alloc: Global, day: &str, second: u32) -> Told {
+    let (hour, minute, rest) = (second / 3600, second / 60 % 60, second % 60);
+    Ok(format!(in alloc; "{day}T{hour:02}{minute:02}{rest:02}Z")?)
 }
 
 /// Whether the text of this second of the day that begins at a second since 1970 has the day and the time.
 fn prints(rt: &impl Abort, alloc: Global, begin: i64, day: &str, second: u32) {
-    let (hour, minute, rest) = (second / 3600, second / 60 % 60, second % 60);
-    let wanted = format!(in alloc; "{day}T{hour:02}{minute:02}{rest:02}Z").expect(rt, "memory");
     let moment = Timestamp::from_second(alloc, begin.saturating_add(second as i64));
-    let text = moment.expect(rt, "a moment").format_iso8601(alloc);
-    is_told(rt, text, wanted.as_str());
+    let moment = moment.expect(rt, "a moment");
+    let wanted = day_and_time(alloc, day, second).expect(rt, "memory");
+    is_told(rt, moment.format_iso8601(alloc), wanted.as_str());
 }
 
 #[test]
@@ -177,15 +187,14 @@ fn read(alloc: Global, from: From) -> Result<Timestamp, Error> {
 /// and the text.
 fn told(alloc: Global, from: From) -> Told {
     match read(alloc, from) {
-        Ok(moment) => {
-            let (second, nanos) = (moment.as_second(), moment.subsec_nanosecond());
-            Ok(format!(in alloc; "{second} {nanos}")?)
-        }
-        Err(error) => {
-            let (kind, retryable) = (error.kind(), error.is_retryable());
-            Ok(format!(in alloc; "{kind:?} {retryable} {error}")?)
-        }
+        Ok(moment) => moment_told(alloc, moment),
+        Err(error) => error_told(alloc, &error),
     }
+}
+
+fn moment_told(alloc: Global, moment: Timestamp) -> Told {
+    let (second, nanos) = (moment.as_second(), moment.subsec_nanosecond());
+    Ok(format!(in alloc; "{second} {nanos}")?)
 }
 
 /// What is read, and what is told of it.

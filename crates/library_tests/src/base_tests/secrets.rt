@@ -16,8 +16,11 @@ static SECRETS: [(&str, &str); 7] = [
 
 fn shown_twice(alloc: Global, secret: &str) -> Told {
     let owned = Some(String::from_str(alloc, secret)?);
-    let text = Redact::from(secret);
-    let present = Redact::from(&owned);
+    both_shown(alloc, secret, &owned)
+}
+
+fn both_shown(alloc: Global, secret: &str, owned: &Option<String>) -> Told {
+    let (text, present) = (Redact::from(secret), Redact::from(owned));
     Ok(format!(in alloc; "{text:?} {present:?}")?)
 }
 

@@ -34,8 +34,8 @@ fn a_clock_that_cannot_be_read_stands(rt: HostRuntime) {
         at: Cell::new(0),
         seconds: [None, Some(7), None, Some(u64::MAX), Some(5)],
     });
-    for second in [0, 7, 7, 7, 5, 5] {
-        assert!(rt; clock.now().as_second() == second);
+    for second in &[0, 7, 7, 7, 5, 5] {
+        assert!(rt; clock.now().as_second() == *second);
     }
 }
 
@@ -78,8 +78,8 @@ fn an_interrupted_call_is_not_tried_again(rt: HostRuntime) {
     let mut source = StdSource::new(InterruptedOnce { interrupted: false });
     let mut sink = StdSink::new(InterruptedOnce { interrupted: false });
     let mut buf = [0; 4];
-    for answer in [Err(Failed), Ok(1)] {
-        assert!(rt; source.read(&mut buf) == answer);
-        assert!(rt; sink.write(b"abcd") == answer);
+    for answer in &[Err(Failed), Ok(1)] {
+        assert!(rt; source.read(&mut buf) == *answer);
+        assert!(rt; sink.write(b"abcd") == *answer);
     }
 }

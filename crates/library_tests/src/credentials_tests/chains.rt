@@ -6,14 +6,21 @@ use std::alloc::Global;
 
 type Chain = ProvideCredentialChain<Says>;
 
-/// What a load of a chain answers at its first poll, how many providers there are and whether there are none,
-/// and how many were asked.
+type Load = <Chain as ProvideCredential>::Load;
+
+/// What a load of a chain answers at a poll, how many providers there are and whether there are none, and how
+/// many were asked.
+fn polled(alloc: Global, chain: &Chain, ctx: &Asked, load: &mut Load) -> Option<String> {
+    let answer = chain.poll_load(alloc, ctx, load);
+    let (length, empty, asked) = (chain.len(), chain.is_empty(), ctx.count.get());
+    format!(in alloc; "{answer:?} of {length}, {empty}, asked {asked}").ok()
+}
+
+/// The same of the first poll.
 fn answer(alloc: Global, chain: &Chain) -> Option<String> {
     let ctx = Asked::new();
     let mut load = chain.provide_credential(alloc, &ctx).ok()?;
-    let answer = chain.poll_load(alloc, &ctx, &mut load);
-    let (length, empty, asked) = (chain.len(), chain.is_empty(), ctx.count.get());
-    format!(in alloc; "{answer:?} of {length}, {empty}, asked {asked}").ok()
+    polled(alloc, chain, &ctx, &mut load)
 }
 
 /// The same of the chain of these.
@@ -46,24 +53,23 @@ fn chains_answer_their_first_found(rt: HostRuntime) {
     }
 }
 
-/// The answers of two polls, and how many providers were asked after each.
-fn two_answers(alloc: Global, chain: &Chain) -> Option<String> {
-    let ctx = Asked::new();
-    let mut load = chain.provide_credential(alloc, &ctx).ok()?;
-    let (first, asked) = (chain.poll_load(alloc, &ctx, &mut load), ctx.count.get());
-    let (then, in_all) = (chain.poll_load(alloc, &ctx, &mut load), ctx.count.get());
-    format!(in alloc; "{first:?} {asked} {then:?} {in_all}").ok()
-}
+/// What two polls answer, and how many providers were asked after each.
+const TWO_ANSWERS: [&str; 2] = [
+    "Pending of 2, false, asked 2",
+    "Ready(Some(5)) of 2, false, asked 2",
+];
 
 /// A chain waits for the provider that it asked, and goes on from there.
 #[test]
 fn chains_wait_for_a_pending_provider(rt: HostRuntime) {
     let chain = chain_of(rt.alloc(), &[Says::Missing, Says::Later(5)]).expect(&rt, "memory");
-    is_text(
-        &rt,
-        two_answers(rt.alloc(), &chain),
-        "Pending 2 Ready(Some(5)) 2",
-    );
+    let ctx = Asked::new();
+    let mut load = chain
+        .provide_credential(rt.alloc(), &ctx)
+        .expect(&rt, "memory");
+    for wanted in &TWO_ANSWERS {
+        is_text(&rt, polled(rt.alloc(), &chain, &ctx, &mut load), *wanted);
+    }
 }
 
 /// A chain of one provider, then with one in front, and then with one behind.
@@ -75,13 +81,20 @@ fn one_in_front_and_one_behind(alloc: Global) -> Option<Chain> {
     chain.push(Says::Found(3)).ok()
 }
 
+/// Whether the providers of a chain find 1, 2 and 3.
+fn says_in_order(chain: &Chain) -> bool {
+    let mut is_so = true;
+    for (place, says) in &[(0, Some(1)), (1, Some(2)), (2, Some(3)), (3, None)] {
+        is_so &= chain.provider(*place).and_then(credential_of) == *says;
+    }
+    is_so
+}
+
 /// A provider put in front is asked first, and one put behind last.
 #[test]
 fn providers_are_put_in_front_and_behind(rt: HostRuntime) {
     let chain = one_in_front_and_one_behind(rt.alloc()).expect(&rt, "memory");
-    for (place, says) in [(0, Some(1)), (1, Some(2)), (2, Some(3)), (3, None)] {
-        assert!(rt; chain.provider(place).and_then(credential_of) == says);
-    }
+    assert!(rt; says_in_order(&chain));
     is_text(
         &rt,
         answer(rt.alloc(), &chain),

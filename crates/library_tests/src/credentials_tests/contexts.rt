@@ -1,82 +1,81 @@
 //! What a context answers: what its objects answer, as text where it is asked for text, and a refusal
 //! where an object is not there.
-use super::objects::always_a;
-use crate::told::{is_text, refusal};
+use super::objects::{ContextOfA, always_a};
+use crate::told::{is_text, is_told, refusal, shown};
 use bytes::Bytes;
 use credentials::{
     CommandOutput, Context, NoopCommandExecute, NoopEnv, NoopFileRead, NoopHttpSend, Polled,
 };
 use http::Request;
 use std::alloc::Global;
+use std::process::Abort;
 
 fn empty_request(alloc: Global) -> Option<Request<Bytes>> {
     Some(Request::new(alloc, Bytes::copy_from_slice(alloc, b"").ok()?))
 }
 
-fn file(alloc: Global) -> Option<String> {
-    let ctx = always_a();
+/// What a poll that is ready answers.
+fn ready<T: Drop>(polled: Polled<T>) -> Option<T> {
+    match polled {
+        Polled::Ready(answer) => Some(answer),
+        _ => None,
+    }
+}
+
+fn file(alloc: Global, ctx: &ContextOfA) -> Option<String> {
     let mut read = ctx.file_read(alloc, "/a").ok()?;
-    let bytes = ctx.poll_file_read(alloc, &mut read);
-    format!(in alloc; "{bytes:?}").ok()
+    shown(alloc, &ctx.poll_file_read(alloc, &mut read)).ok()
 }
 
-fn file_as_string(alloc: Global, path: &str) -> Option<String> {
-    let ctx = always_a();
+fn file_as_string(alloc: Global, ctx: &ContextOfA, path: &str) -> Option<String> {
     let mut read = ctx.file_read(alloc, path).ok()?;
-    let text = ctx.poll_file_read_as_string(alloc, &mut read);
-    format!(in alloc; "{text:?}").ok()
+    shown(alloc, &ctx.poll_file_read_as_string(alloc, &mut read)).ok()
 }
 
-fn response(alloc: Global) -> Option<String> {
-    let ctx = always_a();
+fn response(alloc: Global, ctx: &ContextOfA) -> Option<String> {
     let mut send = ctx.http_send(alloc, empty_request(alloc)?).ok()?;
-    match ctx.poll_http_send(alloc, &mut send) {
-        Polled::Ready(response) => format!(in alloc; "{:?}", response.body().as_slice()).ok(),
-        _ => None,
-    }
+    let response = ready(ctx.poll_http_send(alloc, &mut send))?;
+    shown(alloc, &response.body().as_slice()).ok()
 }
 
-fn response_as_string(alloc: Global) -> Option<String> {
-    let ctx = always_a();
+fn response_as_string(alloc: Global, ctx: &ContextOfA) -> Option<String> {
     let mut send = ctx.http_send(alloc, empty_request(alloc)?).ok()?;
-    match ctx.poll_http_send_as_string(alloc, &mut send) {
-        Polled::Ready(response) => {
-            format!(in alloc; "{} {}", response.status().as_u16(), response.body()).ok()
-        }
-        _ => None,
-    }
+    let response = ready(ctx.poll_http_send_as_string(alloc, &mut send))?;
+    shown(alloc, &(response.status().as_u16(), response.body())).ok()
 }
 
 /// Whether a command was run with success.
-fn is_run(alloc: Global) -> Option<String> {
-    let ctx = always_a();
+fn is_run(alloc: Global, ctx: &ContextOfA) -> Option<bool> {
     let mut run = ctx.command_execute(alloc, "a", &[]).ok()?;
-    match ctx.poll_command(alloc, &mut run) {
-        Polled::Ready(output) => format!(in alloc; "{}", output.success()).ok(),
-        _ => None,
-    }
+    let output = ready(ctx.poll_command(alloc, &mut run))?;
+    Some(output.success())
 }
 
 #[test]
 fn objects_answer(rt: HostRuntime) {
-    is_text(&rt, file(rt.alloc()), "Ready([97])");
-    is_text(&rt, file_as_string(rt.alloc(), "/a"), "Ready(\"a\")");
-    is_text(&rt, file_as_string(rt.alloc(), "/empty"), "Ready(\"\")");
-    is_text(&rt, response(rt.alloc()), "[97]");
-    is_text(&rt, response_as_string(rt.alloc()), "200 a");
-    is_text(&rt, is_run(rt.alloc()), "true");
+    let ctx = always_a();
+    is_text(&rt, file(rt.alloc(), &ctx), "Ready([97])");
+    is_text(&rt, file_as_string(rt.alloc(), &ctx, "/a"), "Ready(\"a\")");
+    is_text(
+        &rt,
+        file_as_string(rt.alloc(), &ctx, "/empty"),
+        "Ready(\"\")",
+    );
+    is_text(&rt, response(rt.alloc(), &ctx), "[97]");
+    is_text(&rt, response_as_string(rt.alloc(), &ctx), "(200, \"a\")");
+    assert!(rt; is_run(rt.alloc(), &ctx) == Some(true));
 }
 
 /// A status other than 0 is no success.
 #[test]
 fn a_status_of_0_is_success(rt: HostRuntime) {
-    for (status, success) in [(0, true), (1, false), (-1, false), (256, false)] {
+    for (status, success) in &[(0, true), (1, false), (-1, false), (256, false)] {
         let output = CommandOutput {
-            status,
+            status: *status,
             stdout: Vec::new(rt.alloc()),
             stderr: Vec::new(rt.alloc()),
         };
-        assert!(rt; output.success() == success);
+        assert!(rt; output.success() == *success);
     }
 }
 
@@ -105,12 +104,11 @@ fn no_output(alloc: Global, ctx: &EmptyContext) -> Option<String> {
     failure(alloc, ctx.poll_command(alloc, &mut run))
 }
 
-/// A variable, the number of variables, and the home folder.
-fn no_environment(alloc: Global, ctx: &EmptyContext) -> Option<String> {
-    let variable = ctx.env_var(alloc, "k").ok()?;
-    let count = ctx.env_vars(alloc).ok()?.len();
-    let home = ctx.home_dir(alloc).ok()?;
-    format!(in alloc; "{variable:?} {count} {home:?}").ok()
+/// Whether there is no variable and no home folder.
+fn has_no_environment(rt: &impl Abort, alloc: Global, ctx: &EmptyContext) {
+    is_told(rt, shown(alloc, &ctx.env_var(alloc, "k")), "Ok(None)");
+    is_told(rt, shown(alloc, &ctx.env_vars(alloc)), "Ok({})");
+    is_told(rt, shown(alloc, &ctx.home_dir(alloc)), "Ok(None)");
 }
 
 const NO_FILE: &str = "unexpected error: file reading not supported: no file reader configured";
@@ -127,5 +125,5 @@ fn objects_that_are_not_there_fail(rt: HostRuntime) {
     is_text(&rt, no_file(rt.alloc(), &ctx), NO_FILE);
     is_text(&rt, no_response(rt.alloc(), &ctx), NO_RESPONSE);
     is_text(&rt, no_output(rt.alloc(), &ctx), NO_OUTPUT);
-    is_text(&rt, no_environment(rt.alloc(), &ctx), "None 0 None");
+    has_no_environment(&rt, rt.alloc(), &ctx);
 }

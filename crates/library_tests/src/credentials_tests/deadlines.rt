@@ -32,12 +32,12 @@ fn is_valid(alloc: Global, lease: Option<Lease>, now: Timestamp) -> Option<bool>
 fn credentials_are_valid_as_they_say(rt: HostRuntime) {
     let until = moment(&rt, rt.alloc(), 5);
     let before = moment(&rt, rt.alloc(), 4);
-    for (lease, now, valid) in [
+    for (lease, now, valid) in &[
         (Some(Lease { until }), before, true),
         (Some(Lease { until }), until, false),
         (None, before, false),
     ] {
-        assert!(rt; is_valid(rt.alloc(), lease, now) == Some(valid));
+        assert!(rt; is_valid(rt.alloc(), *lease, *now) == Some(*valid));
     }
     assert!(rt; <Option<Lease> as SigningCredential>::NAME == "Lease");
     assert!(rt; Token { valid: true }.is_valid_at(before, before));
@@ -48,12 +48,12 @@ fn credentials_are_valid_as_they_say(rt: HostRuntime) {
 fn an_operation_ends_within_the_range(rt: HostRuntime) {
     let now = moment(&rt, rt.alloc(), 253402207199);
     let next = moment(&rt, rt.alloc(), 253402207200);
-    for (duration, end) in [
+    for (duration, end) in &[
         (None, Some(now)),
         (Some(Duration::from_secs(1)), Some(next)),
         (Some(Duration::from_secs(2)), None),
     ] {
-        assert!(rt; operation_end(duration, now) == end);
+        assert!(rt; operation_end(*duration, now) == *end);
     }
     let lease = Lease { until: next };
     assert!(rt; UntilTheEnd.required_valid_until(&lease, None, now) == Some(now));

@@ -1,5 +1,5 @@
 //! What `apply` answers to a view, and the head after it.
-use super::{parts, told, view};
+use super::{parts, told, told_with_head, view};
 use crate::told::is_text;
 use http::Method;
 use http::header::{AUTHORIZATION, HeaderValue};
@@ -17,72 +17,79 @@ enum Change {
     Query,
 }
 
-fn modify(alloc: Global, view: &mut SigningRequest, change: Change) -> Option<()> {
+fn modify(view: &mut SigningRequest, change: Change) -> Option<()> {
     match change {
         Change::Nothing => {}
         Change::Method => view.method = Method::POST,
         Change::Scheme => view.scheme = Scheme::HTTP,
-        Change::Authority => view.authority = Authority::from_str(alloc, "other.example.com").ok()?,
-        Change::Path => view.path.push_str("/changed").ok()?,
-        Change::Query => view.query_push("auth", "value").ok()?,
+        Change::Authority => view.authority = Authority::from_static("other.example.com").ok()?,
+        Change::Path => return view.path.push_str("/changed").ok(),
+        Change::Query => return view.query_push("auth", "value").ok(),
     }
     Some(())
 }
 
-/// A view with a header staged, and changed.
-fn staged(alloc: Global, uri: &str, change: Change) -> Option<SigningRequest> {
-    let mut view = view(alloc, uri, &[("x", b"v")])?;
+/// Stages a header in a view, and changes it.
+fn stage(view: &mut SigningRequest, change: Change) -> Option<()> {
     let signed = HeaderValue::from_static("signed");
     view.headers.insert(AUTHORIZATION, signed).ok()?;
-    modify(alloc, &mut view, change)?;
+    modify(view, change)
+}
+
+fn staged(alloc: Global, uri: &str, change: Change) -> Option<SigningRequest> {
+    let mut view = view(alloc, uri, &[("x", b"v")])?;
+    stage(&mut view, change)?;
     Some(view)
 }
 
-/// What `apply` answers, and the head after it.
 fn applied(alloc: Global, built: &str, change: Change, target: &str) -> Option<String> {
     let view = staged(alloc, built, change)?;
+    applied_to(alloc, view, target)
+}
+
+/// What `apply` answers, and the head after it.
+fn applied_to(alloc: Global, view: SigningRequest, target: &str) -> Option<String> {
     let mut head = parts(alloc, target, &[("x", b"v")])?;
-    let answer = told(alloc, view.apply(&mut head))?;
-    let (uri, headers) = (&head.uri, &head.headers);
-    format!(in alloc; "{answer}, {uri} {headers:?}").ok()
+    let answer = view.apply(&mut head);
+    told_with_head(alloc, answer, &head)
 }
 
 const MODIFIED: &str =
-    r#"invalid request: signing request method or URI working view was modified, https://e.x/a?b {"x": "v"}"#;
+    r#"invalid request: signing request method or URI working view was modified, GET https://e.x/a?b {"x": "v"}"#;
 
 /// What a view was built of, how it was changed, the target that it is applied to, and what is told. The
 /// first targets fit: the head itself, and then the same target in another spelling: the case of scheme and
 /// host, the scheme that is meant where there is none, the escapes of the query.
-const APPLIED: [(&str, Change, &str, &str); 11] = [
+static APPLIED: [(&str, Change, &str, &str); 11] = [
     (
         "https://e.x/a?b",
         Change::Nothing,
         "https://e.x/a?b",
-        r#"done, https://e.x/a?b {"x": "v", "authorization": "signed"}"#,
+        r#"done, GET https://e.x/a?b {"x": "v", "authorization": "signed"}"#,
     ),
     (
         "HTTPS://E.X/a",
         Change::Nothing,
         "https://e.x/a",
-        r#"done, https://e.x/a {"x": "v", "authorization": "signed"}"#,
+        r#"done, GET https://e.x/a {"x": "v", "authorization": "signed"}"#,
     ),
     (
         "e.x",
         Change::Nothing,
         "http://e.x/",
-        r#"done, http://e.x/ {"x": "v", "authorization": "signed"}"#,
+        r#"done, GET http://e.x/ {"x": "v", "authorization": "signed"}"#,
     ),
     (
         "http://e.x",
         Change::Nothing,
         "e.x",
-        r#"done, e.x {"x": "v", "authorization": "signed"}"#,
+        r#"done, GET e.x {"x": "v", "authorization": "signed"}"#,
     ),
     (
         "https://e.x/?%61=%62&&c",
         Change::Nothing,
         "https://e.x/?a=b&c=",
-        r#"done, https://e.x/?a=b&c= {"x": "v", "authorization": "signed"}"#,
+        r#"done, GET https://e.x/?a=b&c= {"x": "v", "authorization": "signed"}"#,
     ),
     (
         "https://e.x/a?b",
@@ -113,14 +120,14 @@ const APPLIED: [(&str, Change, &str, &str); 11] = [
         "https://e.x/a",
         Change::Nothing,
         "/a",
-        r#"invalid request: request without authority is invalid for signing, /a {"x": "v"}"#,
+        r#"invalid request: request without authority is invalid for signing, GET /a {"x": "v"}"#,
     ),
 ];
 
 #[test]
 fn a_view_that_fits_commits_its_headers(rt: HostRuntime) {
-    for (built, change, target, wanted) in APPLIED {
-        is_text(&rt, applied(rt.alloc(), built, change, target), wanted);
+    for (built, change, target, wanted) in &APPLIED {
+        is_text(&rt, applied(rt.alloc(), *built, *change, *target), *wanted);
     }
 }
 
@@ -133,7 +140,7 @@ const NO_AUTHORITY: &str = "invalid request: request without authority is invali
 
 #[test]
 fn a_head_without_authority_is_refused(rt: HostRuntime) {
-    for uri in ["/relative", "*"] {
-        is_text(&rt, built(rt.alloc(), uri), NO_AUTHORITY);
+    for uri in &["/relative", "*"] {
+        is_text(&rt, built(rt.alloc(), *uri), NO_AUTHORITY);
     }
 }

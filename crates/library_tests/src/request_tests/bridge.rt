@@ -1,7 +1,8 @@
 //! Heads of `http` and plain ones, in both directions.
-use super::{parts, told};
+use super::{parts, told_with_head};
 use crate::heads::plain_head;
-use crate::told::is_text;
+use crate::told::{is_text, shown};
+use http::request::Parts;
 use sign_base::{Head, Version};
 use sign_request::{HeadView, commit, head_of, parts_of};
 use std::alloc::Global;
@@ -14,17 +15,28 @@ fn is_same_head(plain: &Head, head: &Head) -> bool {
         && plain.headers.as_slice().len() == head.headers.as_slice().len()
 }
 
+/// Whether the plain head of a head is this.
+fn comes_back(alloc: Global, head: &Parts, plain: &Head) -> bool {
+    match head_of(alloc, head) {
+        Ok(back) => is_same_head(&back, plain),
+        Err(_) => false,
+    }
+}
+
 /// The head of a plain head, and whether the plain head of that is the same.
-fn crossed(alloc: Global, version: Version) -> Option<String> {
-    let mut head = plain_head(alloc, "PUT", "https://e.x/a", &[("x", b"v")]).ok()?;
-    head.version = version;
-    let parts = parts_of(alloc, &head).ok()?;
-    let back = head_of(alloc, &parts).ok()?;
-    let same = is_same_head(&back, &head);
+fn there_and_back(alloc: Global, plain: &Head) -> Option<String> {
+    let parts = parts_of(alloc, plain).ok()?;
+    let same = comes_back(alloc, &parts, plain);
     format!(in alloc; "{parts:?} {same}").ok()
 }
 
-const CROSSED: [(Version, &str); 5] = [
+fn crossed(alloc: Global, version: Version) -> Option<String> {
+    let mut head = plain_head(alloc, "PUT", "https://e.x/a", &[("x", b"v")])?;
+    head.version = version;
+    there_and_back(alloc, &head)
+}
+
+static CROSSED: [(Version, &str); 5] = [
     (
         Version::V09,
         r#"Parts { method: PUT, uri: https://e.x/a, version: HTTP/0.9, headers: {"x": "v"} } true"#,
@@ -49,18 +61,21 @@ const CROSSED: [(Version, &str); 5] = [
 
 #[test]
 fn heads_cross_the_bridge(rt: HostRuntime) {
-    for (version, wanted) in CROSSED {
-        is_text(&rt, crossed(rt.alloc(), version), wanted);
+    for (version, wanted) in &CROSSED {
+        is_text(&rt, crossed(rt.alloc(), *version), *wanted);
     }
 }
 
 /// What `commit` answers to a plain head, and the head after it.
-fn committed(alloc: Global, method: &str, uri: &str, name: &str) -> Option<String> {
-    let plain = plain_head(alloc, method, uri, &[("y", b"w"), (name, b"z")]).ok()?;
+fn committed(alloc: Global, plain: &Head) -> Option<String> {
     let mut head = parts(alloc, "https://e.x/a", &[("x", b"v")])?;
-    let answer = told(alloc, commit(alloc, &mut head, &plain))?;
-    let (method, uri, headers) = (&head.method, &head.uri, &head.headers);
-    format!(in alloc; "{answer}, {method} {uri} {headers:?}").ok()
+    let answer = commit(alloc, &mut head, plain);
+    told_with_head(alloc, answer, &head)
+}
+
+fn committed_of(alloc: Global, method: &str, uri: &str, name: &str) -> Option<String> {
+    let plain = plain_head(alloc, method, uri, &[("y", b"w"), (name, b"z")])?;
+    committed(alloc, &plain)
 }
 
 const DONE: &str = r#"done, GET https://e.x/b?c {"y": "w", "y": "z"}"#;
@@ -73,7 +88,7 @@ const BAD_CHARACTER: &str =
 const EMPTY_URI: &str = r#"invalid request: empty string, GET https://e.x/a {"x": "v"}"#;
 
 /// The method, the URI and the name of a header, and what `commit` answers: all or nothing.
-const COMMITTED: [(&str, &str, &str, &str); 6] = [
+static COMMITTED: [(&str, &str, &str, &str); 6] = [
     ("PUT", "https://e.x/b?c", "Y", DONE),
     ("no token", "https://e.x/b?c", "Y", DONE),
     ("PUT", "https://e.x/b?c", "no token", BAD_NAME),
@@ -84,21 +99,25 @@ const COMMITTED: [(&str, &str, &str, &str); 6] = [
 
 #[test]
 fn a_commit_is_whole_or_nothing(rt: HostRuntime) {
-    for (method, uri, name, wanted) in COMMITTED {
-        is_text(&rt, committed(rt.alloc(), method, uri, name), wanted);
+    for (method, uri, name, wanted) in &COMMITTED {
+        is_text(&rt, committed_of(rt.alloc(), *method, *uri, *name), *wanted);
     }
 }
 
 /// Why a plain head has no view.
+fn why_unviewed(alloc: Global, head: &Head) -> Option<String> {
+    let why = HeadView::build(alloc, head).err()?;
+    shown(alloc, &why).ok()
+}
+
 fn unviewed(alloc: Global, uri: &str, name: &str) -> Option<String> {
-    let head = plain_head(alloc, "GET", uri, &[(name, b"v")]).ok()?;
-    let why = HeadView::build(alloc, &head).err()?;
-    format!(in alloc; "{why:?}").ok()
+    let head = plain_head(alloc, "GET", uri, &[(name, b"v")])?;
+    why_unviewed(alloc, &head)
 }
 
 /// Heads that no line of `signctl view` spells. The last is refused before its target, which has no
 /// authority.
-const UNVIEWED: [(&str, &str, &str); 4] = [
+static UNVIEWED: [(&str, &str, &str); 4] = [
     ("", "x", "Head"),
     ("e.x", "x a", "Head"),
     ("e.x", "", "Head"),
@@ -107,7 +126,7 @@ const UNVIEWED: [(&str, &str, &str); 4] = [
 
 #[test]
 fn other_heads_have_no_view(rt: HostRuntime) {
-    for (uri, name, wanted) in UNVIEWED {
-        is_text(&rt, unviewed(rt.alloc(), uri, name), wanted);
+    for (uri, name, wanted) in &UNVIEWED {
+        is_text(&rt, unviewed(rt.alloc(), *uri, *name), *wanted);
     }
 }

@@ -1,14 +1,14 @@
 //! Heads that are refused, and heads of exactly the limit.
 use super::told;
 use crate::heads::{plain_head, push_header};
-use crate::told::{is_text, refusal};
-use sign_base::{Head, NoMemory};
+use crate::told::{is_text, shown_or_refusal};
+use sign_base::{Error, Head};
 use sign_request::parts_of;
 use std::alloc::Global;
 
 /// What `parts_of` answers to a head with one header.
 fn answer(alloc: Global, method: &str, uri: &str, value: &[u8]) -> Option<String> {
-    let head = plain_head(alloc, method, uri, &[("x", value)]).ok()?;
+    let head = plain_head(alloc, method, uri, &[("x", value)])?;
     told(alloc, parts_of(alloc, &head))
 }
 
@@ -17,7 +17,7 @@ const REFUSED_METHOD: &str = "invalid request: invalid HTTP method";
 const REFUSED_VALUE: &str = "invalid request: failed to parse header value";
 
 /// The method, the URI and the value of a header, and what `parts_of` answers.
-const ANSWERS: [(&str, &str, &[u8], &str); 5] = [
+static ANSWERS: [(&str, &str, &[u8], &str); 5] = [
     ("GET", "/", b"v", "done"),
     ("no token", "/", b"v", REFUSED_METHOD),
     ("", "/", b"v", REFUSED_METHOD),
@@ -27,8 +27,8 @@ const ANSWERS: [(&str, &str, &[u8], &str); 5] = [
 
 #[test]
 fn a_refusal_has_its_message(rt: HostRuntime) {
-    for (method, uri, value, wanted) in ANSWERS {
-        is_text(&rt, answer(rt.alloc(), method, uri, value), wanted);
+    for (method, uri, value, wanted) in &ANSWERS {
+        is_text(&rt, answer(rt.alloc(), *method, *uri, *value), *wanted);
     }
 }
 
@@ -51,36 +51,42 @@ fn answer_to_path(alloc: Global, length: usize) -> Option<String> {
 
 #[test]
 fn a_uri_has_at_most_65_534_bytes(rt: HostRuntime) {
-    for (length, wanted) in [(65534, "done"), (65535, "invalid request: uri too long")] {
-        is_text(&rt, answer_to_path(rt.alloc(), length), wanted);
+    for (length, wanted) in &[(65534, "done"), (65535, "invalid request: uri too long")] {
+        is_text(&rt, answer_to_path(rt.alloc(), *length), *wanted);
     }
 }
 
 /// Puts so many headers on a head, each under a name of its own.
-fn crowd(alloc: Global, head: &mut Head, count: u32) -> Result<(), NoMemory<()>> {
+fn crowd(alloc: Global, head: &mut Head, count: u32) -> Option<()> {
     for number in 0..count {
-        let name = format!(in alloc; "x-{number}")?;
+        let name = format!(in alloc; "x-{number}").ok()?;
         push_header(alloc, head, name.as_bytes(), b"")?;
     }
-    Ok(())
+    Some(())
 }
 
-/// The number of headers of a head with so many, or its refusal.
+fn number_of_headers(alloc: Global, head: &Head) -> Result<usize, Error> {
+    let parts = parts_of(alloc, head)?;
+    Ok(parts.headers.len())
+}
+
+/// The number of headers of a head with so many more, or its refusal.
+fn crowded(alloc: Global, head: &mut Head, count: u32) -> Option<String> {
+    crowd(alloc, head, count)?;
+    shown_or_refusal(alloc, number_of_headers(alloc, head))
+}
+
 fn answer_to_crowd(alloc: Global, count: u32) -> Option<String> {
-    let mut head = plain_head(alloc, "GET", "/", &[]).ok()?;
-    crowd(alloc, &mut head, count).ok()?;
-    match parts_of(alloc, &head) {
-        Ok(parts) => format!(in alloc; "{}", parts.headers.len()).ok(),
-        Err(error) => refusal(alloc, &error),
-    }
+    let mut head = plain_head(alloc, "GET", "/", &[])?;
+    crowded(alloc, &mut head, count)
 }
 
 #[test]
 fn a_head_has_at_most_24_576_names(rt: HostRuntime) {
-    for (count, wanted) in [
+    for (count, wanted) in &[
         (24576, "24576"),
         (24577, "invalid request: max size reached"),
     ] {
-        is_text(&rt, answer_to_crowd(rt.alloc(), count), wanted);
+        is_text(&rt, answer_to_crowd(rt.alloc(), *count), *wanted);
     }
 }

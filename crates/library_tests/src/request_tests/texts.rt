@@ -1,7 +1,8 @@
 //! Pairs, sorted and joined.
+use crate::pairs::{Pairs, owned};
 use crate::told::is_text;
 use sign_request::SigningRequest;
-use std::alloc::{AllocError, Global};
+use std::alloc::Global;
 
 #[derive(Clone, Copy)]
 enum Joined {
@@ -10,19 +11,8 @@ enum Joined {
     DecodedQuery,
 }
 
-type Pairs<'a> = &'a [(&'a str, &'a str)];
-
-fn owned(alloc: Global, texts: Pairs<'_>) -> Result<Vec<(String, String)>, AllocError> {
-    let mut pairs = Vec::new(alloc);
-    for (key, value) in texts {
-        let key = String::from_str(alloc, *key)?;
-        pairs.push((key, String::from_str(alloc, *value)?))?;
-    }
-    Ok(pairs)
-}
-
 fn sorted(alloc: Global, texts: Pairs<'_>, how: Joined) -> Option<String> {
-    let pairs = owned(alloc, texts).ok()?;
+    let pairs = owned(alloc, texts)?;
     match how {
         Joined::Query => SigningRequest::query_to_string(alloc, pairs, "=", "&").ok(),
         Joined::Headers => SigningRequest::header_to_string(alloc, pairs, ":", "\n").ok(),
@@ -36,7 +26,7 @@ const PLAIN: Pairs<'static> = &[("c", "d"), ("e", ""), ("a", "b")];
 
 const ESCAPED: Pairs<'static> = &[("b%2F", "%2F"), ("a", "x")];
 
-const JOINED: [(Pairs<'static>, Joined, &str); 3] = [
+static JOINED: [(Pairs<'static>, Joined, &str); 3] = [
     (PLAIN, Joined::Query, "a=b&c=d&e"),
     (PLAIN, Joined::Headers, "a:b\nc:d\ne:"),
     (ESCAPED, Joined::DecodedQuery, "a=x&b%2F=/"),
@@ -44,7 +34,7 @@ const JOINED: [(Pairs<'static>, Joined, &str); 3] = [
 
 #[test]
 fn pairs_are_sorted_and_joined(rt: HostRuntime) {
-    for (texts, how, wanted) in JOINED {
-        is_text(&rt, sorted(rt.alloc(), texts, how), wanted);
+    for (texts, how, wanted) in &JOINED {
+        is_text(&rt, sorted(rt.alloc(), *texts, *how), *wanted);
     }
 }

@@ -4,6 +4,7 @@ use crate::told::{is_text, is_told, shown};
 use sign_request::{SigningMethod, SigningRequest};
 use std::alloc::Global;
 use std::cell::Cell;
+use std::mem;
 use std::time::Duration;
 
 /// A target whose query has escapes, equal names, and pairs with no name and with no value.
@@ -21,12 +22,13 @@ fn a_view_shows_its_head(rt: HostRuntime) {
 }
 
 fn query_text(alloc: Global, uri: &str) -> Option<String> {
-    let view = view(alloc, uri, &[])?;
-    SigningRequest::query_to_string(alloc, view.query, "=", "&").ok()
+    let mut view = view(alloc, uri, &[])?;
+    let query = mem::replace(&mut view.query, Vec::new(alloc));
+    SigningRequest::query_to_string(alloc, query, "=", "&").ok()
 }
 
 /// Queries, and the text that each is read as.
-const QUERIES: [(&str, &str); 8] = [
+static QUERIES: [(&str, &str); 8] = [
     (
         TARGET,
         "=empty-key&amp=&&double=%2F&dup=first&dup=second&empty&encoded-plus=+&equals==&flag&flag&hash=#&literal-plus=+&slash=/&space= ",
@@ -42,13 +44,13 @@ const QUERIES: [(&str, &str); 8] = [
 
 #[test]
 fn queries_read_as_they_are_written(rt: HostRuntime) {
-    for (uri, wanted) in QUERIES {
-        is_text(&rt, query_text(rt.alloc(), uri), wanted);
+    for (uri, wanted) in &QUERIES {
+        is_text(&rt, query_text(rt.alloc(), *uri), *wanted);
     }
 }
 
-/// What passes a filter of the query, and the digits that the filter was asked for as keys, in one
-/// number.
+/// The query, its size, what passes a filter of it, and the digits that the filter was asked for as keys, in
+/// one number.
 fn filtered(alloc: Global, view: &SigningRequest) -> Option<String> {
     let asked = Cell::new(0u32);
     let kept = view.query_to_vec_with_filter(|key| {
@@ -56,51 +58,60 @@ fn filtered(alloc: Global, view: &SigningRequest) -> Option<String> {
         asked.set(asked.get().wrapping_mul(10).wrapping_add(u32::from(digit)));
         digit == 2
     });
-    let (kept, asked) = (kept.ok()?, asked.get());
-    format!(in alloc; "{kept:?} {asked}").ok()
+    shown(alloc, &(&view.query, view.query_size(), kept, asked.get())).ok()
 }
 
-/// A query with one text appended, its size, and what `filtered` shows of it.
+/// What `filtered` shows of a query with one text appended.
+fn append(alloc: Global, view: &mut SigningRequest, text: &str) -> Option<String> {
+    view.query_append(text).ok()?;
+    filtered(alloc, view)
+}
+
 fn appended(alloc: Global, uri: &str, text: &str) -> Option<String> {
     let mut view = view(alloc, uri, &[])?;
-    view.query_append(text).ok()?;
-    let filtered = filtered(alloc, &view)?;
-    let (query, size) = (&view.query, view.query_size());
-    format!(in alloc; "{query:?} {size:?} {filtered}").ok()
+    append(alloc, &mut view, text)
 }
 
 /// A query, what is appended to it, and what is shown. The filter is asked once for each key, in order.
-const APPENDED: [(&str, &str, &str); 3] = [
-    ("https://e.x/", "2", r#"[("2", "")] Some(1) [("2", "")] 2"#),
-    ("https://e.x/", "1", r#"[("1", "")] Some(1) [] 1"#),
+static APPENDED: [(&str, &str, &str); 3] = [
+    (
+        "https://e.x/",
+        "2",
+        r#"([("2", "")], Some(1), Ok([("2", "")]), 2)"#,
+    ),
+    ("https://e.x/", "1", r#"([("1", "")], Some(1), Ok([]), 1)"#),
     (
         "https://e.x/?2=a&1=b&2=c",
         "3",
-        r#"[("2", "a"), ("1", "b"), ("2", "c"), ("3", "")] Some(7) [("2", "a"), ("2", "c")] 2123"#,
+        r#"([("2", "a"), ("1", "b"), ("2", "c"), ("3", "")], Some(7), Ok([("2", "a"), ("2", "c")]), 2123)"#,
     ),
 ];
 
 #[test]
 fn a_query_is_appended_to_and_filtered(rt: HostRuntime) {
-    for (uri, text, wanted) in APPENDED {
-        is_text(&rt, appended(rt.alloc(), uri, text), wanted);
+    for (uri, text, wanted) in &APPENDED {
+        is_text(&rt, appended(rt.alloc(), *uri, *text), *wanted);
     }
 }
 
 fn decoded_path(alloc: Global, uri: &str) -> Option<String> {
     let view = view(alloc, uri, &[])?;
+    path_text(alloc, &view)
+}
+
+fn path_text(alloc: Global, view: &SigningRequest) -> Option<String> {
     let path = view.path_percent_decoded().ok()?;
     path.into_owned(alloc).ok()
 }
 
 #[test]
 fn paths_are_decoded_once(rt: HostRuntime) {
-    for (uri, path) in [
+    for (uri, path) in &[
         ("https://e.x/object%2Fname", "/object/name"),
         ("https://e.x/a%2Fb", "/a/b"),
         ("https://e.x/a%252Fb", "/a%2Fb"),
     ] {
-        is_text(&rt, decoded_path(rt.alloc(), uri), path);
+        is_text(&rt, decoded_path(rt.alloc(), *uri), *path);
     }
 }
 
