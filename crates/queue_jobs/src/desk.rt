@@ -1,5 +1,6 @@
 //! The pool of a queue, without seats.
 ghost use Rattle.std.specs.Prelude.{◌≡◌, ◌<◌, ◌≤◌, IfOk};
+ghost use Rattle.crossbeam_queue.specs.Passes.{ruled_capacity};
 ghost use Rattle.desk_parts.specs.Tables.{setup_of};
 ghost use Rattle.pool_jobs.specs.Setup.{pool_setup};
 
@@ -23,6 +24,7 @@ pub(crate) fn queue_pool(
 ) -> Result<QueuePool, NoMemory<()>>
     requires capacity { (0 < capacity) × (capacity ≤ 65536) }
     ensures setup { IfOk result (λ pool. setup_of pool.shared ≡ pool_setup workers) }
+    ensures capacity { IfOk result (λ pool. ruled_capacity pool.queue ≡ capacity) }
     ensures submitters { IfOk result (λ pool. pool.submitters ≡ 0) }
     ensures workers { IfOk result (λ pool. pool.workers ≡ 0) }
 {

@@ -1,5 +1,6 @@
 //! The seats of a queue when all its jobs are answered.
 ghost use Rattle.std.specs.Prelude.{◌≡◌, ◌<◌, ◌≤◌, IfOk};
+ghost use Rattle.crossbeam_queue.specs.Passes.{ruled_capacity};
 ghost use Rattle.desk_parts.specs.Tables.{setup_of};
 ghost use Rattle.sign_pool.specs.Finish.{HasAllSeats};
 ghost use Rattle.pool_jobs.specs.Setup.{pool_setup};
@@ -40,6 +41,7 @@ pub(crate) fn served_pool<G: Gate<ScriptCredential> + Sync, R: Threads + Wait + 
     requires some { 0 < workers }
     requires capacity { (0 < capacity) × (capacity ≤ 65536) }
     ensures setup { IfOk result (λ served. setup_of served.pool.shared ≡ pool_setup workers) }
+    ensures capacity { IfOk result (λ served. ruled_capacity served.pool.queue ≡ capacity) }
     ensures all { IfOk result (λ served. HasAllSeats served.pool.submitters served.pool.workers served.submitters.items served.workers.items) }
     ensures seats { IfOk result (λ served. AreServedSeats served.pool.queue (G.meaning gate.now) workers jobs served.submitters.items served.workers.items) }
 {

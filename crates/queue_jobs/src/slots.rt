@@ -30,6 +30,7 @@ pub(crate) fn new_slots(
     ensures submitters { IfOk result (λ slots. pool.new.submitters ≡ count) }
     ensures workers { IfOk result (λ slots. pool.new.workers ≡ count) }
     ensures plan { IfOk result (λ slots. pool.new.shared ≡ pool.old.shared) }
+    ensures queue { IfOk result (λ slots. pool.new.queue ≡ pool.old.queue) }
 {
     let mut slots = Vec::with_capacity(alloc, count as usize)?;
     for place in 0..count {

@@ -3,6 +3,7 @@
 #![tactic(auto)]
 
 mod closing;
+mod counting;
 mod gates;
 mod key;
 mod meeting;

@@ -298,6 +298,7 @@ impl<K: SigningCredential, D: DeadlineRule<Credential = K>> Desk<K, D> {
             (record { event = event.now; reply = result }) }
         ensures causes { IsCaused (cause_of (policy_of K.valid K.valid_at D.deadline) self.now event.now) result }
         ensures kind { IsTrue (is_reply_to event.now result) }
+        ensures memory { ClonesAreFree K.clones_freely → RunsOutAtHeads event.now result }
     {
         self.state.preview(event)
     }

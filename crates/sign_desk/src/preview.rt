@@ -1,5 +1,5 @@
 //! The reply that an event would get, with nothing changed.
-ghost use Rattle.std.specs.Prelude.{◌≡◌, IsSome, IfOk, slice_get};
+ghost use Rattle.std.specs.Prelude.{◌≡◌, ◌≢◌, IsSome, IfOk, slice_get};
 
 use crate::state::State;
 use credentials::{DeadlineRule, SigningCredential};
@@ -23,11 +23,15 @@ impl<K: SigningCredential, D: DeadlineRule<Credential = K>> State<K, D> {
     ghost use Rattle.sign_desk.specs.HoldAction.{hold_action, loading_hold};
     ghost use Rattle.sign_desk.specs.Transition.{action_of, first_poll_action, later_poll_action, load_action, accept_action};
     ghost use Rattle.sign_desk.specs.Previews.{Previews};
+    ghost use Rattle.desk_parts.specs.Memory.{ClonesAreFree};
+    ghost use Rattle.sign_desk.specs.Memory.{RunsOutAtHeads};
+    ghost use Rattle.sequential_signer.specs.declared.event.Reply.TheVariants.{OutOfMemory};
 
     /// The reply to one event.
     pub fn preview(&self, event: &Event<K>) -> Reply<K>
         requires { StepPrecondition self.now }
-        ensures { Previews (action_of (policy_of K.valid K.valid_at D.deadline) self.now event.now) result }
+        ensures done { Previews (action_of (policy_of K.valid K.valid_at D.deadline) self.now event.now) result }
+        ensures memory { ClonesAreFree K.clones_freely → RunsOutAtHeads event.now result }
     {
         match event {
             Event::Begin { call, .. } => {
@@ -47,7 +51,8 @@ impl<K: SigningCredential, D: DeadlineRule<Credential = K>> State<K, D> {
     /// The reply to a poll.
     fn preview_poll(&self, call: CallId, now: Timestamp) -> Reply<K>
         requires { StepPrecondition self.now }
-        ensures { Previews (action_of (policy_of K.valid K.valid_at D.deadline) self.now (Poll call now)) result }
+        ensures done { Previews (action_of (policy_of K.valid K.valid_at D.deadline) self.now (Poll call now)) result }
+        ensures memory { ClonesAreFree K.clones_freely → result ≢ OutOfMemory }
     {
         let Some(view) = self.find(call) else {
             return Reply::NotNow;
@@ -62,8 +67,9 @@ impl<K: SigningCredential, D: DeadlineRule<Credential = K>> State<K, D> {
     /// The reply to a first poll.
     fn preview_first_poll(&self, view: LiveCallView, now: Timestamp) -> Reply<K>
         requires { IsPlaced self.now view }
-        ensures { Previews (first_poll_action self.now view (is_held_line (line_at view.cache self.now.queues))
+        ensures done { Previews (first_poll_action self.now view (is_held_line (line_at view.cache self.now.queues))
             (desk_lookup (policy_of K.valid K.valid_at D.deadline) self.now now view)) result }
+        ensures memory { ClonesAreFree K.clones_freely → result ≢ OutOfMemory }
     {
         if self.tables.is_held(view.cache) {
             return Reply::Pending;
@@ -82,8 +88,9 @@ impl<K: SigningCredential, D: DeadlineRule<Credential = K>> State<K, D> {
     /// The reply to a later poll of a call that waited.
     fn preview_later_poll(&self, view: LiveCallView, now: Timestamp) -> Reply<K>
         requires { IsPlaced self.now view }
-        ensures { Previews (later_poll_action self.now view (is_first view.call (line_at view.cache self.now.queues))
+        ensures done { Previews (later_poll_action self.now view (is_first view.call (line_at view.cache self.now.queues))
             (desk_lookup (policy_of K.valid K.valid_at D.deadline) self.now now view)) result }
+        ensures memory { ClonesAreFree K.clones_freely → result ≢ OutOfMemory }
     {
         if !self.tables.is_held_by(view.cache, view.call) {
             return Reply::Pending;
@@ -100,7 +107,8 @@ impl<K: SigningCredential, D: DeadlineRule<Credential = K>> State<K, D> {
     /// The reply to a provider's answer.
     fn preview_provided(&self, call: CallId, now: Timestamp, answer: &Answer<K>) -> Reply<K>
         requires { StepPrecondition self.now }
-        ensures { Previews (action_of (policy_of K.valid K.valid_at D.deadline) self.now (Provided call now answer.now)) result }
+        ensures done { Previews (action_of (policy_of K.valid K.valid_at D.deadline) self.now (Provided call now answer.now)) result }
+        ensures memory { ClonesAreFree K.clones_freely → result ≢ OutOfMemory }
     {
         let Some(view) = self.find(call) else {
             return Reply::NotNow;
@@ -115,7 +123,8 @@ impl<K: SigningCredential, D: DeadlineRule<Credential = K>> State<K, D> {
     fn preview_load(&self, view: LiveCallView, now: Timestamp, answer: &Answer<K>) -> Reply<K>
         requires placed { IsPlaced self.now view }
         requires loading { view.stage ≡ Loading }
-        ensures { Previews (load_action (policy_of K.valid K.valid_at D.deadline) self.now now answer.now view) result }
+        ensures done { Previews (load_action (policy_of K.valid K.valid_at D.deadline) self.now now answer.now view) result }
+        ensures memory { ClonesAreFree K.clones_freely → result ≢ OutOfMemory }
     {
         let view = self.tables.with_answer(view);
         match answer {
@@ -128,8 +137,9 @@ impl<K: SigningCredential, D: DeadlineRule<Credential = K>> State<K, D> {
     /// The reply to a credential that was found.
     fn preview_found(&self, view: LiveCallView, now: Timestamp, found: &K) -> Reply<K>
         requires { HasPlaces self.now view.cache view.rule }
-        ensures { Previews (hold_action (loading_hold self.now view) view
+        ensures done { Previews (hold_action (loading_hold self.now view) view
             (desk_load (policy_of K.valid K.valid_at D.deadline) self.now now view (Found found.now))) result }
+        ensures memory { ClonesAreFree K.clones_freely → result ≢ OutOfMemory }
     {
         let wake = self.tables.next_after(view.cache, view.call);
         if let Err(why) = self.tables.check(view, now, found) {
@@ -144,8 +154,9 @@ impl<K: SigningCredential, D: DeadlineRule<Credential = K>> State<K, D> {
     /// The reply to an answer without a credential.
     fn preview_load_on(&self, view: LiveCallView, single: Why) -> Reply<K>
         requires { HasPlaces self.now view.cache view.rule }
-        ensures { Previews (hold_action (loading_hold self.now view) view
+        ensures done { Previews (hold_action (loading_hold self.now view) view
             (next_load (slice_get self.now.loaders view.cache) view.answers single)) result }
+        ensures memory { result ≢ OutOfMemory }
     {
         let wake = self.tables.next_after(view.cache, view.call);
         match self.tables.loader_at(view.cache) {
@@ -163,7 +174,8 @@ impl<K: SigningCredential, D: DeadlineRule<Credential = K>> State<K, D> {
     /// The reply to a service's answer.
     fn preview_signed(&self, call: CallId, answer: &Verdict) -> Reply<K>
         requires { StepPrecondition self.now }
-        ensures { Previews (action_of (policy_of K.valid K.valid_at D.deadline) self.now (Signed call answer.now)) result }
+        ensures done { Previews (action_of (policy_of K.valid K.valid_at D.deadline) self.now (Signed call answer.now)) result }
+        ensures memory { RunsOutAtHeads (Signed call answer.now) result }
     {
         let Some(view) = self.find(call) else {
             return Reply::NotNow;
@@ -193,7 +205,8 @@ impl<K: SigningCredential, D: DeadlineRule<Credential = K>> State<K, D> {
     /// The reply to a cancel.
     fn preview_cancel(&self, call: CallId) -> Reply<K>
         requires { StepPrecondition self.now }
-        ensures { Previews (action_of (policy_of K.valid K.valid_at D.deadline) self.now (Cancel call)) result }
+        ensures done { Previews (action_of (policy_of K.valid K.valid_at D.deadline) self.now (Cancel call)) result }
+        ensures memory { result ≢ OutOfMemory }
     {
         let Some(view) = self.find(call) else {
             return Reply::NotNow;

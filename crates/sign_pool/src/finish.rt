@@ -1,6 +1,6 @@
 //! Finishing a pool: its signer is closed, its queue is emptied, and its books are compared.
 ghost use Rattle.std.specs.Prelude.{◌≡◌, All, IfOk, IfErr, MatchResult};
-ghost use Rattle.crossbeam_queue.specs.Passes.{IsPassOf};
+ghost use Rattle.crossbeam_queue.specs.Passes.{IsPassOf, ruled_capacity};
 ghost use Rattle.sequential_signer.specs.Policy.{policy_of};
 ghost use Rattle.sign_desk.specs.DeskState.{Represents};
 ghost use Rattle.signer_book.specs.Close.{IsCloseCause};
@@ -73,7 +73,8 @@ where
         workers: &[Worker<K>],
     ) -> Result<FinishRoom<K>, FinishError>
         ensures { MatchResult result
-            (λ room. HasAllSeats self.now.submitters self.now.workers submitters.now workers.now × HasRoom submitters.now workers.now room)
+            (λ room. HasAllSeats self.now.submitters self.now.workers submitters.now workers.now
+            × HasRoom (ruled_capacity self.now.queue) submitters.now workers.now room)
             (λ why. IsFinishError self.now.submitters self.now.workers submitters.now workers.now why) }
     {
         if submitters.len() != self.submitters as usize || workers.len() != self.workers as usize {
@@ -97,7 +98,7 @@ where
         room: FinishRoom<K>,
     ) -> Result<Finished<K, D>, FinishRefused<K, D>>
         requires seats { HasAllSeats self.submitters self.workers submitters.items workers.items }
-        requires room { HasRoom submitters.items workers.items room }
+        requires room { HasRoom (ruled_capacity self.queue) submitters.items workers.items room }
         ensures cleared { IfOk result IsClearedPool }
         ensures answers { IfOk result HasGoodAnswers }
         ensures closed { IfOk result (IsClosed (policy_of K.valid K.valid_at D.deadline) self.shared) }

@@ -31,7 +31,7 @@ impl<K: SigningCredential> FinishRoom<K> {
         submitters: &[Submitter],
         workers: &[Worker<K>],
     ) -> Result<FinishRoom<K>, NoMemory<()>>
-        ensures { IfOk result (HasRoom submitters.now workers.now) }
+        ensures { IfOk result (HasRoom capacity submitters.now workers.now) }
     {
         Ok(FinishRoom {
             passes: Vec::with_capacity(alloc, workers.len())?,

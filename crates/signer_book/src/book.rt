@@ -1,5 +1,5 @@
 //! A desk beside the journal of its events and replies.
-ghost use Rattle.std.specs.Prelude.{◌≡◌, ◌≢◌, ◌++◌, ◌∷◌, [], ◌<◌, true, List, IfOk, IfErr, IfSome, IsSome, IsTrue, length};
+ghost use Rattle.std.specs.Prelude.{◌≡◌, ◌≢◌, ◌++◌, ◌∷◌, [], ◌<◌, true, List, IfOk, IfErr, IfSome, IsOk, IsSome, IsTrue, length};
 ghost use Rattle.wake_lock.specs.declared.CallId.{CallId};
 ghost use Rattle.sequential_signer.specs.Policy.{policy_of};
 ghost use Rattle.sequential_signer.specs.Transcript.{committed_entries, is_out_of_memory};
@@ -124,9 +124,10 @@ impl<K: SigningCredential, D: DeadlineRule<Credential = K>> Book<K, D> {
         &self.desk
     }
 
-    /// A pass without receipts.
+    /// A pass without receipts. It takes no memory, so it never fails.
     pub fn pass(&self) -> Result<Pass<K>, NoMemory<()>>
-        ensures { IfOk result (λ pass. pass ≡ []) }
+        ensures empty { IfOk result (λ pass. pass ≡ []) }
+        ensures memory { IsOk result }
     {
         Ok(Pass::new(self.desk.alloc()))
     }

@@ -1,5 +1,5 @@
 //! A book that threads share.
-ghost use Rattle.std.specs.Prelude.{◌≡◌, ◌≢◌, ◌++◌, ◌∷◌, [], ◌<◌, ℕ, IfOk, IfErr, IsTrue, length};
+ghost use Rattle.std.specs.Prelude.{◌≡◌, ◌≢◌, ◌++◌, ◌∷◌, [], ◌<◌, ℕ, IfOk, IfErr, IsOk, IsTrue, length};
 ghost use Rattle.sequential_signer.specs.declared.event.Reply.TheVariants.{OutOfMemory};
 ghost use Rattle.sign_desk.specs.ReplyKinds.{is_reply_to};
 
@@ -45,9 +45,10 @@ impl<K: SigningCredential, D: DeadlineRule<Credential = K>> SharedSigner<K, D> {
         }
     }
 
-    /// A pass without receipts.
+    /// A pass without receipts. It takes no memory, so it never fails.
     pub fn pass(&self) -> Result<Pass<K>, NoMemory<()>>
-        ensures { IfOk result (λ pass. pass ≡ []) }
+        ensures empty { IfOk result (λ pass. pass ≡ []) }
+        ensures memory { IsOk result }
     {
         Ok(Pass::new(self.plan.alloc()))
     }

@@ -1,5 +1,5 @@
 //! Heads with headers of these names, none of which has a value.
-use crate::names::{collides, name_of, next_at_random};
+use crate::names::{Name, colliding_names, ordinary_names};
 use sign_base::{Field, Fields, Head, NoMemory, Octets, Version};
 use std::alloc::Global;
 
@@ -24,30 +24,21 @@ fn push_name(alloc: Global, head: &mut Head, name: &[u8]) -> Result<(), NoMemory
     }
 }
 
-/// So many names that collide.
-pub(crate) fn colliding_head(alloc: Global, names: u32) -> Result<Head, NoMemory<()>> {
+/// A head with these names in their order.
+fn head_with(alloc: Global, names: &[Name]) -> Result<Head, NoMemory<()>> {
     let mut head = plain_head(alloc)?;
-    let mut count = 0u32;
-    for number in 0..u32::MAX {
-        let name = name_of(number);
-        if count >= names {
-            break;
-        }
-        if collides(&name, count) {
-            push_name(alloc, &mut head, &name)?;
-            count += 1;
-        }
+    for name in names {
+        push_name(alloc, &mut head, name)?;
     }
     Ok(head)
 }
 
+/// So many names that collide.
+pub(crate) fn colliding_head(alloc: Global, count: u32) -> Result<Head, NoMemory<()>> {
+    head_with(alloc, colliding_names(alloc, count)?.as_slice())
+}
+
 /// So many names at random.
-pub(crate) fn ordinary_head(alloc: Global, names: u32) -> Result<Head, NoMemory<()>> {
-    let mut head = plain_head(alloc)?;
-    let mut number = 1u32;
-    for _ in 0..names {
-        number = next_at_random(number);
-        push_name(alloc, &mut head, &name_of(number))?;
-    }
-    Ok(head)
+pub(crate) fn ordinary_head(alloc: Global, count: u32) -> Result<Head, NoMemory<()>> {
+    head_with(alloc, ordinary_names(alloc, count)?.as_slice())
 }

@@ -1,5 +1,9 @@
 //! Names of eight letters: some that collide in a map without keys, and some at random.
+use sign_base::NoMemory;
+use std::alloc::Global;
 use std::hash::{DefaultHasher, Hasher};
+
+pub(crate) type Name = [u8; 8];
 
 /// So many names collide under the quick hash, which makes a map change to the other one.
 const QUICK: u32 = 600;
@@ -23,7 +27,7 @@ fn keyless_hash(name: &[u8]) -> u64 {
 }
 
 /// The number in letters.
-pub(crate) fn name_of(number: u32) -> [u8; 8] {
+fn name_of(number: u32) -> Name {
     let mut name = *b"aaaaaaaa";
     let mut rest = number;
     for byte in name.iter_mut() {
@@ -34,7 +38,7 @@ pub(crate) fn name_of(number: u32) -> [u8; 8] {
 }
 
 /// Whether the name is hashed to where the others of its kind are, behind so many of them.
-pub(crate) fn collides(name: &[u8], count: u32) -> bool {
+fn collides(name: &[u8], count: u32) -> bool {
     if count < QUICK {
         quick_hash(name) == 0x111
     } else {
@@ -43,6 +47,41 @@ pub(crate) fn collides(name: &[u8], count: u32) -> bool {
 }
 
 /// The number after this one, at random (Numerical Recipes' generator, which repeats after 2^32).
-pub(crate) fn next_at_random(number: u32) -> u32 {
+fn next_at_random(number: u32) -> u32 {
     number.wrapping_mul(1_664_525).wrapping_add(1_013_904_223)
+}
+
+fn push(names: &mut Vec<Name>, name: Name) -> Result<(), NoMemory<()>> {
+    match names.push(name) {
+        Ok(()) => Ok(()),
+        Err(_) => Err(NoMemory { back: () }),
+    }
+}
+
+/// So many names that collide.
+pub(crate) fn colliding_names(alloc: Global, count: u32) -> Result<Vec<Name>, NoMemory<()>> {
+    let mut names = Vec::new(alloc);
+    let mut found = 0u32;
+    for number in 0..u32::MAX {
+        if found >= count {
+            break;
+        }
+        let name = name_of(number);
+        if collides(&name, found) {
+            push(&mut names, name)?;
+            found += 1;
+        }
+    }
+    Ok(names)
+}
+
+/// So many names at random.
+pub(crate) fn ordinary_names(alloc: Global, count: u32) -> Result<Vec<Name>, NoMemory<()>> {
+    let mut names = Vec::new(alloc);
+    let mut number = 1u32;
+    for _ in 0..count {
+        number = next_at_random(number);
+        push(&mut names, name_of(number))?;
+    }
+    Ok(names)
 }

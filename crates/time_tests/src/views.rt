@@ -1,7 +1,7 @@
 //! `signctl view` on a line with as many headers as a line holds.
-use crate::names::{collides, name_of, next_at_random};
+use crate::names::{Name, colliding_names, ordinary_names};
 use crate::times::{TIMES, is_alike};
-use sign_base::{FaultySink, FaultySource};
+use sign_base::{FaultySink, FaultySource, NoMemory};
 use signctl_core::{HeaderKeys, Status, run};
 use std::alloc::{AllocError, Global};
 use std::hash::RandomState;
@@ -15,32 +15,23 @@ const SHOWN: usize = 58_500;
 /// The bytes that are read or written at once, and that the answer has room for.
 const ROOM: usize = 1_048_576;
 
-/// A line with so many names that collide.
-fn colliding_line(alloc: Global) -> Result<String, AllocError> {
+/// A line with headers of these names in their order.
+fn line_with(alloc: Global, names: &[Name]) -> Result<String, NoMemory<()>> {
     let mut line = String::from_str(alloc, "GET https://e.x/ 1.1")?;
-    let mut count = 0u32;
-    for number in 0..u32::MAX {
-        let name = name_of(number);
-        if count >= NAMES {
-            break;
-        }
-        if collides(&name, count) {
-            push_header(&mut line, &name)?;
-            count += 1;
-        }
+    for name in names {
+        push_header(&mut line, name)?;
     }
     Ok(line)
 }
 
+/// A line with so many names that collide.
+fn colliding_line(alloc: Global) -> Result<String, NoMemory<()>> {
+    line_with(alloc, colliding_names(alloc, NAMES)?.as_slice())
+}
+
 /// A line with so many names at random.
-fn ordinary_line(alloc: Global) -> Result<String, AllocError> {
-    let mut line = String::from_str(alloc, "GET https://e.x/ 1.1")?;
-    let mut number = 1u32;
-    for _ in 0..NAMES {
-        number = next_at_random(number);
-        push_header(&mut line, &name_of(number))?;
-    }
-    Ok(line)
+fn ordinary_line(alloc: Global) -> Result<String, NoMemory<()>> {
+    line_with(alloc, ordinary_names(alloc, NAMES)?.as_slice())
 }
 
 fn push_header(line: &mut String, name: &[u8]) -> Result<(), AllocError> {

@@ -1,4 +1,5 @@
 use Rattle.std.proofs.Common.{◌≡◌, List, sym, ◌∙◌, ap, subst, rules}
+use Rattle.crossbeam_queue.specs.Passes.{ruled_capacity}
 use Rattle.signctl_format.specs.declared.credential.ScriptCredential.{ScriptCredential}
 use Rattle.signer_shared.proofs.SlotLemmas.{written_back}
 use Rattle.sign_pool.specs.declared.seats.Submitter.{Submitter}
@@ -7,6 +8,9 @@ use Rattle.queue_jobs.specs.Slots.{AreServedSeats}
 use Rattle.queue_jobs.specs.declared.slots.Slot.{Slot}
 use Rattle.queue_jobs.proofs.RunSlots.{are_served, submitters_of, workers_of}
 use Rattle.queue_jobs.proofs.seats.served_pool.Goals as goal
+
+pub returns-clause-capacity : goal.returns-clause-capacity
+returns-clause-capacity g c = ap ruled_capacity c.in_ok-slots.ensures.queue ∙ c.in_ok-pool.ensures.capacity
 
 pub returns-clause-seats : goal.returns-clause-seats
 returns-clause-seats g c =

@@ -13,4 +13,5 @@ loop-place-preserved c = (
   omega (arith, c.in-Ok.ensures.made.0, c.in_ok-submitter.ensures.made.0, c.loop-place.invariant.2),
   omega (arith, c.in-Ok.ensures.made.1, c.in_ok-submitter.ensures.made.1, c.loop-place.invariant.3),
   c.in-Ok.ensures.pool.0 ∙ c.in_ok-submitter.ensures.pool.0 ∙ c.loop-place.invariant.4,
+  c.in-Ok.ensures.pool.1 ∙ c.in_ok-submitter.ensures.pool.1 ∙ c.loop-place.invariant.5,
 )

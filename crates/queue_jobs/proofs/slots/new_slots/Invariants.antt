@@ -7,3 +7,4 @@ abbrev pub invariant-loop-place : goal.invariant-loop-place
 invariant-loop-place l =
     (l.count ≤ vec_capacity l.slots) × AreNewSlots l.pool.queue l.place l.slots.items
     × (l.pool.submitters ≡ l.place) × (l.pool.workers ≡ l.place) × (l.pool.shared ≡ l.initial.pool.shared)
+    × (l.pool.queue ≡ l.initial.pool.queue)
