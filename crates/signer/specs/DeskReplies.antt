@@ -2,11 +2,13 @@
 use Rattle.std.specs.Prelude.{◌≡◌, ℕ, ◌+◌, Bool, true, false, IsTrue, Option, Some, None, slice_set}
 use Rattle.wake_lock.specs.declared.CallId.{CallId}
 use Rattle.wake_lock.specs.Calls.{same_call}
+use Rattle.sequential_signer.specs.declared.event.Answer.{Answer}
 use Rattle.sequential_signer.specs.declared.event.Answer.TheVariants as answer
 use Rattle.sequential_signer.specs.declared.event.Event.{Event}
 use Rattle.sequential_signer.specs.declared.event.Event.TheVariants.{Begin, Provided, Signed}
 use Rattle.sequential_signer.specs.declared.event.Reply.{Reply}
 use Rattle.sequential_signer.specs.declared.event.Reply.TheVariants.{Pending, OutOfMemory, Ask, Sign, Refused, Done}
+use Rattle.sequential_signer.specs.declared.event.Verdict.{Verdict}
 use Rattle.sequential_signer.specs.declared.event.Verdict.TheVariants as verdict
 use Rattle.sequential_signer.specs.declared.event.Why.{Why}
 use Rattle.sequential_signer.specs.declared.event.Why.TheVariants.{Missing, Short, Range}
@@ -72,12 +74,22 @@ abbrev pub begun_in_event : {K : Type 0} → Event K → Option Head
 begun_in_event (Begin call head expires_in) = Some head
 begun_in_event _ = None
 
+-- the credential of an answer that has one
+abbrev pub found_in_answer : {K : Type 0} → Answer K → Option K
+found_in_answer (answer.Found credential) = Some credential
+found_in_answer _ = None
+
 -- the credential of an event that says that a provider found one
 abbrev pub found_in_event : {K : Type 0} → Event K → Option K
-found_in_event (Provided call now (answer.Found credential)) = Some credential
+found_in_event (Provided call now answer) = found_in_answer answer
 found_in_event _ = None
+
+-- the head of an answer that has one
+abbrev pub accepted_in_verdict : Verdict → Option Head
+accepted_in_verdict (verdict.Accepted candidate) = Some candidate
+accepted_in_verdict _ = None
 
 -- the head of an event that says that a service signed one
 abbrev pub accepted_in_event : {K : Type 0} → Event K → Option Head
-accepted_in_event (Signed call (verdict.Accepted candidate)) = Some candidate
+accepted_in_event (Signed call answer) = accepted_in_verdict answer
 accepted_in_event _ = None

@@ -10,7 +10,7 @@ ghost use Rattle.sign_desk.specs.Steps.{IsStep};
 ghost use Rattle.desk_parts.specs.Memory.{ClonesAreFree};
 ghost use Rattle.sign_desk.specs.Memory.{RunsOutAtHeads};
 ghost use Rattle.desk_driver.specs.CallAt.{IsLive, IsWaiting, IsAsking, IsSigning, LeavesOthers};
-ghost use Rattle.signer.specs.DeskReplies.{IsBegun, AfterPoll, AfterFound, AfterNone, AfterAccepted, begun_in_event, found_in_event, accepted_in_event};
+ghost use Rattle.signer.specs.DeskReplies.{IsBegun, AfterPoll, AfterFound, AfterNone, AfterAccepted, begun_in_event, found_in_event, found_in_answer, accepted_in_event, accepted_in_verdict};
 ghost use Rattle.sequential_signer.specs.LiveCall.{is_above};
 
 use credentials::{DeadlineRule, SigningCredential};
@@ -45,8 +45,10 @@ pub(crate) fn begin_call<K: SigningCredential, D: DeadlineRule<Credential = K>>(
         head,
         expires_in,
     };
-    match desk.step(&event) {
-        Reply::Begun => Ok(begun_in(event).unwrap()),
+    let reply = desk.step(&event);
+    let head = begun_in(event).unwrap();
+    match reply {
+        Reply::Begun => Ok(head),
         _ => Err(NoMemory { back: () }),
     }
 }
@@ -62,7 +64,9 @@ pub(crate) fn cancel_call<K: SigningCredential, D: DeadlineRule<Credential = K>>
     ensures others { LeavesOthers begun.now.id desk.old desk.new }
 {
     let event = Event::Cancel { call: begun.id };
-    match desk.step(&event) {
+    let reply = desk.step(&event);
+    drop(event);
+    match reply {
         Reply::Cancelled { wake } => wake,
         _ => unreachable!(),
     }
@@ -215,11 +219,17 @@ fn found_in<K: Drop>(event: Event<K>) -> Option<K>
     ensures { result ≡ found_in_event event }
 {
     match event {
-        Event::Provided {
-            answer: Answer::Found(credential),
-            ..
-        } => Some(credential),
+        Event::Provided { answer, .. } => found(answer),
         _ => None,
+    }
+}
+
+fn found<K: Drop>(answer: Answer<K>) -> Option<K>
+    ensures { result ≡ found_in_answer answer }
+{
+    match answer {
+        Answer::Found(credential) => Some(credential),
+        Answer::Missing | Answer::Failed(_) => None,
     }
 }
 
@@ -228,10 +238,16 @@ fn accepted_in<K: Drop>(event: Event<K>) -> Option<Head>
     ensures { result ≡ accepted_in_event event }
 {
     match event {
-        Event::Signed {
-            answer: Verdict::Accepted(candidate),
-            ..
-        } => Some(candidate),
+        Event::Signed { answer, .. } => accepted(answer),
         _ => None,
+    }
+}
+
+fn accepted(answer: Verdict) -> Option<Head>
+    ensures { result ≡ accepted_in_verdict answer }
+{
+    match answer {
+        Verdict::Accepted(candidate) => Some(candidate),
+        Verdict::Failed(_) => None,
     }
 }

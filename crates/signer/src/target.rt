@@ -50,10 +50,17 @@ pub(crate) fn hand_in<K: SigningCredential, D: DeadlineRule<Credential = K>>(
     let (reply, back) = give_accepted(desk, begun, candidate);
     match reply {
         Reply::Done { .. } => {
-            req.uri = target.uri;
-            req.headers = target.headers;
+            put_target(req, target);
             None
         }
         _ => Some(back),
     }
+}
+
+/// Puts the URI and the headers of the target into the request.
+fn put_target(req: &mut Parts, target: Parts)
+    ensures { req.new ≡ record req.old { uri = target.uri; headers = target.headers } }
+{
+    req.uri = target.uri;
+    req.headers = target.headers;
 }

@@ -9,15 +9,15 @@ use Rattle.signer.proofs.drive.cancel_call.Goals as goal
 pub returns-clause-step : goal.returns-clause-step
 returns-clause-step g c =
     let policy = policy_of g.K.SigningCredential.valid g.K.SigningCredential.valid_at g.D.DeadlineRule.deadline in
-    subst (λ (r : Reply g.row.K.Denot). IsStep policy (Cancel c.args.begun.now.id) c.args.desk.now r c.step.new.self) c.in-Cancelled.is c.step.ensures.step
+    subst (λ (r : Reply g.row.K.Denot). IsStep policy (Cancel c.args.begun.now.id) c.args.desk.now r c.step-reply.new.self) c.in-Cancelled.is c.step-reply.ensures.step
 
 pub returns-clause-others : goal.returns-clause-others
 returns-clause-others g c =
     let policy = policy_of g.K.SigningCredential.valid g.K.SigningCredential.valid_at g.D.DeadlineRule.deadline in
-    (after-cancel policy c.args.desk.now c.step.new.self c.step.result c.args.begun.now c.step.ensures.sound c.requires.there c.requires.live.0 c.requires.live.1 c.requires.live.2 c.step.ensures.transition).others
+    (after-cancel policy c.args.desk.now c.step-reply.new.self c.step-reply.result c.args.begun.now c.step-reply.ensures.sound c.requires.there c.requires.live.0 c.requires.live.1 c.requires.live.2 c.step-reply.ensures.transition).others
 
 pub unreachable-requires : goal.unreachable-requires
 unreachable-requires g c =
     let policy = policy_of g.K.SigningCredential.valid g.K.SigningCredential.valid_at g.D.DeadlineRule.deadline in
-    let after = (after-cancel policy c.args.desk.now c.step.new.self c.step.result c.args.begun.now c.step.ensures.sound c.requires.there c.requires.live.0 c.requires.live.1 c.requires.live.2 c.step.ensures.transition).after in
+    let after = (after-cancel policy c.args.desk.now c.step-reply.new.self c.step-reply.result c.args.begun.now c.step-reply.ensures.sound c.requires.there c.requires.live.0 c.requires.live.1 c.requires.live.2 c.step-reply.ensures.transition).after in
     c.in_default.not-Cancelled after.0 after.1
