@@ -35,12 +35,5 @@ pub fn serve_jobs<K: SigningCredential, D: DeadlineRule<Credential = K>, G: Gate
         gate,
         turns,
     };
-    let mut served = Served::new();
-    for job in jobs {
-        served.count(worker.serve(pass, job));
-        if served.out_of_memory {
-            return served;
-        }
-    }
-    served
+    worker.serve_each(pass, jobs)
 }

@@ -42,6 +42,8 @@ impl<K: SigningCredential> Slots<K> {
         ensures room { IfOk result HasResultRoom }
     {
         let alloc = shared.alloc();
+        let passes = Vec::with_capacity(alloc, count)?;
+        let served = Vec::with_capacity(alloc, count)?;
         let mut slots = Vec::with_capacity(alloc, count)?;
         for _slot in 0..count {
             let pass = shared.pass()?;
@@ -52,8 +54,8 @@ impl<K: SigningCredential> Slots<K> {
         }
         Ok(Slots {
             slots,
-            passes: Vec::with_capacity(alloc, count)?,
-            served: Vec::with_capacity(alloc, count)?,
+            passes,
+            served,
         })
     }
 

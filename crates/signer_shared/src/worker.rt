@@ -1,11 +1,12 @@
 //! A worker on one job: it begins, polls, loads and signs until the call is over.
-ghost use Rattle.std.specs.Prelude.{◌≡◌};
-ghost use Rattle.signer_shared.specs.Serving.{Advances, IsNext, IsGivenUp, IsLive};
+ghost use Rattle.std.specs.Prelude.{◌≡◌, ◌++◌, List};
+ghost use Rattle.signer_book.specs.declared.pass.Receipt.{Receipt};
+ghost use Rattle.signer_shared.specs.Serving.{Advances, IsNext, IsGivenUp, IsLive, IsServing};
 ghost use Rattle.signer_shared.specs.declared.next.Next.{Next};
 ghost use Rattle.signer_shared.specs.declared.next.Next.TheVariants.{Begin, Poll, Load, Sign, Over};
 
 use crate::gate::{Gate, GateLoad};
-use crate::job::Job;
+use crate::job::{Job, Served};
 use crate::next::{JobEnd, Next};
 use crate::shared::SharedSigner;
 use credentials::{DeadlineRule, SigningCredential};
@@ -31,8 +32,23 @@ impl<K: SigningCredential, D: DeadlineRule<Credential = K>, G: Gate<K>, R: Wait>
     G,
     R,
 > {
+    /// Serves the jobs in order, until an allocation fails.
+    pub(crate) fn serve_each(&self, pass: &mut Pass<K>, jobs: &[Job]) -> Served
+        ensures { (added : List (Receipt K)) × (pass.new ≡ pass.old ++ added)
+            × IsServing (G.meaning self.now.gate.now) self.now.turns jobs.now added result }
+    {
+        let mut served = Served::new();
+        for job in jobs {
+            served.count(self.serve(pass, job));
+            if served.out_of_memory {
+                return served;
+            }
+        }
+        served
+    }
+
     /// Serves one job to its end.
-    pub(crate) fn serve(&self, pass: &mut Pass<K>, job: &Job) -> JobEnd
+    fn serve(&self, pass: &mut Pass<K>, job: &Job) -> JobEnd
         ensures { Advances (G.meaning self.now.gate.now) self.now.turns job.now Begin
             pass.old pass.new (Over result) }
     {

@@ -1,14 +1,14 @@
 use Rattle.signer_shared.proofs.Servings.{stops_there, goes_to_next}
-use Rattle.signer_shared.proofs.serve.serve_jobs.Goals as goal
+use Rattle.signer_shared.proofs.worker.Worker.serve_each.Goals as goal
 
 pub returns-then-served : goal.returns-then-served
 returns-then-served g c =
-    stops_there (g.G.Gate.meaning c.args.gate.now) c.args.turns c.args.jobs.now c.loop-job.job-index c.job-item.result c.args.pass.now c.loop-job.pass
+    stops_there (g.G.Gate.meaning c.args.self.now.gate.now) c.args.self.now.turns c.args.jobs.now c.loop-job.job-index c.job-item.result c.args.pass.now c.loop-job.pass
     c.serve.new.pass c.loop-job.served c.count.new.self c.serve.result c.loop-job-test.true c.job-item.is c.loop-job.invariant c.serve.ensures
     c.count.ensures c.if-served.true
 
 pub loop-job-preserved : goal.loop-job-preserved
 loop-job-preserved g c =
-    goes_to_next (g.G.Gate.meaning c.args.gate.now) c.args.turns c.args.jobs.now c.loop-job.job-index c.job-item.result c.args.pass.now c.loop-job.pass
+    goes_to_next (g.G.Gate.meaning c.args.self.now.gate.now) c.args.self.now.turns c.args.jobs.now c.loop-job.job-index c.job-item.result c.args.pass.now c.loop-job.pass
     c.serve.new.pass c.loop-job.served c.count.new.self c.serve.result c.loop-job-test.true c.job-item.is c.loop-job.invariant c.serve.ensures
     c.count.ensures c.if-served.false

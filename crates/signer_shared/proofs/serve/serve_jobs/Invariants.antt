@@ -1,6 +1,0 @@
-use Rattle.std.proofs.Common.{take}
-use Rattle.signer_shared.proofs.Servings.{ServedSoFar}
-use Rattle.signer_shared.proofs.serve.serve_jobs.Given as goal
-
-abbrev pub invariant-loop-job : goal.invariant-loop-job
-invariant-loop-job g l = ServedSoFar (g.G.Gate.meaning l.gate) l.turns (take l.job-index l.jobs) l.fn.pass l.pass l.served
