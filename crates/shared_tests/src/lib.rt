@@ -2,13 +2,23 @@
 //! each other.
 #![tactic(auto)]
 
+#[cfg(test)]
 mod closing;
+#[cfg(test)]
 mod counting;
+#[cfg(test)]
 mod gates;
+#[cfg(test)]
 mod key;
+#[cfg(test)]
 mod meeting;
+#[cfg(test)]
 mod pool;
+#[cfg(test)]
 mod queue;
+#[cfg(test)]
 mod refused_memory;
+#[cfg(test)]
 mod serving;
+#[cfg(test)]
 mod signers;
