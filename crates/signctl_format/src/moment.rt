@@ -19,6 +19,7 @@ const LAST_SECOND: u64 = 253_402_207_200;
 const PLACES: u32 = 9;
 
 /// The moment that a word spells in a script of this version.
+#[inline(always)]
 pub fn moment(version: ScriptVersion, word: &[u8]) -> Result<Timestamp, NotUnderstood>
     ensures { Reads (λ t. t) result (moment_of version word.now) }
 {
@@ -26,6 +27,7 @@ pub fn moment(version: ScriptVersion, word: &[u8]) -> Result<Timestamp, NotUnder
     Ok(moment_after(since_1970))
 }
 
+#[inline(always)]
 fn moment_after(since_1970: Duration) -> Timestamp
     requires { as_nanos since_1970 < (last_second + 1) * nanos_of_second }
     ensures { result ≡ pos (as_nanos since_1970) }
@@ -37,6 +39,7 @@ fn moment_after(since_1970: Duration) -> Timestamp
 }
 
 /// The duration that a word spells, which may be none.
+#[inline(always)]
 pub fn duration(version: ScriptVersion, word: &[u8]) -> Result<Option<Duration>, NotUnderstood>
     ensures { Reads (option_map plain_duration) result (duration_of version word.now) }
 {
@@ -48,6 +51,7 @@ pub fn duration(version: ScriptVersion, word: &[u8]) -> Result<Option<Duration>,
 }
 
 /// The seconds that a word spells, up to a limit on whole ones.
+#[inline(always)]
 fn time(version: ScriptVersion, limit: u64, word: &[u8]) -> Result<Duration, NotUnderstood>
     ensures value { Reads plain_duration result (time_of version limit word.now) }
     ensures fits { IfOk result (λ time. as_nanos time < (limit + 1) * nanos_of_second) }
@@ -62,6 +66,7 @@ fn time(version: ScriptVersion, limit: u64, word: &[u8]) -> Result<Duration, Not
     Ok(Duration::new(secs, nanos))
 }
 
+#[inline(always)]
 fn point_in(version: ScriptVersion, word: &[u8]) -> Option<usize>
     ensures place { result ≡ point_in version word.now }
     ensures within { IfSome result (λ i. i < length word.now) }
@@ -72,6 +77,7 @@ fn point_in(version: ScriptVersion, word: &[u8]) -> Option<usize>
     }
 }
 
+#[inline(always)]
 fn first_point(word: &[u8]) -> Option<usize>
     ensures place { result ≡ position is_point word.now }
     ensures within { IfSome result (λ i. i < length word.now) }

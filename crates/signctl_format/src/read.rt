@@ -1,4 +1,7 @@
 //! Reading a line: one function for each form, by the name that begins it.
+//!
+//! These functions are inlined, as those of `word` and `moment` are: each call would copy the item, which has room for
+//! the largest event.
 ghost use Rattle.std.specs.Prelude.{◌≡◌, IsTrue, false};
 ghost use Rattle.signctl_format.specs.declared.item.Item.TheVariants as item;
 ghost use Rattle.signctl_format.specs.Steps.{first_word};
@@ -24,6 +27,7 @@ type Item = crate::Item<ScriptEvent>;
 /// Errors: `NotUnderstood` where it spells none, `OutOfMemory`. Nothing of the line is copied but what the
 /// item keeps, so only a line that carries a head, as those of `begin` and `accept` do, can run out of
 /// memory.
+#[inline(always)]
 #[tactic(auto, unfolding(crate::specs::Reading::item_of, crate::specs::Reading::words_say))]
 pub fn read_line(alloc: Global, version: ScriptVersion, line: &[u8]) -> Result<Item, ReadError>
     ensures item { Gives (λ i. i) result (item_of version line.now) }
@@ -37,6 +41,7 @@ pub fn read_line(alloc: Global, version: ScriptVersion, line: &[u8]) -> Result<I
 }
 
 /// The item that a line without its newline spells that carries no head: so it takes no memory.
+#[inline(always)]
 #[tactic(auto, unfolding(crate::specs::Reading::item_of, crate::specs::Reading::words_say))]
 pub fn read_line_with_no_head(version: ScriptVersion, line: &[u8]) -> Result<Item, NotUnderstood>
     requires { CarriesHead line.now → ⊥ }
@@ -49,6 +54,7 @@ pub fn read_line_with_no_head(version: ScriptVersion, line: &[u8]) -> Result<Ite
     form_with_no_head(version, name, rest)
 }
 
+#[inline(always)]
 #[tactic(auto, unfolding(crate::specs::Reading::item_form))]
 fn form(alloc: Global, version: ScriptVersion, name: &[u8], rest: &[u8]) -> Result<Item, ReadError>
     ensures item { Gives (λ i. i) result (item_form version name.now (words_after rest.now)) }
@@ -64,6 +70,7 @@ fn form(alloc: Global, version: ScriptVersion, name: &[u8], rest: &[u8]) -> Resu
 }
 
 /// The forms that carry no head take no memory.
+#[inline(always)]
 #[tactic(auto, unfolding(crate::specs::Reading::item_form))]
 fn form_with_no_head(
     version: ScriptVersion,
@@ -94,6 +101,7 @@ fn form_with_no_head(
     }
 }
 
+#[inline(always)]
 #[tactic(auto, unfolding(crate::specs::Reading::cache_form))]
 fn cache(rest: &[u8]) -> Result<Item, NotUnderstood>
     ensures { Reads (λ i. i) result (cache_form (words_after rest.now)) }
@@ -108,6 +116,7 @@ fn cache(rest: &[u8]) -> Result<Item, NotUnderstood>
     }
 }
 
+#[inline(always)]
 #[tactic(auto, unfolding(crate::specs::Reading::chain_form))]
 fn chain(rest: &[u8]) -> Result<Item, NotUnderstood>
     ensures { Reads (λ i. i) result (chain_form (words_after rest.now)) }
@@ -116,6 +125,7 @@ fn chain(rest: &[u8]) -> Result<Item, NotUnderstood>
     at_end_of_line(Item::Cache(Loader::Chain(providers)), rest)
 }
 
+#[inline(always)]
 #[tactic(auto, unfolding(crate::specs::Reading::handle_form))]
 fn handle(rest: &[u8]) -> Result<Item, NotUnderstood>
     ensures { Reads (λ i. i) result (handle_form (words_after rest.now)) }
@@ -126,6 +136,7 @@ fn handle(rest: &[u8]) -> Result<Item, NotUnderstood>
     at_end_of_line(Item::Handle { cache, rule }, rest)
 }
 
+#[inline(always)]
 #[tactic(auto, unfolding(crate::specs::Reading::begin_form))]
 fn begin(alloc: Global, version: ScriptVersion, rest: &[u8]) -> Result<Item, ReadError>
     ensures { Gives (λ i. i) result (begin_form version (words_after rest.now)) }
@@ -141,6 +152,7 @@ fn begin(alloc: Global, version: ScriptVersion, rest: &[u8]) -> Result<Item, Rea
     }))
 }
 
+#[inline(always)]
 #[tactic(auto, unfolding(crate::specs::Reading::poll_form, crate::specs::Reading::moment_at))]
 fn poll(version: ScriptVersion, rest: &[u8]) -> Result<Item, NotUnderstood>
     ensures { Reads (λ i. i) result (poll_form version (words_after rest.now)) }
@@ -151,6 +163,7 @@ fn poll(version: ScriptVersion, rest: &[u8]) -> Result<Item, NotUnderstood>
     at_end_of_line(event_item(Event::Poll { call, now }), rest)
 }
 
+#[inline(always)]
 #[tactic(auto, unfolding(crate::specs::Reading::found_form, crate::specs::Reading::moment_at))]
 fn found(version: ScriptVersion, rest: &[u8]) -> Result<Item, NotUnderstood>
     ensures { Reads (λ i. i) result (found_form version (words_after rest.now)) }
@@ -162,6 +175,7 @@ fn found(version: ScriptVersion, rest: &[u8]) -> Result<Item, NotUnderstood>
     Ok(event_item(Event::Provided { call, now, answer }))
 }
 
+#[inline(always)]
 #[tactic(auto, unfolding(crate::specs::Reading::missing_form, crate::specs::Reading::moment_at))]
 fn missing(version: ScriptVersion, rest: &[u8]) -> Result<Item, NotUnderstood>
     ensures { Reads (λ i. i) result (missing_form version (words_after rest.now)) }
@@ -173,6 +187,7 @@ fn missing(version: ScriptVersion, rest: &[u8]) -> Result<Item, NotUnderstood>
     at_end_of_line(event_item(Event::Provided { call, now, answer }), rest)
 }
 
+#[inline(always)]
 #[tactic(auto, unfolding(crate::specs::Reading::failed_form, crate::specs::Reading::moment_at))]
 fn failed(version: ScriptVersion, rest: &[u8]) -> Result<Item, NotUnderstood>
     ensures { Reads (λ i. i) result (failed_form version (words_after rest.now)) }
@@ -185,6 +200,7 @@ fn failed(version: ScriptVersion, rest: &[u8]) -> Result<Item, NotUnderstood>
     at_end_of_line(event_item(Event::Provided { call, now, answer }), rest)
 }
 
+#[inline(always)]
 #[tactic(auto, unfolding(crate::specs::Reading::accept_form))]
 fn accept(alloc: Global, rest: &[u8]) -> Result<Item, ReadError>
     ensures { Gives (λ i. i) result (accept_form (words_after rest.now)) }
@@ -194,6 +210,7 @@ fn accept(alloc: Global, rest: &[u8]) -> Result<Item, ReadError>
     Ok(event_item(Event::Signed { call, answer }))
 }
 
+#[inline(always)]
 #[tactic(auto, unfolding(crate::specs::Reading::reject_form))]
 fn reject(rest: &[u8]) -> Result<Item, NotUnderstood>
     ensures { Reads (λ i. i) result (reject_form (words_after rest.now)) }
@@ -204,6 +221,7 @@ fn reject(rest: &[u8]) -> Result<Item, NotUnderstood>
     at_end_of_line(event_item(Event::Signed { call, answer }), rest)
 }
 
+#[inline(always)]
 #[tactic(auto, unfolding(crate::specs::Reading::cancel_form))]
 fn cancel(rest: &[u8]) -> Result<Item, NotUnderstood>
     ensures { Reads (λ i. i) result (cancel_form (words_after rest.now)) }
@@ -212,12 +230,14 @@ fn cancel(rest: &[u8]) -> Result<Item, NotUnderstood>
     at_end_of_line(event_item(Event::Cancel { call }), rest)
 }
 
+#[inline(always)]
 fn event_item(event: Event<ScriptCredential>) -> Item
     ensures { result ≡ item.Event (plain_event event) }
 {
     Item::Event(ScriptEvent::new(event))
 }
 
+#[inline(always)]
 fn rule(word: &[u8]) -> Result<ScriptRule, NotUnderstood>
     ensures { Reads (λ r. r) result (rule_in word.now) }
 {
@@ -231,6 +251,7 @@ fn rule(word: &[u8]) -> Result<ScriptRule, NotUnderstood>
 }
 
 /// A call, in the next two words.
+#[inline(always)]
 #[tactic(auto, unfolding(crate::specs::Reading::call_at))]
 pub fn call_at(rest: &[u8]) -> Result<(CallId, &[u8]), NotUnderstood>
     ensures { Reads (λ x. (x.0, words_after x.1.now)) result (call_at (words_after rest.now)) }
@@ -241,6 +262,7 @@ pub fn call_at(rest: &[u8]) -> Result<(CallId, &[u8]), NotUnderstood>
 }
 
 /// The credential that all of these words spell.
+#[inline(always)]
 #[tactic(auto, unfolding(crate::specs::Reading::credential_in, crate::specs::Reading::moment_at))]
 pub fn credential(version: ScriptVersion, rest: &[u8]) -> Result<ScriptCredential, NotUnderstood>
     ensures { Reads (λ c. c) result (credential_in version (words_after rest.now)) }

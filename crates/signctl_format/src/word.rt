@@ -15,6 +15,7 @@ use crate::read_error::NotUnderstood;
 use crate::run::{ByteClass, run_len};
 
 /// Whether a line says nothing: it is empty, or begins with `#`.
+#[inline(always)]
 pub fn is_silent(line: &[u8]) -> bool
     ensures { result ≡ is_silent line.now }
 {
@@ -25,6 +26,7 @@ pub fn is_silent(line: &[u8]) -> bool
 }
 
 /// The text before its first space, and the rest from that space on.
+#[inline(always)]
 #[tactic(auto, using(crate::proofs::WordList::words_split))]
 pub fn split_word(text: &[u8]) -> (&[u8], &[u8])
     ensures words { words text.now ≡ result.0.now ∷ words_after result.1.now }
@@ -33,6 +35,7 @@ pub fn split_word(text: &[u8]) -> (&[u8], &[u8])
     text.split_at(word_len(text))
 }
 
+#[inline(always)]
 fn word_len(text: &[u8]) -> usize
     ensures { result ≡ position_or_len is_space text.now }
 {
@@ -40,6 +43,7 @@ fn word_len(text: &[u8]) -> usize
 }
 
 /// The next word, and what stands after it.
+#[inline(always)]
 pub fn next_word(rest: &[u8]) -> Option<(&[u8], &[u8])>
     ensures words { MatchOption result (words_after rest.now ≡ [])
         (λ w. words_after rest.now ≡ w.0.now ∷ words_after w.1.now) }
@@ -52,6 +56,7 @@ pub fn next_word(rest: &[u8]) -> Option<(&[u8], &[u8])>
 }
 
 /// The next word, where there has to be one.
+#[inline(always)]
 pub fn word_at(rest: &[u8]) -> Result<(&[u8], &[u8]), NotUnderstood>
     ensures { MatchResult result (λ w. words_after rest.now ≡ w.0.now ∷ words_after w.1.now)
         (λ e. words_after rest.now ≡ []) }
@@ -63,6 +68,7 @@ pub fn word_at(rest: &[u8]) -> Result<(&[u8], &[u8]), NotUnderstood>
 }
 
 /// The number up to a limit that a word spells.
+#[inline(always)]
 pub fn number(limit: u64, word: &[u8]) -> Result<u64, NotUnderstood>
     ensures value { Reads (λ n. n) result (number_of limit word.now) }
     ensures fits { IfOk result (λ n. n ≤ limit) }
@@ -77,6 +83,7 @@ pub fn number(limit: u64, word: &[u8]) -> Result<u64, NotUnderstood>
 }
 
 /// Whether a word has a byte, and no zero before another one.
+#[inline(always)]
 fn begins_a_number(word: &[u8]) -> bool
     ensures { result ≡ begins_a_number word.now }
 {
@@ -88,6 +95,7 @@ fn begins_a_number(word: &[u8]) -> bool
 }
 
 /// The number of a word of digits, where it fits 64 bits. They may have zeros in front.
+#[inline(always)]
 fn digits(word: &[u8]) -> Option<u64>
     ensures some { IfSome result (λ n. AllDigits 10 word.now × (digits_value 10 word.now ≡ n)) }
     ensures none { result ≡ None → (m : ℕ) → m < 2 ^ 64 → word.now ≢ decimal m }
@@ -102,6 +110,7 @@ fn digits(word: &[u8]) -> Option<u64>
 }
 
 /// A number with one digit more, where it fits 64 bits.
+#[inline(always)]
 fn with_digit(n: u64, b: u8) -> Option<u64>
     ensures some { IfSome result (λ m. (digit_value b < 10) × (n * 10 + digit_value b ≡ m)) }
     ensures none { result ≡ None → digit_value b < 10 → 2 ^ 64 ≤ n * 10 + digit_value b }
@@ -113,6 +122,7 @@ fn with_digit(n: u64, b: u8) -> Option<u64>
 }
 
 /// The number in the next word.
+#[inline(always)]
 #[tactic(auto, unfolding(crate::specs::Reading::number_at))]
 pub fn number_at(limit: u64, rest: &[u8]) -> Result<(u64, &[u8]), NotUnderstood>
     ensures value { Reads (λ x. (x.0, words_after x.1.now)) result (number_at limit (words_after rest.now)) }
@@ -123,6 +133,7 @@ pub fn number_at(limit: u64, rest: &[u8]) -> Result<(u64, &[u8]), NotUnderstood>
 }
 
 /// The number in the next word, where it fits 32 bits.
+#[inline(always)]
 pub fn u32_at(rest: &[u8]) -> Result<(u32, &[u8]), NotUnderstood>
     ensures { Reads (λ x. (x.0, words_after x.1.now)) result (number_at greatest_u32 (words_after rest.now)) }
 {
@@ -131,6 +142,7 @@ pub fn u32_at(rest: &[u8]) -> Result<(u32, &[u8]), NotUnderstood>
 }
 
 /// What was read, where no word is left.
+#[inline(always)]
 pub fn at_end_of_line<T: Drop>(read: T, rest: &[u8]) -> Result<T, NotUnderstood>
     ensures { Reads (λ x. x) result (at_end_of_line read (words_after rest.now)) }
 {

@@ -13,6 +13,10 @@ use wake_lock::CallId;
 /// Events of scripts.
 type Events = Vec<Event<ScriptCredential>>;
 
+/// The most events of a round: eight calls begin and are polled, the first is cancelled, the next is polled and finds the
+/// credential, and the six others are polled again.
+const MOST_EVENTS: usize = 25;
+
 /// The calls of a round, out of so many.
 pub(crate) fn calls_in_round(
     alloc: Global,
@@ -41,7 +45,7 @@ pub(crate) fn asking_events(
     requires { round ≤ 100000 }
     ensures { IfOk result (λ events. events.items ≡ asking_events round calls.now) }
 {
-    let mut events = Vec::new(alloc);
+    let mut events = Vec::with_capacity(alloc, MOST_EVENTS)?;
     push_begins(alloc, &mut events, calls)?;
     push_polls(&mut events, round, 0, calls)?;
     push_refresh(&mut events, round, calls)?;
@@ -57,7 +61,7 @@ pub(crate) fn accepting_events(
     ensures { IfOk result (λ events. events.items ≡ accepting_events signed.now calls.now) }
 {
     let accepted = signed_among(alloc, signed, calls)?;
-    let mut events = Vec::new(alloc);
+    let mut events = Vec::with_capacity(alloc, accepted.len())?;
     push_accepted(alloc, &mut events, accepted.as_slice())?;
     Ok(events)
 }

@@ -61,9 +61,9 @@ impl Rounds {
             → RoundsRepresent self.new (entries ++ entries_in_round entries round calls.now)) }
     {
         let events = asking_events(alloc, round, calls)?;
-        let signed = self.play(alloc, events.as_slice())?;
+        let signed = self.play(alloc, events)?;
         let events = accepting_events(alloc, signed.as_slice(), calls)?;
-        self.play(alloc, events.as_slice())?;
+        self.play(alloc, events)?;
         Ok(())
     }
 
@@ -71,16 +71,17 @@ impl Rounds {
     fn play(
         &mut self,
         alloc: Global,
-        events: &[Event<ScriptCredential>],
+        events: Vec<Event<ScriptCredential>>,
     ) -> Result<Vec<CallId>, NoMemory<()>>
         ensures { IfOk result (λ signed. (entries : List (Entry ScriptCredential)) → RoundsRepresent self.old entries
-            → RoundsRepresent self.new (entries ++ entries_after entries events.now)
-            × (signed.items ≡ signed_calls (entries_after entries events.now))) }
+            → RoundsRepresent self.new (entries ++ entries_after entries events.items)
+            × (signed.items ≡ signed_calls (entries_after entries events.items))) }
     {
         let mut signed = Vec::new(alloc);
         for event in events {
+            let call = call_of(&event);
             let reply = self.step(event)?;
-            note_signed(&mut signed, event, &reply)?;
+            note_signed(&mut signed, call, &reply)?;
         }
         Ok(signed)
     }
@@ -88,13 +89,13 @@ impl Rounds {
     /// Steps the desk, and counts the reply.
     fn step(
         &mut self,
-        event: &Event<ScriptCredential>,
+        event: Event<ScriptCredential>,
     ) -> Result<Reply<ScriptCredential>, NoMemory<()>>
         ensures { IfOk result (λ reply. (entries : List (Entry ScriptCredential)) → RoundsRepresent self.old entries
-            → (record { event = event.now; reply = reply } ≡ load_entry entries event.now)
-            × RoundsRepresent self.new (entries ++ load_entry entries event.now ∷ [])) }
+            → (record { event = event; reply = reply } ≡ load_entry entries event)
+            × RoundsRepresent self.new (entries ++ load_entry entries event ∷ [])) }
     {
-        let reply = self.desk.step(event);
+        let reply = self.desk.step_owned(event);
         if is_out_of_memory(&reply) {
             return Err(NoMemory { back: () });
         }
@@ -121,19 +122,19 @@ fn load_desk(alloc: Global) -> Result<Desk<ScriptCredential, ScriptRule>, NoMemo
     Ok(desk)
 }
 
-/// Notes the call of an event that was answered `Sign`.
+/// Notes the call whose event was answered `Sign`.
 fn note_signed(
     signed: &mut Vec<CallId>,
-    event: &Event<ScriptCredential>,
+    call: CallId,
     reply: &Reply<ScriptCredential>,
 ) -> Result<(), NoMemory<()>>
-    ensures { OnOk result (signed.new.items
-        ≡ signed.old.items ++ signed_calls (record { event = event.now; reply = reply.now } ∷ [])) }
+    ensures { OnOk result ((event : Event ScriptCredential) → call_of event ≡ call → signed.new.items
+        ≡ signed.old.items ++ signed_calls (record { event = event; reply = reply.now } ∷ [])) }
 {
     if !is_sign(reply) {
         return Ok(());
     }
-    Ok(signed.push(call_of(event))?)
+    Ok(signed.push(call)?)
 }
 
 /// Whether a reply hands out a credential.

@@ -8,11 +8,11 @@ use Rattle.signctl_script.proofs.load.rounds.Rounds.play_round.Goals as goal
 pub returns : goal.returns
 returns c = λ entries r.
     let calls = c.args.calls.now in
-    let asking = c.as_slice.result.now in
+    let asking = c.in_ok-events.events.items in
     let asked = c.in_ok-signed.ensures entries r in
     let accepted = c.in_ok-play.ensures (entries ++ entries_after entries asking) asked.0 in
-    round-played c.play-2.new.self entries c.args.round calls c.in_ok-signed.signed.items asking c.as_slice-3.result.now
-    (c.as_slice.ensures.value ∙ c.in_ok-events.ensures)
+    round-played c.play-2.new.self entries c.args.round calls c.in_ok-signed.signed.items asking c.in_ok-events-2.events.items
+    c.in_ok-events.ensures
     asked.1
-    (c.as_slice-3.ensures.value ∙ c.in_ok-events-2.ensures ∙ ap (λ (s : List CallId). accepting_events s calls) c.as_slice-2.ensures.value)
+    (c.in_ok-events-2.ensures ∙ ap (λ (s : List CallId). accepting_events s calls) c.as_slice.ensures.value)
     accepted.0

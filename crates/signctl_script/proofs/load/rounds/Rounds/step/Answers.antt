@@ -9,12 +9,12 @@ use Rattle.signctl_script.proofs.load.rounds.Rounds.step.Goals as goal
 
 pub returns : goal.returns
 returns c = λ entries r.
-    let entry : Entry ScriptCredential = record { event = c.args.event.now; reply = c.step-reply.result } in
+    let entry : Entry ScriptCredential = record { event = c.args.event; reply = c.step_owned-reply.result } in
     let counts : AreCounts c.with_reply-self.result (entries ++ entry ∷ []) =
     subst (λ (x : Counts). AreCounts x (entries ++ entry ∷ [])) (sym c.with_reply-self.ensures) (counts-more c.args.self.now.counts entries entry r.counts) in
-    next-entry c.args.self.now (record { desk = c.step-reply.new.self; counts = c.with_reply-self.result }) entries c.args.event.now c.step-reply.result r
+    next-entry c.args.self.now (record { desk = c.step_owned-reply.new.self; counts = c.with_reply-self.result }) entries c.args.event c.step_owned-reply.result r
     (sym c.is_out_of_memory.ensures ∙ c.if-is_out_of_memory.false)
-    (c.step-reply.ensures.step.expected entries r.represents)
-    (c.step-reply.ensures.step.represents entries r.represents)
-    c.step-reply.ensures.step.setup
+    (c.step_owned-reply.ensures.step.expected entries r.represents)
+    (c.step_owned-reply.ensures.step.represents entries r.represents)
+    c.step_owned-reply.ensures.step.setup
     counts
