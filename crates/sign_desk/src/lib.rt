@@ -3,6 +3,7 @@
 
 mod desk;
 mod head_values;
+mod kept_head;
 pub mod laws;
 mod load;
 mod poll;

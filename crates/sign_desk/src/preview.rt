@@ -196,7 +196,7 @@ impl<K: SigningCredential, D: DeadlineRule<Credential = K>> State<K, D> {
         ensures { Previews (accept_action self.now candidate.now (find_call call self.now.calls)) result }
     {
         let live = self.tables.record_of(call).unwrap();
-        match done_copy(self.tables.alloc(), &live.head, candidate) {
+        match done_copy(self.tables.alloc(), live.head.as_head(), candidate) {
             Ok(head) => Reply::Done { head },
             Err(_) => Reply::OutOfMemory,
         }

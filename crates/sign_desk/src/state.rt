@@ -2,10 +2,10 @@
 //! each live call.
 ghost use Rattle.std.specs.Prelude.{◌≡◌, ◌<◌, [], false, length, OnOk, OnErr, IfErr, IfSome};
 
+use crate::kept_head::KeptHead;
 use credentials::{DeadlineRule, SigningCredential};
 use desk_parts::{CallQueue, LiveCallView, Tables};
 use sequential_signer::Loader;
-use sign_base::Head;
 use std::alloc::{AllocError, Global};
 use std::marker::Model;
 use wake_lock::CallId;
@@ -13,7 +13,7 @@ use wake_lock::CallId;
 /// What a signer's desk keeps.
 #[derive(Drop)]
 pub struct State<K, D> {
-    pub(crate) tables: Tables<K, D, CallQueue, Head>,
+    pub(crate) tables: Tables<K, D, CallQueue, KeptHead>,
 }
 
 impl<K, D> Model for State<K, D> {

@@ -2,6 +2,7 @@
 //! memory is taken before anything changes.
 ghost use Rattle.std.specs.Prelude.{◌≡◌, ◌≢◌, true, IsSome, IfOk};
 
+use crate::kept_head::KeptHead;
 use crate::state::State;
 use credentials::{DeadlineRule, SigningCredential};
 use desk_parts::{CallRecord, Stage};
@@ -81,6 +82,9 @@ impl<K: SigningCredential, D: DeadlineRule<Credential = K>> State<K, D> {
         ensures { Transition (policy_of K.valid K.valid_at D.deadline) (Begin call head expires_in)
             self.old result self.new }
     {
+        let Ok(head) = KeptHead::new(self.tables.alloc(), head) else {
+            return Reply::OutOfMemory;
+        };
         let live = CallRecord {
             stage: Stage::Unpolled,
             head,
@@ -130,7 +134,7 @@ impl<K: SigningCredential, D: DeadlineRule<Credential = K>> State<K, D> {
         ensures memory { result ≢ OutOfMemory }
     {
         let live = self.tables.take_record(call).unwrap();
-        let begun = live.head;
+        let begun = live.head.into_head();
         let head = Head {
             uri,
             headers,
