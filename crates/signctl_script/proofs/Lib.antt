@@ -1,5 +1,6 @@
 mod ItemsIn
 mod PlainEvents
+mod PlayedEvents
 mod LineGood
 mod NextLine
 mod Closing

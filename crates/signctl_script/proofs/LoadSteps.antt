@@ -1,6 +1,6 @@
 -- The transcript of `load`, event by event and round by round.
-use Rattle.std.proofs.Common.{◌≡◌, ◌<◌, ◌+◌, ℕ, true, false, List, [], ◌∷◌, ◌++◌, length, map, take, get_or, append_assoc, refl, sym, ap, ◌∙◌, subst, inl, inr, add-one}
-use Rattle.std.proofs.lemmas.List.{append-nil, map-append, take_more}
+use Rattle.std.proofs.Common.{◌≡◌, ◌+◌, ℕ, true, false, List, [], ◌∷◌, ◌++◌, append_assoc, refl, sym, ap, ◌∙◌, subst, inl, inr, add-one}
+use Rattle.std.proofs.lemmas.List.{append-nil}
 use Rattle.std.proofs.lemmas.List.Elements.{filter_map-append}
 use Rattle.wake_lock.specs.declared.CallId.{CallId}
 use Rattle.sequential_signer.specs.Setup.{Setup}
@@ -19,6 +19,7 @@ use Rattle.signctl_format.specs.Policy.{script_policy}
 use Rattle.signctl_script.specs.LoadRound.{calls_in_round, asking_events, accepting_events}
 use Rattle.signctl_script.specs.Load.{load_setup, load_entry, entries_after, signed_call, signed_calls, entries_in_round, transcript_of_rounds}
 use Rattle.signctl_script.specs.LoadState.{RoundsRepresent, AreCounts}
+use Rattle.signctl_script.specs.declared.load.counts.Counts.{Counts}
 use Rattle.signctl_script.specs.declared.load.rounds.Rounds.{Rounds}
 
 -- no events, no entries
@@ -26,15 +27,20 @@ pub entries_after-none : (before : List (Entry ScriptCredential)) → entries_af
 unfolding entries_after
 entries_after-none before = refl
 
--- one event more
-pub entries_after-more : (before : List (Entry ScriptCredential)) (events : List (Event ScriptCredential)) (event : Event ScriptCredential)
-    → entries_after before (events ++ event ∷ []) ≡ entries_after before events ++ load_entry (before ++ entries_after before events) event ∷ []
+-- one event
+pub entries_after-one : (before : List (Entry ScriptCredential)) (event : Event ScriptCredential) → entries_after before (event ∷ []) ≡ load_entry before event ∷ []
 unfolding entries_after
-entries_after-more before [] event = ap (λ (v : List (Entry ScriptCredential)). load_entry v event ∷ []) (sym (append-nil before))
-entries_after-more before (first ∷ rest) event =
-    let e = load_entry before first in
-    ap (λ (v : List (Entry ScriptCredential)). e ∷ v) (entries_after-more (before ++ e ∷ []) rest event)
-    ∙ ap (λ (v : List (Entry ScriptCredential)). e ∷ (entries_after (before ++ e ∷ []) rest ++ load_entry v event ∷ [])) (append_assoc before (e ∷ []) (entries_after (before ++ e ∷ []) rest))
+entries_after-one before event = refl
+
+-- some events, and others after them
+pub entries_after-append : (before : List (Entry ScriptCredential)) (xs ys : List (Event ScriptCredential))
+    → entries_after before (xs ++ ys) ≡ entries_after before xs ++ entries_after (before ++ entries_after before xs) ys
+unfolding entries_after
+entries_after-append before [] ys = ap (λ (v : List (Entry ScriptCredential)). entries_after v ys) (sym (append-nil before))
+entries_after-append before (x ∷ xs) ys =
+    let e = load_entry before x in
+    ap (λ (v : List (Entry ScriptCredential)). e ∷ v) (entries_after-append (before ++ e ∷ []) xs ys)
+    ∙ ap (λ (v : List (Entry ScriptCredential)). e ∷ (entries_after (before ++ e ∷ []) xs ++ entries_after v ys)) (append_assoc before (e ∷ []) (entries_after (before ++ e ∷ []) xs))
 
 -- the calls that were signed in some entries, and in those that follow
 pub signed_calls-append : (xs ys : List (Entry ScriptCredential)) → signed_calls (xs ++ ys) ≡ signed_calls xs ++ signed_calls ys
@@ -57,37 +63,6 @@ signed_calls-other e h = rw h refl
 -- rounds that represent a transcript represent it however it is spelled
 pub as_spelled : (rounds : Rounds) (a b : List (Entry ScriptCredential)) → a ≡ b → RoundsRepresent rounds a → RoundsRepresent rounds b
 as_spelled rounds a b e r = subst (λ (t : List (Entry ScriptCredential)). RoundsRepresent rounds t) e r
-
--- what was played of some events so far, and the calls that were signed
-abbrev pub Played : Rounds → List CallId → List (Entry ScriptCredential) → List (Event ScriptCredential) → Type 0
-Played rounds signed entries done =
-    RoundsRepresent rounds (entries ++ entries_after entries done) × (signed ≡ signed_calls (entries_after entries done))
-
--- nothing yet
-pub played-none : (rounds : Rounds) (entries : List (Entry ScriptCredential)) → RoundsRepresent rounds entries → Played rounds [] entries []
-played-none rounds entries r = (
-  as_spelled rounds entries _ (sym (ap (λ (v : List (Entry ScriptCredential)). entries ++ v) (entries_after-none entries) ∙ append-nil entries)) r,
-  sym (ap signed_calls (entries_after-none entries) ∙ signed_calls-none),
-)
-
--- one event more
-pub played-more : (rounds : Rounds) (old new : List CallId) (entries : List (Entry ScriptCredential)) (done : List (Event ScriptCredential)) (event : Event ScriptCredential) (entry : Entry ScriptCredential)
-    → entry ≡ load_entry (entries ++ entries_after entries done) event
-    → RoundsRepresent rounds ((entries ++ entries_after entries done) ++ load_entry (entries ++ entries_after entries done) event ∷ [])
-    → old ≡ signed_calls (entries_after entries done)
-    → new ≡ old ++ signed_calls (entry ∷ [])
-    → Played rounds new entries (done ++ event ∷ [])
-played-more rounds old new entries done event entry is r signed noted =
-    let asked = entries_after entries done in
-    let e = load_entry (entries ++ asked) event in (
-      as_spelled rounds _ _
-          (append_assoc entries asked (e ∷ []) ∙ ap (λ (v : List (Entry ScriptCredential)). entries ++ v) (sym (entries_after-more entries done event))) r,
-      noted
-          ∙ ap (λ (v : List CallId). v ++ signed_calls (entry ∷ [])) signed
-          ∙ ap (λ (v : Entry ScriptCredential). signed_calls asked ++ signed_calls (v ∷ [])) is
-          ∙ sym (signed_calls-append asked (e ∷ []))
-          ∙ ap signed_calls (sym (entries_after-more entries done event)),
-    )
 
 -- after a step that did not run out of memory
 pub next-entry : (old new : Rounds) (entries : List (Entry ScriptCredential)) (event : Event ScriptCredential) (reply : Reply ScriptCredential)
@@ -130,31 +105,25 @@ pub transcript-more : (n round : ℕ) → transcript_of_rounds n (round + 1) ≡
 unfolding transcript_of_rounds
 transcript-more n round = ap (λ (k : ℕ). transcript_of_rounds n k) (add-one round)
 
+-- rounds with the same desk and the same counts represent the same entries
+pub alike : (a b : Rounds) (entries : List (Entry ScriptCredential)) → b.desk ≡ a.desk → b.counts ≡ a.counts → RoundsRepresent a entries → RoundsRepresent b entries
+alike a b entries desk counts r = record {
+  setup = ap (λ (d : _). setup_of d) desk ∙ r.setup;
+  represents = subst (λ (d : _). Represents script_policy d entries) (sym desk) r.represents;
+  committed = r.committed;
+  counts = subst (λ (c : Counts). AreCounts c entries) (sym counts) r.counts;
+}
+
 -- a round that was asked and accepted
-pub round-played : (rounds : Rounds) (entries : List (Entry ScriptCredential)) (round : ℕ) (calls signed : List CallId) (asking accepting : List (Event ScriptCredential))
-    → asking ≡ asking_events round calls
-    → signed ≡ signed_calls (entries_after entries asking)
+pub round-played : (rounds : Rounds) (entries : List (Entry ScriptCredential)) (round : ℕ) (calls signed : List CallId) (accepting : List (Event ScriptCredential))
+    → signed ≡ signed_calls (entries_after entries (asking_events round calls))
     → accepting ≡ accepting_events signed calls
-    → RoundsRepresent rounds ((entries ++ entries_after entries asking) ++ entries_after (entries ++ entries_after entries asking) accepting)
+    → RoundsRepresent rounds ((entries ++ entries_after entries (asking_events round calls)) ++ entries_after (entries ++ entries_after entries (asking_events round calls)) accepting)
     → RoundsRepresent rounds (entries ++ entries_in_round entries round calls)
-round-played rounds entries round calls signed asking accepting asks signs accepts r =
-    let first = entries_after entries asking in
+round-played rounds entries round calls signed accepting signs accepts r =
+    let first = entries_after entries (asking_events round calls) in
     as_spelled rounds _ _
     (ap (λ (v : List (Event ScriptCredential)). (entries ++ first) ++ entries_after (entries ++ first) v)
     (accepts ∙ ap (λ (s : List CallId). accepting_events s calls) signs)
-    ∙ append_assoc entries first _
-    ∙ ap (λ (v : List (Event ScriptCredential)). entries ++ (entries_after entries v ++ entries_after (entries ++ entries_after entries v) (accepting_events (signed_calls (entries_after entries v)) calls))) asks)
+    ∙ append_assoc entries first _)
     r
-
--- one more event at the end of a list of events
-pub pushed : {A B : Type 0} (f : A → B) (old items new : List B) (xs : List A) (i : ℕ) (x : A) (y : B)
-    → i < length xs → items ≡ old ++ map f (take i xs) → x ≡ get_or xs i x → y ≡ f x → new ≡ items ++ y ∷ [] → new ≡ old ++ map f (take (i + 1) xs)
-pushed {A = A} {B = B} f old items new xs i x y within so_far is made end =
-    end
-    ∙ ap (λ (v : List B). v ++ y ∷ []) so_far
-    ∙ append_assoc old (map f (take i xs)) (y ∷ [])
-    ∙ ap (λ (v : List B). old ++ v)
-    (ap (λ (z : B). map f (take i xs) ++ z ∷ []) made
-    ∙ sym (map-append f (take i xs) (x ∷ []))
-    ∙ ap (λ (v : List A). map f (take i xs ++ v)) (ap (λ (z : A). z ∷ []) is)
-    ∙ ap (λ (v : List A). map f v) (sym (take_more xs i x within)))

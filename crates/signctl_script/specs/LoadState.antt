@@ -1,8 +1,9 @@
 -- What is kept while `load` runs.
-use Rattle.std.specs.Prelude.{◌≡◌, ◌<◌, ◌^◌, ℕ, Bool, true, false, List, length}
+use Rattle.std.specs.Prelude.{◌≡◌, ◌<◌, ◌^◌, ◌++◌, ℕ, Bool, true, false, List, length}
 use Rattle.sign_base.specs.Faults.{one_more}
 use Rattle.sequential_signer.specs.Phase.{is_begun, is_pending, is_not_now}
 use Rattle.sequential_signer.specs.Legal.{is_sign}
+use Rattle.sequential_signer.specs.declared.event.Event.{Event}
 use Rattle.sequential_signer.specs.declared.event.Reply.{Reply}
 use Rattle.sequential_signer.specs.Transcript.{committed_entries}
 use Rattle.sequential_signer.specs.declared.event.Entry.{Entry}
@@ -10,7 +11,7 @@ use Rattle.sign_desk.specs.DeskState.{Represents}
 use Rattle.desk_parts.specs.Tables.{setup_of}
 use Rattle.signctl_format.specs.declared.credential.ScriptCredential.{ScriptCredential}
 use Rattle.signctl_format.specs.Policy.{script_policy}
-use Rattle.signctl_script.specs.Load.{load_setup, is_ask, is_done, is_refused, is_cancelled, counts_of}
+use Rattle.signctl_script.specs.Load.{load_setup, is_ask, is_done, is_refused, is_cancelled, counts_of, entries_after, signed_calls}
 use Rattle.signctl_script.specs.declared.load.counts.Counts.{Counts}
 use Rattle.signctl_script.specs.declared.load.rounds.Rounds.{Rounds}
 
@@ -42,3 +43,10 @@ pub record RoundsRepresent (rounds : Rounds) (entries : List (Entry ScriptCreden
   pub represents : Represents script_policy rounds.desk entries
   pub committed : committed_entries entries ≡ entries
   pub counts : AreCounts rounds.counts entries
+
+-- these events are played from old to new: who represented some entries represents those of the events after them, and the
+-- calls that were answered `Sign` are noted
+abbrev pub Plays : List (Event ScriptCredential) → Rounds → Rounds → Type 0
+Plays events old new = (entries : List (Entry ScriptCredential)) → RoundsRepresent old entries
+    → RoundsRepresent new (entries ++ entries_after entries events)
+    × (new.signed.items ≡ old.signed.items ++ signed_calls (entries_after entries events))

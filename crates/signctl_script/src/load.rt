@@ -5,9 +5,9 @@ ghost use Rattle.sign_base.specs.Faults.{CountsFault};
 ghost use Rattle.signctl_driver.specs.Status.{is_read_fault, is_write_fault};
 ghost use Rattle.signctl_script.specs.Load.{LoadAdds, load_output, most_calls};
 
+mod calls;
 mod counts;
 mod event;
-mod events;
 mod rounds;
 
 use counts::push_counts;

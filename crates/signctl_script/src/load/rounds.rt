@@ -1,18 +1,20 @@
-//! The rounds of `load`: the events of each on one desk, and the counts of all replies. Of a round only
-//! its events and its signed calls are kept, until the next.
-ghost use Rattle.std.specs.Prelude.{◌≡◌, ◌≤◌, ◌<◌, ◌*◌, ◌++◌, ◌∷◌, [], List, OnOk, IfOk};
+//! The rounds of `load`, played on one desk event by event, and the counts of all replies.
+ghost use Rattle.std.specs.Prelude.{◌≡◌, ◌≤◌, ◌<◌, ◌++◌, ◌∷◌, [], List, OnOk, IfOk, map};
 ghost use Rattle.sequential_signer.specs.Transcript.{call_of, is_out_of_memory};
 ghost use Rattle.sequential_signer.specs.Legal.{is_sign};
 ghost use Rattle.sequential_signer.specs.declared.event.Entry.{Entry};
+ghost use Rattle.sequential_signer.specs.declared.event.Event.{Event};
 ghost use Rattle.sign_desk.specs.DeskState.{Represents};
 ghost use Rattle.desk_parts.specs.Tables.{setup_of};
 ghost use Rattle.signctl_format.specs.declared.credential.ScriptCredential.{ScriptCredential};
 ghost use Rattle.signctl_format.specs.Policy.{script_policy};
-ghost use Rattle.signctl_script.specs.Load.{load_setup, load_entry, entries_after, signed_calls, entries_in_round, load_transcript, most_calls};
-ghost use Rattle.signctl_script.specs.LoadState.{RoundsRepresent};
+ghost use Rattle.signctl_script.specs.Load.{load_setup, load_entry, signed_calls, entries_in_round, load_transcript, most_calls};
+ghost use Rattle.signctl_script.specs.LoadRound.{begin_event, poll_event, accepted_event, find_events, take_over_events, cancel_events, refresh_events, asking_events};
+ghost use Rattle.signctl_script.specs.LoadState.{RoundsRepresent, Plays};
 
+use super::calls::{calls_in_round, signed_among};
 use super::counts::Counts;
-use super::events::{accepting_events, asking_events, calls_in_round};
+use super::event::{accepted_event, begin_event, found_event, poll_event};
 use sequential_signer::{Event, Loader, Reply};
 use sign_base::NoMemory;
 use sign_desk::Desk;
@@ -20,11 +22,12 @@ use signctl_format::{ScriptCredential, ScriptRule};
 use std::alloc::Global;
 use wake_lock::CallId;
 
-/// A desk with one handle, and the counts of its replies.
+/// A desk with one handle, the counts of its replies, and the calls of this round that were answered `Sign`.
 #[derive(Drop)]
 pub(crate) struct Rounds {
     pub(crate) desk: Desk<ScriptCredential, ScriptRule>,
     pub(crate) counts: Counts,
+    pub(crate) signed: Vec<CallId>,
 }
 
 impl Rounds {
@@ -34,7 +37,12 @@ impl Rounds {
     {
         let desk = load_desk(alloc)?;
         let counts = Counts::new();
-        Ok(Rounds { desk, counts })
+        let signed = Vec::new(alloc);
+        Ok(Rounds {
+            desk,
+            counts,
+            signed,
+        })
     }
 
     /// Plays the rounds of so many calls.
@@ -60,47 +68,111 @@ impl Rounds {
         ensures { OnOk result ((entries : List (Entry ScriptCredential)) → RoundsRepresent self.old entries
             → RoundsRepresent self.new (entries ++ entries_in_round entries round calls.now)) }
     {
-        let events = asking_events(alloc, round, calls)?;
-        let signed = self.play(alloc, events)?;
-        let events = accepting_events(alloc, signed.as_slice(), calls)?;
-        self.play(alloc, events)?;
+        self.signed.clear();
+        self.ask(alloc, round, calls)?;
+        let accepted = signed_among(alloc, self.signed.as_slice(), calls)?;
+        self.accept_each(alloc, accepted.as_slice())
+    }
+
+    /// All calls of a round begin, then each is polled, then the round's refresh.
+    fn ask(&mut self, alloc: Global, round: u64, calls: &[CallId]) -> Result<(), NoMemory<()>>
+        requires { round ≤ 100000 }
+        ensures { OnOk result (Plays (asking_events round calls.now) self.old self.new) }
+    {
+        self.begin_each(alloc, calls)?;
+        self.poll_each(round, 0, calls)?;
+        self.refresh(round, calls)
+    }
+
+    /// What happens once all calls were polled.
+    fn refresh(&mut self, round: u64, calls: &[CallId]) -> Result<(), NoMemory<()>>
+        requires { round ≤ 100000 }
+        ensures { OnOk result (Plays (refresh_events round calls.now) self.old self.new) }
+    {
+        match round % 4 {
+            0 => self.find(round, calls),
+            2 => self.cancel_first(round, calls),
+            _ => Ok(()),
+        }
+    }
+
+    /// The credential is found for the first call, and the others are polled again.
+    fn find(&mut self, round: u64, calls: &[CallId]) -> Result<(), NoMemory<()>>
+        requires { round ≤ 100000 }
+        ensures { OnOk result (Plays (find_events round calls.now) self.old self.new) }
+    {
+        let [first, others @ ..] = calls else {
+            return Ok(());
+        };
+        self.play(found_event(round, *first))?;
+        self.poll_each(round, 2, others)
+    }
+
+    /// The first call is cancelled, and the next takes over.
+    fn cancel_first(&mut self, round: u64, calls: &[CallId]) -> Result<(), NoMemory<()>>
+        requires { round ≤ 100000 }
+        ensures { OnOk result (Plays (cancel_events round calls.now) self.old self.new) }
+    {
+        let [first, others @ ..] = calls else {
+            return Ok(());
+        };
+        self.play(Event::Cancel { call: *first })?;
+        self.take_over(round, others)
+    }
+
+    /// The first call is polled, and the credential is found for it.
+    fn take_over(&mut self, round: u64, calls: &[CallId]) -> Result<(), NoMemory<()>>
+        requires { round ≤ 100000 }
+        ensures { OnOk result (Plays (take_over_events round calls.now) self.old self.new) }
+    {
+        let [first, ..] = calls else {
+            return Ok(());
+        };
+        self.play(poll_event(round, 1, *first))?;
+        self.find(round, calls)
+    }
+
+    fn begin_each(&mut self, alloc: Global, calls: &[CallId]) -> Result<(), NoMemory<()>>
+        ensures { OnOk result (Plays (map begin_event calls.now) self.old self.new) }
+    {
+        for call in calls {
+            self.play(begin_event(alloc, *call)?)?;
+        }
         Ok(())
     }
 
-    /// Plays these events, and returns the calls that were answered `Sign`.
-    fn play(
-        &mut self,
-        alloc: Global,
-        events: Vec<Event<ScriptCredential>>,
-    ) -> Result<Vec<CallId>, NoMemory<()>>
-        ensures { IfOk result (λ signed. (entries : List (Entry ScriptCredential)) → RoundsRepresent self.old entries
-            → RoundsRepresent self.new (entries ++ entries_after entries events.items)
-            × (signed.items ≡ signed_calls (entries_after entries events.items))) }
+    fn accept_each(&mut self, alloc: Global, calls: &[CallId]) -> Result<(), NoMemory<()>>
+        ensures { OnOk result (Plays (map accepted_event calls.now) self.old self.new) }
     {
-        let mut signed = Vec::new(alloc);
-        for event in events {
-            let call = call_of(&event);
-            let reply = self.step(event)?;
-            note_signed(&mut signed, call, &reply)?;
+        for call in calls {
+            self.play(accepted_event(alloc, *call)?)?;
         }
-        Ok(signed)
+        Ok(())
     }
 
-    /// Steps the desk, and counts the reply.
-    fn step(
-        &mut self,
-        event: Event<ScriptCredential>,
-    ) -> Result<Reply<ScriptCredential>, NoMemory<()>>
-        ensures { IfOk result (λ reply. (entries : List (Entry ScriptCredential)) → RoundsRepresent self.old entries
-            → (record { event = event; reply = reply } ≡ load_entry entries event)
-            × RoundsRepresent self.new (entries ++ load_entry entries event ∷ [])) }
+    /// A poll of each call, so many seconds after the round began.
+    fn poll_each(&mut self, round: u64, seconds: u64, calls: &[CallId]) -> Result<(), NoMemory<()>>
+        requires early { round ≤ 100000 }
+        requires inside { seconds ≤ 1000 }
+        ensures { OnOk result (Plays (map (poll_event round seconds) calls.now) self.old self.new) }
     {
+        for call in calls {
+            self.play(poll_event(round, seconds, *call))?;
+        }
+        Ok(())
+    }
+
+    /// Steps the desk, counts the reply, and notes the call where it was answered `Sign`.
+    fn play(&mut self, event: Event<ScriptCredential>) -> Result<(), NoMemory<()>>
+        ensures { OnOk result (Plays (event ∷ []) self.old self.new) }
+    {
+        let call = call_of(&event);
         let reply = self.desk.step_owned(event);
         if is_out_of_memory(&reply) {
             return Err(NoMemory { back: () });
         }
         self.counts = self.counts.with_reply(&reply);
-        Ok(reply)
+        note_signed(&mut self.signed, call, &reply)
     }
 }
 

@@ -1,18 +1,21 @@
-use Rattle.std.proofs.Common.{◌++◌, List, ap, ◌∙◌}
+use Rattle.std.proofs.Common.{◌++◌, List, map, refl, ap, ◌∙◌}
+use Rattle.std.proofs.lemmas.Result.{on_ok_weaker}
+use Rattle.std.specs.List.{filter}
 use Rattle.wake_lock.specs.declared.CallId.{CallId}
-use Rattle.signctl_script.specs.LoadRound.{accepting_events}
-use Rattle.signctl_script.specs.Load.{entries_after}
-use Rattle.signctl_script.proofs.LoadSteps.{round-played}
+use Rattle.wake_lock.specs.Calls.{is_among}
+use Rattle.signctl_script.specs.LoadRound.{accepted_event, asking_events}
+use Rattle.signctl_script.specs.Load.{entries_after, signed_calls}
+use Rattle.signctl_script.proofs.LoadSteps.{alike, round-played}
 use Rattle.signctl_script.proofs.load.rounds.Rounds.play_round.Goals as goal
 
 pub returns : goal.returns
-returns c = λ entries r.
+returns c = on_ok_weaker c.accept_each.result (λ accepts. λ entries r.
     let calls = c.args.calls.now in
-    let asking = c.in_ok-events.events.items in
-    let asked = c.in_ok-signed.ensures entries r in
-    let accepted = c.in_ok-play.ensures (entries ++ entries_after entries asking) asked.0 in
-    round-played c.play-2.new.self entries c.args.round calls c.in_ok-signed.signed.items asking c.in_ok-events-2.events.items
-    c.in_ok-events.ensures
-    asked.1
-    (c.in_ok-events-2.ensures ∙ ap (λ (s : List CallId). accepting_events s calls) c.as_slice.ensures.value)
-    accepted.0
+    let asking = asking_events c.args.round calls in
+    let asked = c.in_ok-ask.ensures entries (alike c.args.self.now _ entries refl refl r) in
+    let signed = asked.1 ∙ ap (λ (v : List CallId). v ++ signed_calls (entries_after entries asking)) c.clear.ensures.items in
+    let accepted = ap (λ (v : List CallId). map accepted_event v)
+    (c.as_slice-2.ensures.value ∙ c.in_ok-accepted.ensures ∙ ap (λ (v : List CallId). filter (λ call. is_among call v) calls) c.as_slice.ensures.value) in
+    round-played c.accept_each.new.self entries c.args.round calls c.ask.new.self.signed.items _ signed accepted
+    (accepts (entries ++ entries_after entries asking) asked.0).0)
+    c.accept_each.ensures
