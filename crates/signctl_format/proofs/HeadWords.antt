@@ -1,7 +1,7 @@
 -- The words of a head, read one after another.
-use Rattle.std.proofs.Common.{◌≡◌, ℕ, ◌+◌, ◌<◌, Bool, true, List, [], ◌∷◌, ◌++◌, Option, Some, None, refl, sym, ap, ◌∙◌, append_assoc, append-nil, length, take, drop}
+use Rattle.std.proofs.Common.{◌≡◌, ℕ, ◌<◌, Bool, true, List, [], ◌∷◌, ◌++◌, Option, Some, None, refl, sym, ap, ◌∙◌, append_assoc, append-nil, length}
 use Rattle.std.specs.Prelude.{option_map}
-use Rattle.std.specs.List.{list_all, position}
+use Rattle.std.specs.List.{list_all}
 use Rattle.std.proofs.lemmas.Bool.{lt-ltb, and_parts}
 use Rattle.signctl_format.specs.Bytes.{is_visible}
 use Rattle.signctl_format.specs.Words.{is_target}
@@ -12,7 +12,7 @@ use Rattle.signctl_format.specs.declared.read_error.ReadError.{ReadError}
 use Rattle.signctl_format.specs.declared.read_error.ReadError.TheVariants.{NotUnderstood, OutOfMemory}
 use Rattle.signctl_format.specs.Reading.{fields_in}
 use Rattle.signctl_format.specs.Readers.{Fails}
-use Rattle.signctl_format.specs.Heads.{field_of, field_named, is_colon}
+use Rattle.signctl_format.specs.Heads.{field_of}
 
 -- what was read so far, in front of what the rest says
 abbrev pub with_front : {A : Type 0} → List A → Option (List A) → Option (List A)
@@ -96,9 +96,3 @@ value_more_run front b run after rest next total read parts all so_far =
     sym (run_in_front (front ++ b ∷ []) run (value_of after))
     ∙ ap (with_front (front ++ b ∷ [])) (sym (value_of-run run after all) ∙ ap value_of parts)
     ∙ value_more front b next rest total read so_far
-
--- a word with a name before its first colon is a header where its rest is a value
-pub field_found : (word : List ℕ) (colon : ℕ) (name value : List ℕ) → position is_colon word ≡ Some colon → name ≡ take colon word → value ≡ drop (colon + 1) word → is_target name ≡ true → field_of word ≡ field_named name (value_of value)
-field_found word colon name value place front back target =
-    let named_well : is_target (take colon word) ≡ true = ap is_target (sym front) ∙ target in
-    rw (place, front, back, named_well) refl

@@ -7,6 +7,7 @@ pub mod VisibleWords
 pub mod Marks
 pub mod Fractions
 pub mod Seconds
+pub mod HeadNames
 pub mod HeadWords
 pub mod Values
 pub mod Headers

@@ -1,5 +1,5 @@
 -- How far the bytes of a class go: from the mask of one load to the class, and from all blocks to the run.
-use Rattle.std.proofs.Common.{◌≡◌, ℕ, ◌+◌, ◌%◌, ◌^◌, ◌<◌, ◌≤◌, eqb, Bool, true, false, not, List, [], ◌∷◌, map, length, take, suc, get_or, Fits, w8, refl, sym, ap, ◌∙◌, arith, inl, inr}
+use Rattle.std.proofs.Common.{◌≡◌, ℕ, ◌+◌, ◌%◌, ◌^◌, ◌<◌, ◌≤◌, eqb, Bool, true, false, not, List, [], ◌∷◌, map, length, take, drop, suc, get_or, Fits, w8, refl, sym, ap, ◌∙◌, arith, inl, inr}
 use Rattle.std.specs.List.{prefix_len, list_all}
 use Rattle.std.proofs.lemmas.Bool.{agree_below, agree_below_at, not-true, not-false, and_from, cases_eq, cases_lt, eq-eqb, ne_eqb}
 use Rattle.std.proofs.lemmas.Simd.{map-map, mask_l-mod, length-chunk, first_set_mask_l, run_in_chunk_le, run_in_chunk_fails, run_in_chunk_stops}
@@ -7,7 +7,7 @@ use Rattle.std.proofs.lemmas.List.{length-map, take_all}
 use Rattle.std.proofs.lemmas.List.Folds.{list_all_at}
 use Rattle.std.proofs.lemmas.List.Sums.{prefix_len_is, prefix_len_stops, prefix_len-le-length}
 use lib.Lanes.{chunk, mask_l, top}
-use Rattle.signctl_format.specs.Classes.{IsRunIn, first_set}
+use Rattle.signctl_format.specs.Classes.{begins_with, IsRunIn, first_set}
 
 -- a lane is set just where a byte is not of the class, which is seen at each of the 256 bytes
 pub run_in : (q : ℕ → Bool) (d : List ℕ) (i r : ℕ) (z : List ℕ) (f : ℕ → ℕ) → i + 16 ≤ length d → ((k : ℕ) → Fits w8 (get_or d k 0))
@@ -51,6 +51,17 @@ first_passes q b d false e rest = rw e refl
 pub run_passes : (q : ℕ → Bool) (d : List ℕ) → list_all q (take (prefix_len q d) d) ≡ true
 run_passes q [] = refl
 run_passes q (b ∷ d) = first_passes q b d (q b) refl (run_passes q d)
+
+first_stops : (q : ℕ → Bool) (b : ℕ) (d : List ℕ) (here : Bool) → q b ≡ here → begins_with q (drop (prefix_len q d) d) ≡ false → begins_with q (drop (prefix_len q (b ∷ d)) (b ∷ d)) ≡ false
+first_stops q b d true e rest =
+    let k : 1 + prefix_len q d ≡ suc (prefix_len q d) = omega arith in
+    rw (e, k) rest
+first_stops q b d false e rest = rw e e
+
+-- what stands after a run begins with no byte of its class
+pub run_stops : (q : ℕ → Bool) (d : List ℕ) → begins_with q (drop (prefix_len q d) d) ≡ false
+run_stops q [] = refl
+run_stops q (b ∷ d) = first_stops q b d (q b) refl (run_stops q d)
 
 -- all bytes are of a class where its run is as long as they
 pub all_by_len : (q : ℕ → Bool) (d : List ℕ) → eqb (prefix_len q d) (length d) ≡ list_all q d

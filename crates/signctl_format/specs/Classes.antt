@@ -1,10 +1,11 @@
 -- Classes of bytes, and how far the bytes of a class go.
-use Rattle.std.specs.Prelude.{◌≡◌, ◌+◌, ◌<◌, ◌≤◌, ℕ, Bool, true, false, not, ◌==◌, List, slice_index, if◌then◌else◌}
+use Rattle.std.specs.Prelude.{◌≡◌, ◌+◌, ◌<◌, ◌≤◌, ℕ, Bool, true, false, not, ◌==◌, List, [], ◌∷◌, slice_index, if◌then◌else◌}
 use Rattle.std.specs.Int.{w64, trailing_zeros}
 use Rattle.signctl_format.specs.declared.run.ByteClass.{ByteClass}
-use Rattle.signctl_format.specs.declared.run.ByteClass.TheVariants.{Word, Visible, Value, Pair}
+use Rattle.signctl_format.specs.declared.run.ByteClass.TheVariants.{Word, Visible, Name, Value, Pair}
 use Rattle.signctl_format.specs.Bytes.{is_visible}
 use Rattle.signctl_format.specs.Words.{is_space}
+use Rattle.signctl_format.specs.Heads.{is_name_byte}
 use Rattle.signctl_format.specs.Escapes.{is_plain, is_pair_plain}
 
 -- a byte of a word
@@ -15,8 +16,14 @@ is_no_space b = not (is_space b)
 abbrev pub has : ByteClass → ℕ → Bool
 has Word = is_no_space
 has Visible = is_visible
+has Name = is_name_byte
 has Value = is_plain
 has Pair = is_pair_plain
+
+-- there is a first byte, and it passes the test
+abbrev pub begins_with : (ℕ → Bool) → List ℕ → Bool
+begins_with test [] = false
+begins_with test (b ∷ rest) = test b
 
 -- of the n bytes from a place, just so many pass the test before one that does not
 pub record IsRunIn (test : ℕ → Bool) (bytes : List ℕ) (at n run : ℕ) : Type 0 where

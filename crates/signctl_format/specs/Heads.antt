@@ -6,7 +6,7 @@ use Rattle.sign_base.specs.declared.head.Field.{Field}
 use Rattle.sign_base.specs.declared.head.Head.{Head}
 use Rattle.sign_base.specs.declared.head.Version.{Version}
 use Rattle.sign_base.specs.declared.head.Version.TheVariants.{V09, V10, V11, V2, V3}
-use Rattle.signctl_format.specs.Bytes.{colon, is_byte}
+use Rattle.signctl_format.specs.Bytes.{colon, is_byte, is_visible}
 use Rattle.signctl_format.specs.Words.{is_target}
 use Rattle.signctl_format.specs.Escapes.{value_word, value_of}
 
@@ -31,6 +31,10 @@ version_of word =
 -- whether a byte ends a header's name
 abbrev pub is_colon : ℕ → Bool
 is_colon b = b == colon
+
+-- a byte of a header's name
+abbrev pub is_name_byte : ℕ → Bool
+is_name_byte b = is_visible b && not (is_colon b)
 
 -- a header's name: one or more visible bytes, none of them a colon
 abbrev pub is_name : List ℕ → Bool

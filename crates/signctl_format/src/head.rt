@@ -1,9 +1,10 @@
 //! Request heads, read from the words that end a line.
-ghost use Rattle.std.specs.Prelude.{◌≡◌, ◌<◌, ◌∷◌, [], Some, None, length, IfSome, MatchOption, MatchResult};
-ghost use Rattle.std.specs.List.{list_all, position};
-ghost use Rattle.signctl_format.specs.Bytes.{is_visible};
+ghost use Rattle.std.specs.Prelude.{◌≡◌, ◌<◌, ◌∷◌, [], false, Some, None, length, MatchOption, MatchResult};
+ghost use Rattle.std.specs.List.{list_all};
+ghost use Rattle.signctl_format.specs.Bytes.{colon, is_visible};
 ghost use Rattle.signctl_format.specs.Words.{words, is_target};
 ghost use Rattle.signctl_format.specs.Escapes.{is_plain, value_of, with_first_byte, escaped_byte};
+ghost use Rattle.signctl_format.specs.Classes.{begins_with};
 ghost use Rattle.signctl_format.specs.Heads.{version_of, field_named, field_of, is_colon};
 ghost use Rattle.signctl_format.specs.Steps.{first_word};
 ghost use Rattle.signctl_format.specs.Reading.{visible_target, fields_in, head_in};
@@ -116,28 +117,31 @@ fn field(alloc: Global, word: &[u8]) -> Result<Field, ReadError>
 }
 
 /// The name of a header, and the word of its value.
-#[tactic(auto, using(crate::proofs::HeadWords::field_found))]
+#[tactic(auto, using(crate::proofs::HeadNames::name_found, crate::proofs::HeadNames::no_colon_found, crate::proofs::HeadNames::no_name_found))]
 fn name_and_value(word: &[u8]) -> Result<(&[u8], &[u8]), NotUnderstood>
     ensures { MatchResult result
         (λ x. field_of word.now ≡ field_named x.0.now (value_of x.1.now))
         (λ e. field_of word.now ≡ None) }
 {
-    let Some(colon) = first_colon(word) else {
+    let (name, rest) = split_run(ByteClass::Name, word);
+    let Some(value) = after_colon(rest) else {
         return Err(NotUnderstood);
     };
-    let (name, _) = word.split_at(colon);
-    let (_, value) = word.split_at(colon + 1);
-    if !is_target(name) {
+    if name.is_empty() {
         return Err(NotUnderstood);
     }
     Ok((name, value))
 }
 
-fn first_colon(word: &[u8]) -> Option<usize>
-    ensures place { result ≡ position is_colon word.now }
-    ensures within { IfSome result (λ i. i < length word.now) }
+/// What stands after a colon that begins these bytes.
+#[inline(always)]
+fn after_colon(rest: &[u8]) -> Option<&[u8]>
+    ensures { MatchOption result (begins_with is_colon rest.now ≡ false) (λ value. rest.now ≡ colon ∷ value.now) }
 {
-    word.iter().position(|b| *b == b':')
+    match rest {
+        [b':', value @ ..] => Some(value),
+        _ => None,
+    }
 }
 
 /// The value of a header that a word spells. A word with no escape is copied at once.

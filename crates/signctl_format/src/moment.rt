@@ -19,7 +19,6 @@ const LAST_SECOND: u64 = 253_402_207_200;
 const PLACES: u32 = 9;
 
 /// The moment that a word spells in a script of this version.
-#[inline(always)]
 pub fn moment(version: ScriptVersion, word: &[u8]) -> Result<Timestamp, NotUnderstood>
     ensures { Reads (λ t. t) result (moment_of version word.now) }
 {
@@ -39,7 +38,6 @@ fn moment_after(since_1970: Duration) -> Timestamp
 }
 
 /// The duration that a word spells, which may be none.
-#[inline(always)]
 pub fn duration(version: ScriptVersion, word: &[u8]) -> Result<Option<Duration>, NotUnderstood>
     ensures { Reads (option_map plain_duration) result (duration_of version word.now) }
 {

@@ -1,7 +1,8 @@
 //! Reading a line: one function for each form, by the name that begins it.
 //!
-//! These functions are inlined, as those of `word` and `moment` are: each call would copy the item, which has room for
-//! the largest event.
+//! The forms that most lines have are inlined: each call would copy the item, which has room for the largest event.
+//! What stands in many forms, and the forms that few lines have, are calls, since the compiler drops the hint from a
+//! function that has grown large, and says nothing.
 ghost use Rattle.std.specs.Prelude.{◌≡◌, IsTrue, false};
 ghost use Rattle.signctl_format.specs.declared.item.Item.TheVariants as item;
 ghost use Rattle.signctl_format.specs.Steps.{first_word};
@@ -101,7 +102,6 @@ fn form_with_no_head(
     }
 }
 
-#[inline(always)]
 #[tactic(auto, unfolding(crate::specs::Reading::cache_form))]
 fn cache(rest: &[u8]) -> Result<Item, NotUnderstood>
     ensures { Reads (λ i. i) result (cache_form (words_after rest.now)) }
@@ -116,7 +116,6 @@ fn cache(rest: &[u8]) -> Result<Item, NotUnderstood>
     }
 }
 
-#[inline(always)]
 #[tactic(auto, unfolding(crate::specs::Reading::chain_form))]
 fn chain(rest: &[u8]) -> Result<Item, NotUnderstood>
     ensures { Reads (λ i. i) result (chain_form (words_after rest.now)) }
@@ -125,7 +124,6 @@ fn chain(rest: &[u8]) -> Result<Item, NotUnderstood>
     at_end_of_line(Item::Cache(Loader::Chain(providers)), rest)
 }
 
-#[inline(always)]
 #[tactic(auto, unfolding(crate::specs::Reading::handle_form))]
 fn handle(rest: &[u8]) -> Result<Item, NotUnderstood>
     ensures { Reads (λ i. i) result (handle_form (words_after rest.now)) }
@@ -175,7 +173,6 @@ fn found(version: ScriptVersion, rest: &[u8]) -> Result<Item, NotUnderstood>
     Ok(event_item(Event::Provided { call, now, answer }))
 }
 
-#[inline(always)]
 #[tactic(auto, unfolding(crate::specs::Reading::missing_form, crate::specs::Reading::moment_at))]
 fn missing(version: ScriptVersion, rest: &[u8]) -> Result<Item, NotUnderstood>
     ensures { Reads (λ i. i) result (missing_form version (words_after rest.now)) }
@@ -187,7 +184,6 @@ fn missing(version: ScriptVersion, rest: &[u8]) -> Result<Item, NotUnderstood>
     at_end_of_line(event_item(Event::Provided { call, now, answer }), rest)
 }
 
-#[inline(always)]
 #[tactic(auto, unfolding(crate::specs::Reading::failed_form, crate::specs::Reading::moment_at))]
 fn failed(version: ScriptVersion, rest: &[u8]) -> Result<Item, NotUnderstood>
     ensures { Reads (λ i. i) result (failed_form version (words_after rest.now)) }
@@ -210,7 +206,6 @@ fn accept(alloc: Global, rest: &[u8]) -> Result<Item, ReadError>
     Ok(event_item(Event::Signed { call, answer }))
 }
 
-#[inline(always)]
 #[tactic(auto, unfolding(crate::specs::Reading::reject_form))]
 fn reject(rest: &[u8]) -> Result<Item, NotUnderstood>
     ensures { Reads (λ i. i) result (reject_form (words_after rest.now)) }
@@ -237,7 +232,6 @@ fn event_item(event: Event<ScriptCredential>) -> Item
     Item::Event(ScriptEvent::new(event))
 }
 
-#[inline(always)]
 fn rule(word: &[u8]) -> Result<ScriptRule, NotUnderstood>
     ensures { Reads (λ r. r) result (rule_in word.now) }
 {
@@ -251,7 +245,6 @@ fn rule(word: &[u8]) -> Result<ScriptRule, NotUnderstood>
 }
 
 /// A call, in the next two words.
-#[inline(always)]
 #[tactic(auto, unfolding(crate::specs::Reading::call_at))]
 pub fn call_at(rest: &[u8]) -> Result<(CallId, &[u8]), NotUnderstood>
     ensures { Reads (λ x. (x.0, words_after x.1.now)) result (call_at (words_after rest.now)) }

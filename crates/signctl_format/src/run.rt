@@ -2,8 +2,9 @@
 ghost use Rattle.std.specs.Prelude.{◌≡◌, ◌+◌, ◌≤◌, ◌<◌, ◌++◌, ℕ, true, false, length, slice_index};
 ghost use Rattle.std.specs.List.{list_all, prefix_len};
 ghost use Rattle.signctl_format.specs.Bytes.{is_visible};
+ghost use Rattle.signctl_format.specs.Heads.{is_name_byte};
 ghost use Rattle.signctl_format.specs.Escapes.{is_plain, is_pair_plain};
-ghost use Rattle.signctl_format.specs.Classes.{has, is_no_space, IsRunIn, first_set};
+ghost use Rattle.signctl_format.specs.Classes.{has, begins_with, is_no_space, IsRunIn, first_set};
 
 use crate::byte::{is_plain, is_visible};
 use std::simd::prelude::*;
@@ -17,6 +18,8 @@ pub(crate) enum ByteClass {
     Word,
     /// Those of a method or a URI.
     Visible,
+    /// Those of a header's name: visible, and no colon.
+    Name,
     /// Those that stand for themselves in a header's value.
     Value,
     /// Those that stand for themselves in a key or a value of a query.
@@ -28,6 +31,7 @@ pub(crate) enum ByteClass {
 pub(crate) fn split_run(class: ByteClass, bytes: &[u8]) -> (&[u8], &[u8])
     ensures parts { result.0.now ++ result.1.now ≡ bytes.now }
     ensures class { list_all (has class) result.0.now ≡ true }
+    ensures stops { begins_with (has class) result.1.now ≡ false }
     ensures shorter { length result.1.now ≤ length bytes.now }
 {
     bytes.split_at(run_len(class, bytes))
@@ -72,6 +76,7 @@ fn has(class: ByteClass, b: u8) -> bool
     match class {
         ByteClass::Word => b != b' ',
         ByteClass::Visible => is_visible(b),
+        ByteClass::Name => is_visible(b) && b != b':',
         ByteClass::Value => is_plain(b),
         ByteClass::Pair => is_plain(b) && b != b'=',
     }
@@ -86,6 +91,7 @@ fn run_in_block(class: ByteClass, bytes: &[u8], at: usize) -> usize
     match class {
         ByteClass::Word => word_run(bytes, at),
         ByteClass::Visible => visible_run(bytes, at),
+        ByteClass::Name => name_run(bytes, at),
         ByteClass::Value => value_run(bytes, at),
         ByteClass::Pair => pair_run(bytes, at),
     }
@@ -108,6 +114,17 @@ fn visible_run(bytes: &[u8], at: usize) -> usize
 {
     let v = u8x16::from_slice(&bytes[at..]);
     let stops = v.simd_lt(u8x16::splat(0x21)) | v.simd_gt(u8x16::splat(0x7e));
+    first_set(stops.to_bitmask())
+}
+
+#[inline(always)]
+fn name_run(bytes: &[u8], at: usize) -> usize
+    requires { at + LANES ≤ length bytes.now }
+    ensures { IsRunIn is_name_byte bytes.now at LANES result }
+{
+    let v = u8x16::from_slice(&bytes[at..]);
+    let hidden = v.simd_lt(u8x16::splat(0x21)) | v.simd_gt(u8x16::splat(0x7e));
+    let stops = hidden | v.simd_eq(u8x16::splat(b':'));
     first_set(stops.to_bitmask())
 }
 

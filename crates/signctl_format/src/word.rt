@@ -35,7 +35,6 @@ pub fn split_word(text: &[u8]) -> (&[u8], &[u8])
     text.split_at(word_len(text))
 }
 
-#[inline(always)]
 fn word_len(text: &[u8]) -> usize
     ensures { result ≡ position_or_len is_space text.now }
 {
