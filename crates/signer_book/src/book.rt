@@ -86,18 +86,26 @@ impl<K: SigningCredential, D: DeadlineRule<Credential = K>> Book<K, D> {
             return Reply::OutOfMemory;
         };
         let Some(given) = preview_entry(&self.desk, event) else {
+            drop(kept);
             return Reply::OutOfMemory;
         };
         let live = self.desk.live();
         if !take_entry_room(&mut self.journal, &mut self.owners, live, &kept.reply) {
+            drop(kept);
+            drop(given);
             return Reply::OutOfMemory;
         }
         let spare = pass.spare;
         let Some(spare) = take_receipt_room(&mut pass.receipts, spare, &given) else {
+            drop(kept);
+            drop(given);
             return Reply::OutOfMemory;
         };
         let reply = self.desk.step(event);
         if is_out_of_memory(&reply) {
+            drop(kept);
+            drop(given);
+            drop(reply);
             return Reply::OutOfMemory;
         }
         let place = self.journal.len() as u64;
