@@ -55,3 +55,10 @@ pub rest_short : (test : ℕ → Bool) {old next new : Vec ℕ} (mid : Vec ℕ) 
     → RunsShort next new (with_escapes test after) → RunsShort old new (with_escapes test bytes)
 rest_short test {old = old} {next = next} {new = new} mid rest bytes b after cut grows whole grown added more short =
     short_in_rest grows whole grown (subst (RunsShort mid new) (sym (first_escape test rest b after cut)) (short_after next (byte_or_escape test b) added more short))
+
+-- the first byte of what is left was added, and a run after it
+pub more_added : (test : ℕ → Bool) (mid next : Vec ℕ) {new whole : List ℕ} (rest : List ℕ) (b : ℕ) (after : List ℕ) → rest ≡ b ∷ after → mid.items ++ with_escapes test rest ≡ whole
+    → next.items ≡ mid.items ++ byte_or_escape test b → new ≡ next.items ++ with_escapes test after → new ≡ whole
+more_added test mid next rest b after cut so_far added run =
+    run ∙ ap (λ (t : List ℕ). t ++ with_escapes test after) added ∙ append_assoc mid.items (byte_or_escape test b) (with_escapes test after)
+    ∙ ap (λ (t : List ℕ). mid.items ++ t) (sym (first_escape test rest b after cut)) ∙ so_far
