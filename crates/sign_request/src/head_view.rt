@@ -66,7 +66,7 @@ impl HeadView {
             Ok(parts) => parts,
             Err(e) => return Err(refused_as(ViewRefusal::Head, e)),
         };
-        match SigningRequest::build(alloc, &parts) {
+        match SigningRequest::from_parts(alloc, parts) {
             Ok(request) => Ok(HeadView { request }),
             Err(e) => Err(refused_as(ViewRefusal::Authority, e)),
         }

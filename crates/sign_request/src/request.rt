@@ -5,7 +5,7 @@ ghost use Rattle.sign_request.specs.Refusal.{IsOutOfMemory, RefusedFor, no_autho
 
 use crate::query::same_pairs;
 use crate::refusal::refusal;
-use crate::target::{is_scheme_of, pairs_of, path_of, scheme_of};
+use crate::target::{TargetView, is_scheme_of, pairs_of, path_of, target_view};
 use http::Method;
 use http::header::HeaderMap;
 use http::request::Parts;
@@ -63,6 +63,19 @@ impl SigningRequest {
         Ok(SigningRequest::view(alloc, parts, authority)?)
     }
 
+    /// Answers what `build` does, and takes the head, so that method and headers are not copied.
+    pub(crate) fn from_parts(alloc: Global, parts: Parts) -> Result<SigningRequest, Error>
+        ensures ok { IfOk result (IsViewOf parts) }
+        ensures err { IfErr result (λ e. IsOutOfMemory e
+            ⊎ RefusedFor no_authority (uri_authority parts.uri ≡ None) e) }
+    {
+        let Some(authority) = parts.uri.authority() else {
+            return Err(refusal(alloc, NO_AUTHORITY));
+        };
+        let target = target_view(alloc, &parts.uri, authority)?;
+        Ok(SigningRequest::new(parts.method, target, parts.headers))
+    }
+
     fn view(
         alloc: Global,
         parts: &Parts,
@@ -71,14 +84,30 @@ impl SigningRequest {
         requires { uri_authority parts.now.uri ≡ Some authority.now }
         ensures { IfOk result (IsViewOf parts.now) }
     {
-        Ok(SigningRequest {
-            method: parts.method.clone()?,
-            scheme: scheme_of(&parts.uri)?,
-            authority: authority.clone()?,
-            path: String::from_str(alloc, path_of(&parts.uri))?,
-            query: pairs_of(alloc, &parts.uri)?,
-            headers: parts.headers.clone()?,
-        })
+        let target = target_view(alloc, &parts.uri, authority)?;
+        let method = parts.method.clone()?;
+        let headers = parts.headers.clone()?;
+        Ok(SigningRequest::new(method, target, headers))
+    }
+
+    fn new(method: Method, target: TargetView, headers: HeaderMap) -> SigningRequest
+        ensures { result ≡ record {
+          method = method;
+          scheme = target.scheme;
+          authority = target.authority;
+          path = target.path;
+          query = target.query;
+          headers = headers;
+        } }
+    {
+        SigningRequest {
+            method,
+            scheme: target.scheme,
+            authority: target.authority,
+            path: target.path,
+            query: target.query,
+            headers,
+        }
     }
 
     /// Commits the staged headers to the head that this is a view of.
@@ -96,15 +125,35 @@ impl SigningRequest {
             ⊎ RefusedFor view_modified (IsSome (uri_authority parts.old.uri)
             × ¬ (StillFits parts.old self)) e)) }
     {
+        match self.check(parts) {
+            Ok(()) => {
+                parts.headers = self.into_headers();
+                Ok(())
+            }
+            Err(e) => {
+                drop(self);
+                Err(e)
+            }
+        }
+    }
+
+    // Fails where this is no longer a view of the head.
+    fn check(&self, parts: &Parts) -> Result<(), Error>
+        ensures fits { OnOk result (StillFits parts.now self.now) }
+        ensures err { IfErr result (λ e. IsOutOfMemory e
+            ⊎ (RefusedFor no_authority (uri_authority parts.now.uri ≡ None) e
+            ⊎ RefusedFor view_modified (IsSome (uri_authority parts.now.uri)
+            × ¬ (StillFits parts.now self.now)) e)) }
+    {
         let alloc = *self.query.allocator();
         let Some(authority) = parts.uri.authority() else {
             return Err(refusal(alloc, NO_AUTHORITY));
         };
-        if !self.still_fits(parts, authority)? {
-            return Err(refusal(alloc, VIEW_MODIFIED));
+        if self.still_fits(parts, authority)? {
+            Ok(())
+        } else {
+            Err(refusal(alloc, VIEW_MODIFIED))
         }
-        parts.headers = self.into_headers();
-        Ok(())
     }
 
     fn into_headers(self) -> HeaderMap

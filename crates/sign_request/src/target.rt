@@ -1,12 +1,43 @@
 //! Reading a request target, once for a view and again for the test that the view still fits.
-ghost use Rattle.std.specs.Prelude.{◌≡◌, ◌↔◌, IfOk, IsTrue};
+ghost use Rattle.std.specs.Prelude.{◌≡◌, ◌↔◌, IfOk, IsTrue, Some, string_bytes};
 ghost use Rattle.http_uri.specs.ByteClasses.{lowercase};
+ghost use Rattle.http_uri.specs.Uri.{uri_authority};
 ghost use Rattle.sign_request.specs.Query.{text_pairs};
 ghost use Rattle.sign_request.specs.Target.{target_scheme, target_path, target_pairs};
 
 use crate::query::read_query;
-use http::uri::{Scheme, Uri};
+use http::uri::{Authority, Scheme, Uri};
+use sign_base::NoMemory;
 use std::alloc::{AllocError, Global};
+
+/// What a view shows of a target.
+#[derive(Drop)]
+pub(crate) struct TargetView {
+    pub(crate) scheme: Scheme,
+    pub(crate) authority: Authority,
+    pub(crate) path: String,
+    pub(crate) query: Vec<(String, String)>,
+}
+
+/// The view of a target that names this authority.
+pub(crate) fn target_view(
+    alloc: Global,
+    uri: &Uri,
+    authority: &Authority,
+) -> Result<TargetView, NoMemory<()>>
+    requires { uri_authority uri.now ≡ Some authority.now }
+    ensures scheme { IfOk result (λ view. view.scheme ≡ target_scheme uri.now) }
+    ensures authority { IfOk result (λ view. Some view.authority ≡ uri_authority uri.now) }
+    ensures path { IfOk result (λ view. string_bytes view.path ≡ target_path uri.now) }
+    ensures query { IfOk result (λ view. text_pairs view.query.items ≡ target_pairs uri.now) }
+{
+    Ok(TargetView {
+        scheme: scheme_of(uri)?,
+        authority: authority.clone()?,
+        path: String::from_str(alloc, path_of(uri))?,
+        query: pairs_of(alloc, uri)?,
+    })
+}
 
 /// The scheme, or `http`.
 pub(crate) fn scheme_of(uri: &Uri) -> Result<Scheme, AllocError>

@@ -15,21 +15,21 @@ returns-in-Err-clause-err c =
 
 pub invariant_of-result : goal.invariant_of-result
 invariant_of-result c =
-    QuerySizeFits-IsViewOf c.args.head.now c.in-Ok.parts (c.in-Ok.ensures {u = tt}).ok c.in-Ok-build.request (c.in-Ok-build.ensures {u = tt}).ok
+    QuerySizeFits-IsViewOf c.args.head.now c.in-Ok.parts (c.in-Ok.ensures {u = tt}).ok c.in-Ok-from_parts.request (c.in-Ok-from_parts.ensures {u = tt}).ok
 
-pub returns-in-Ok-build-clause-ok : goal.returns-in-Ok-build-clause-ok
-returns-in-Ok-build-clause-ok c =
+pub returns-in-Ok-from_parts-clause-ok : goal.returns-in-Ok-from_parts-clause-ok
+returns-in-Ok-from_parts-clause-ok c =
     let head = c.args.head.now in
     let are = c.in-Ok.ensures {u = tt} in
-    let view = head_view-Some head c.in-Ok.parts are.ok c.in-Ok-build.request (c.in-Ok-build.ensures {u = tt}).ok in
-    view_of-accepted head (Some (plain_view c.in-Ok-build.request)) are.accepted view
+    let view = head_view-Some head c.in-Ok.parts are.ok c.in-Ok-from_parts.request (c.in-Ok-from_parts.ensures {u = tt}).ok in
+    view_of-accepted head (Some (plain_view c.in-Ok-from_parts.request)) are.accepted view
 
-pub returns-clause-err : goal.returns-clause-err
-returns-clause-err c =
+pub returns-in-Err-from_parts-clause-err : goal.returns-in-Err-from_parts-clause-err
+returns-in-Err-from_parts-clause-err c =
     let head = c.args.head.now in
     let are = c.in-Ok.ensures {u = tt} in
-    let answer = c.refused_as-in-Err-build.ensures in
-    elim (c.in-Err-build.ensures {u = tt}).err [
+    let answer = c.refused_as-in-Err-from_parts.ensures in
+    elim (c.in-Err-from_parts.ensures {u = tt}).err [
       | inl memory ↦ inl (answer.memory (ap (λ (e : ErrorParts). e.kind) memory))
       | inr refused ↦
           let kind = ap (λ (e : ErrorParts). e.kind) refused.0 in
