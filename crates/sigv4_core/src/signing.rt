@@ -59,12 +59,15 @@ pub fn sign_head_keyed(
     ensures err { IfErr result (λ why. (why ≡ SigError.OutOfMemory)
         ⊎ (signing_of credential.now scope.now payload.now now head.now ≡ Err why)) }
 {
-    let uri = target_to_sign(alloc, head, scope, keys)?;
     if is_before_year_0(now) {
+        // What refuses the head comes first.
+        drop(target_to_sign(alloc, head, scope, keys)?);
         return Err(SigError::Moment);
     }
     let key = SigningKey::derive(alloc, credential, scope, now)?;
-    Ok(signed_head(alloc, head, &uri, &key, payload, now)?)
+    let signed = sign_head_with(alloc, head, &key, payload, now, keys);
+    drop(key);
+    signed
 }
 
 /// The head with its signature under a derived key, for a moment of the key's day. It is the head that
@@ -85,9 +88,12 @@ pub fn sign_head_with(
 {
     let uri = target_to_sign(alloc, head, key.scope(), keys)?;
     if is_before_year_0(now) {
+        drop(uri);
         return Err(SigError::Moment);
     }
-    Ok(signed_head(alloc, head, &uri, key, payload, now)?)
+    let signed = signed_head(alloc, head, &uri, key, payload, now);
+    drop(uri);
+    Ok(signed?)
 }
 
 /// The head at this target with its signature.
