@@ -1,6 +1,6 @@
 //! What a desk keeps: a table for each kind of place, and the live calls by their names. A cache has its
 //! row in `loaders`, `caches` and `queues`, a handle in `handles` and `greatest`.
-ghost use Rattle.std.specs.Prelude.{◌≡◌, ◌<◌, [], false, length, option_map, option_copied, OnOk, OnErr, IfErr, IfSome, slice_get};
+ghost use Rattle.std.specs.Prelude.{◌≡◌, ◌<◌, [], false, length, option_map, option_copied, OnOk, OnErr, IfErr, IfSome, slice_get, vec_len, vec_capacity};
 
 use crate::call_record::{CallRecord, Stage};
 use credentials::{DeadlineRule, SigningCredential};
@@ -61,6 +61,36 @@ impl<K, D, Q, H> Model for Tables<K, D, Q, H> {
     ghost view = { tables_view };
 }
 
+/// Takes room for the row of one more cache, or changes nothing.
+fn reserve_cache_row<K: Drop, Q: Drop>(
+    loaders: &mut Vec<Loader>,
+    caches: &mut Vec<Option<K>>,
+    queues: &mut Vec<Q>,
+) -> Result<(), AllocError>
+    ensures loaders { loaders.new.items ≡ loaders.old.items }
+    ensures caches { caches.new.items ≡ caches.old.items }
+    ensures queues { queues.new.items ≡ queues.old.items }
+    ensures room { OnOk result (vec_len loaders.new < vec_capacity loaders.new
+        × (vec_len caches.new < vec_capacity caches.new × vec_len queues.new < vec_capacity queues.new)) }
+{
+    loaders.reserve(1)?;
+    caches.reserve(1)?;
+    queues.reserve(1)
+}
+
+/// Takes room for the row of one more handle, or changes nothing.
+fn reserve_handle_row(
+    handles: &mut Vec<HandleRecord>,
+    greatest: &mut Vec<Option<u64>>,
+) -> Result<(), AllocError>
+    ensures handles { handles.new.items ≡ handles.old.items }
+    ensures greatest { greatest.new.items ≡ greatest.old.items }
+    ensures room { OnOk result (vec_len handles.new < vec_capacity handles.new × vec_len greatest.new < vec_capacity greatest.new) }
+{
+    handles.reserve(1)?;
+    greatest.reserve(1)
+}
+
 impl<K: SigningCredential, D: DeadlineRule<Credential = K>, Q: Drop, H: Drop> Tables<K, D, Q, H> {
     ghost use Rattle.desk_parts.specs.Tables.{find_call};
     ghost use Rattle.desk_parts.specs.TablesView.{handle_view};
@@ -99,9 +129,7 @@ impl<K: SigningCredential, D: DeadlineRule<Credential = K>, Q: Drop, H: Drop> Ta
         ensures added { OnOk result (self.new ≡ with_cache loader queue self.old) }
         ensures unchanged { OnErr result (self.new ≡ self.old) }
     {
-        self.loaders.reserve(1)?;
-        self.caches.reserve(1)?;
-        self.queues.reserve(1)?;
+        reserve_cache_row(&mut self.loaders, &mut self.caches, &mut self.queues)?;
         self.loaders.push_reserved(loader);
         self.caches.push_reserved(None);
         self.queues.push_reserved(queue);
@@ -125,8 +153,7 @@ impl<K: SigningCredential, D: DeadlineRule<Credential = K>, Q: Drop, H: Drop> Ta
         ensures added { OnOk result (self.new ≡ with_handle cache rule self.old) }
         ensures unchanged { OnErr result (self.new ≡ self.old) }
     {
-        self.handles.reserve(1)?;
-        self.greatest.reserve(1)?;
+        reserve_handle_row(&mut self.handles, &mut self.greatest)?;
         self.handles.push_reserved(HandleRecord { cache, rule });
         self.greatest.push_reserved(None);
         Ok(())
@@ -143,10 +170,7 @@ impl<K: SigningCredential, D: DeadlineRule<Credential = K>, Q: Drop, H: Drop> Ta
         if self.rules.reserve(1).is_err() {
             return Err(rule);
         }
-        if self.handles.reserve(1).is_err() {
-            return Err(rule);
-        }
-        if self.greatest.reserve(1).is_err() {
+        if reserve_handle_row(&mut self.handles, &mut self.greatest).is_err() {
             return Err(rule);
         }
         self.rules.push_reserved(rule);
@@ -170,11 +194,8 @@ impl<K: SigningCredential, D: DeadlineRule<Credential = K>, Q: Drop, H: Drop> Ta
         ensures unchanged { OnErr result (self.new ≡ self.old) }
     {
         let number = self.loaders.len() as u32;
-        self.loaders.reserve(1)?;
-        self.caches.reserve(1)?;
-        self.queues.reserve(1)?;
-        self.handles.reserve(1)?;
-        self.greatest.reserve(1)?;
+        reserve_handle_row(&mut self.handles, &mut self.greatest)?;
+        reserve_cache_row(&mut self.loaders, &mut self.caches, &mut self.queues)?;
         self.loaders.push_reserved(loader);
         self.caches.push_reserved(None);
         self.queues.push_reserved(queue);
