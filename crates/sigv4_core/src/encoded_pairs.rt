@@ -1,6 +1,6 @@
 //! The pairs of a query after their encoding, cut out of one text in which their sides stand one after
 //! another.
-ghost use Rattle.std.specs.Prelude.{◌≡◌, ◌++◌, IfOk, OnOk, codes, map};
+ghost use Rattle.std.specs.Prelude.{◌≡◌, ◌≤◌, ◌++◌, IfOk, OnOk, codes, drop, length, map, take};
 ghost use Rattle.sign_request.specs.CanonicalText.{joined_texts, header_text};
 ghost use Rattle.sigv4_core.specs.EncodedPairs.{shown_pair, shown_pairs, cut_pairs, IsCut};
 
@@ -20,13 +20,24 @@ pub(crate) fn pairs_of<'a>(
 {
     let mut pairs = Vec::with_capacity(alloc, lengths.len())?;
     let mut rest = text;
-    for (key_len, value_len) in lengths {
-        let (key, more) = rest.split_at(*key_len);
-        let (value, more) = more.split_at(*value_len);
-        pairs.push((key, value))?;
+    for sides in lengths {
+        let (pair, more) = cut_pair(rest, *sides);
+        pairs.push(pair)?;
         rest = more;
     }
     Ok(pairs)
+}
+
+/// The pair at the front of a text, by the lengths of its sides, and what stands after it.
+fn cut_pair<'a>(text: &'a [u8], sides: (usize, usize)) -> (EncodedPair<'a>, &'a [u8])
+    requires key { sides.0 ≤ length text.now }
+    requires value { sides.1 ≤ length (drop sides.0 text.now) }
+    ensures pair { shown_pair result.0 ≡ (take sides.0 text.now, take sides.1 (drop sides.0 text.now)) }
+    ensures rest { result.1.now ≡ drop sides.1 (drop sides.0 text.now) }
+{
+    let (key, more) = text.split_at(sides.0);
+    let (value, rest) = more.split_at(sides.1);
+    ((key, value), rest)
 }
 
 /// The pairs as they stand, each with its `=`, joined by `&`.
