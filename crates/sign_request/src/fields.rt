@@ -20,12 +20,22 @@ pub(crate) fn fields_of(alloc: Global, headers: &HeaderMap) -> Result<Fields, No
 {
     let mut fields = Vec::with_capacity(alloc, headers.len())?;
     for (name, value) in headers.iter() {
-        fields.push(Field {
-            name: Octets::from_slice(alloc, name.as_bytes())?,
-            value: Octets::from_slice(alloc, value.as_bytes())?,
-        })?;
+        fields.push(field_of(alloc, name, value)?)?;
     }
     Ok(Fields::from_vec(fields))
+}
+
+fn field_of(
+    alloc: Global,
+    name: &HeaderName,
+    value: &HeaderValue,
+) -> Result<Field, NoMemory<()>>
+    ensures { IfOk result (λ field. field_pair field ≡ header_pair (name.now, value.now)) }
+{
+    Ok(Field {
+        name: Octets::from_slice(alloc, name.as_bytes())?,
+        value: Octets::from_slice(alloc, value.as_bytes())?,
+    })
 }
 
 /// The header map of plain fields, each appended after those before it, with these keys.

@@ -89,9 +89,13 @@ impl SigningRequest {
         ensures { IfOk result (IsViewOf parts.now) }
     {
         let target = target_view(alloc, &parts.uri, authority)?;
-        let method = parts.method.clone()?;
-        let headers = parts.headers.clone()?;
-        Ok(SigningRequest::new(method, target, headers))
+        match copies_of(parts) {
+            Ok((method, headers)) => Ok(SigningRequest::new(method, target, headers)),
+            Err(e) => {
+                drop(target);
+                Err(e)
+            }
+        }
     }
 
     fn new(method: Method, target: TargetView, headers: HeaderMap) -> SigningRequest
@@ -202,4 +206,19 @@ fn named_target(alloc: Global, uri: &Uri) -> Result<TargetView, Error>
         return Err(refusal(alloc, NO_AUTHORITY));
     };
     Ok(target_view(alloc, uri, authority)?)
+}
+
+// What a view copies of a head.
+fn copies_of(parts: &Parts) -> Result<(Method, HeaderMap), NoMemory<()>>
+    ensures method { IfOk result (λ copies. copies.0 ≡ parts.now.method) }
+    ensures headers { IfOk result (λ copies. copies.1 ≡ parts.now.headers) }
+{
+    let method = parts.method.clone()?;
+    match parts.headers.clone() {
+        Ok(headers) => Ok((method, headers)),
+        Err(_) => {
+            drop(method);
+            Err(NoMemory { back: () })
+        }
+    }
 }
