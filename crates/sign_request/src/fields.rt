@@ -49,10 +49,26 @@ pub(crate) fn headers_of(
     ensures err { IfErr result (λ e. IsOutOfMemory e ⊎ RefusedAs (RefusesFields fields.now) e) }
 {
     let mut headers = map_for(alloc, fields.as_slice().len(), keys)?;
-    for field in fields.as_slice() {
-        append_field(alloc, &mut headers, field)?;
+    match append_fields(alloc, &mut headers, fields) {
+        Ok(()) => Ok(headers),
+        Err(e) => {
+            drop(headers);
+            Err(e)
+        }
     }
-    Ok(headers)
+}
+
+// Appends the fields to an empty map.
+fn append_fields(alloc: Global, headers: &mut HeaderMap, fields: &Fields) -> Result<(), Error>
+    requires { headers.old ≡ [] }
+    ensures ok { OnOk result (headers.new ≡ header_map fields.now) }
+    ensures accepted { OnOk result (¬ (RefusesFields fields.now)) }
+    ensures err { IfErr result (λ e. IsOutOfMemory e ⊎ RefusedAs (RefusesFields fields.now) e) }
+{
+    for field in fields.as_slice() {
+        append_field(alloc, headers, field)?;
+    }
+    Ok(())
 }
 
 // An empty map with room for so many names, or for as many as a map can have.
