@@ -20,12 +20,22 @@ pub(crate) fn fields_of(alloc: Global, headers: &HeaderMap) -> Result<Fields, No
 {
     let mut fields = Vec::with_capacity(alloc, headers.len())?;
     for (name, value) in headers.iter() {
-        fields.push(Field {
-            name: Octets::from_slice(alloc, name.as_bytes())?,
-            value: Octets::from_slice(alloc, value.as_bytes())?,
-        })?;
+        fields.push(field_of(alloc, name, value)?)?;
     }
     Ok(Fields::from_vec(fields))
+}
+
+fn field_of(
+    alloc: Global,
+    name: &HeaderName,
+    value: &HeaderValue,
+) -> Result<Field, NoMemory<()>>
+    ensures { IfOk result (λ field. field_pair field ≡ header_pair (name.now, value.now)) }
+{
+    Ok(Field {
+        name: Octets::from_slice(alloc, name.as_bytes())?,
+        value: Octets::from_slice(alloc, value.as_bytes())?,
+    })
 }
 
 /// The header map of plain fields, each appended after those before it, with these keys.
@@ -39,10 +49,26 @@ pub(crate) fn headers_of(
     ensures err { IfErr result (λ e. IsOutOfMemory e ⊎ RefusedAs (RefusesFields fields.now) e) }
 {
     let mut headers = map_for(alloc, fields.as_slice().len(), keys)?;
-    for field in fields.as_slice() {
-        append_field(alloc, &mut headers, field)?;
+    match append_fields(alloc, &mut headers, fields) {
+        Ok(()) => Ok(headers),
+        Err(e) => {
+            drop(headers);
+            Err(e)
+        }
     }
-    Ok(headers)
+}
+
+// Appends the fields to an empty map.
+fn append_fields(alloc: Global, headers: &mut HeaderMap, fields: &Fields) -> Result<(), Error>
+    requires { headers.old ≡ [] }
+    ensures ok { OnOk result (headers.new ≡ header_map fields.now) }
+    ensures accepted { OnOk result (¬ (RefusesFields fields.now)) }
+    ensures err { IfErr result (λ e. IsOutOfMemory e ⊎ RefusedAs (RefusesFields fields.now) e) }
+{
+    for field in fields.as_slice() {
+        append_field(alloc, headers, field)?;
+    }
+    Ok(())
 }
 
 // An empty map with room for so many names, or for as many as a map can have.

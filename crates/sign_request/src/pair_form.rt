@@ -1,6 +1,6 @@
 //! Pairs written one after another.
 ghost use Rattle.std.specs.Prelude.{◌≡◌, ◌++◌, IfOk, OnOk, map, string_bytes};
-ghost use Rattle.sign_request.specs.Query.{text_pair, text_pairs};
+ghost use Rattle.sign_request.specs.Query.{decoded_text, text_pair, text_pairs};
 ghost use Rattle.sign_request.specs.CanonicalText.{joined_texts};
 ghost use Rattle.sign_request.specs.PairForm.{pair_text};
 
@@ -57,9 +57,15 @@ fn push_pair(
     text.push_str(sep)?;
     match form {
         PairForm::Header | PairForm::Parameter => text.push_str(value.as_str()),
-        PairForm::DecodedParameter => {
-            let plain = decode(*text.allocator(), value.as_str())?;
-            text.push_str(plain.as_str())
-        }
+        PairForm::DecodedParameter => push_decoded(text, value.as_str()),
     }
+}
+
+// Appends a value decoded once.
+fn push_decoded(text: &mut String, value: &str) -> Result<(), AllocError>
+    ensures { OnOk result (string_bytes text.new
+        ≡ string_bytes text.old ++ decoded_text value.now) }
+{
+    let plain = decode(*text.allocator(), value)?;
+    text.push_str(plain.as_str())
 }

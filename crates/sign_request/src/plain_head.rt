@@ -3,7 +3,7 @@ ghost use Rattle.std.specs.Prelude.{◌≡◌, ◌⊎◌, IfOk, IfErr, OnOk, OnE
 ghost use Rattle.http_header.specs.Token.{IsToken};
 ghost use Rattle.http_uri.specs.Uri.{Spells, SpellsNone, uri_text};
 ghost use Rattle.sign_request.specs.Crossing.{AnswersParts, AnswersCommit};
-ghost use Rattle.sign_request.specs.PlainHead.{http_version, IsUnknownVersion, IsHeadOf, ArePartsOf, Commits, RefusesHead, RefusesTarget};
+ghost use Rattle.sign_request.specs.PlainHead.{http_version, header_map, IsUnknownVersion, IsHeadOf, ArePartsOf, Commits, RefusesHead, RefusesTarget};
 ghost use Rattle.sign_request.specs.Refusal.{IsOutOfMemory, RefusedFor, RefusedAs, unknown_version};
 
 use crate::HeaderKeys;
@@ -72,14 +72,18 @@ pub fn parts_of_keyed(alloc: Global, head: &Head, keys: HeaderKeys) -> Result<Pa
     ensures { AnswersParts head.now result }
 {
     let method = method_of(alloc, head.method.as_slice())?;
-    let uri = uri_of(alloc, head.uri.as_slice())?;
-    let headers = headers_of(alloc, &head.headers, keys)?;
-    Ok(Parts {
-        method,
-        uri,
-        version: http_version_of(head.version),
-        headers,
-    })
+    match target_of(alloc, head, keys) {
+        Ok((uri, headers)) => Ok(Parts {
+            method,
+            uri,
+            version: http_version_of(head.version),
+            headers,
+        }),
+        Err(e) => {
+            drop(method);
+            Err(e)
+        }
+    }
 }
 
 /// Puts URI and headers of a plain head into a head of `http`, both or none. Method and version
@@ -106,10 +110,26 @@ pub fn commit_keyed(
 ) -> Result<(), Error>
     ensures { AnswersCommit head.now parts.old result parts.new }
 {
-    let uri = uri_of(alloc, head.uri.as_slice())?;
-    let headers = headers_of(alloc, &head.headers, keys)?;
+    let (uri, headers) = target_of(alloc, head, keys)?;
     put_target(parts, uri, headers);
     Ok(())
+}
+
+// URI and headers, before anything is put into a head.
+fn target_of(alloc: Global, head: &Head, keys: HeaderKeys) -> Result<(Uri, HeaderMap), Error>
+    ensures uri { IfOk result (λ target. Spells head.now.uri target.0) }
+    ensures headers { IfOk result (λ target. target.1 ≡ header_map head.now.headers) }
+    ensures accepted { OnOk result (¬ (RefusesTarget head.now)) }
+    ensures err { IfErr result (λ e. IsOutOfMemory e ⊎ RefusedAs (RefusesTarget head.now) e) }
+{
+    let uri = uri_of(alloc, head.uri.as_slice())?;
+    match headers_of(alloc, &head.headers, keys) {
+        Ok(headers) => Ok((uri, headers)),
+        Err(e) => {
+            drop(uri);
+            Err(e)
+        }
+    }
 }
 
 fn put_target(parts: &mut Parts, uri: Uri, headers: HeaderMap)

@@ -1,7 +1,9 @@
 //! The view of a request head for a service that signs it, with the headers that the service stages.
-ghost use Rattle.std.specs.Prelude.{◌≡◌, ◌↔◌, ◌⊎◌, IfOk, IfErr, OnOk, OnErr, IsTrue, IsSome, None, Some};
+ghost use Rattle.std.specs.Prelude.{◌≡◌, ◌↔◌, ◌⊎◌, IfOk, IfErr, OnOk, OnErr, IsTrue, IsSome, None, Some, string_bytes};
 ghost use Rattle.http_uri.specs.Uri.{uri_authority};
+ghost use Rattle.sign_request.specs.Query.{text_pairs};
 ghost use Rattle.sign_request.specs.Refusal.{IsOutOfMemory, RefusedFor, no_authority, view_modified};
+ghost use Rattle.sign_request.specs.Target.{target_scheme, target_path, target_pairs};
 
 use crate::query::same_pairs;
 use crate::refusal::refusal;
@@ -9,7 +11,7 @@ use crate::target::{TargetView, is_scheme_of, pairs_of, path_of, target_view};
 use http::Method;
 use http::header::HeaderMap;
 use http::request::Parts;
-use http::uri::{Authority, Scheme};
+use http::uri::{Authority, Scheme, Uri};
 use sign_base::{Error, NoMemory};
 use std::alloc::Global;
 use std::time::Duration;
@@ -69,11 +71,13 @@ impl SigningRequest {
         ensures err { IfErr result (λ e. IsOutOfMemory e
             ⊎ RefusedFor no_authority (uri_authority parts.uri ≡ None) e) }
     {
-        let Some(authority) = parts.uri.authority() else {
-            return Err(refusal(alloc, NO_AUTHORITY));
-        };
-        let target = target_view(alloc, &parts.uri, authority)?;
-        Ok(SigningRequest::new(parts.method, target, parts.headers))
+        match named_target(alloc, &parts.uri) {
+            Ok(target) => Ok(SigningRequest::new(parts.method, target, parts.headers)),
+            Err(e) => {
+                drop(parts);
+                Err(e)
+            }
+        }
     }
 
     fn view(
@@ -85,9 +89,13 @@ impl SigningRequest {
         ensures { IfOk result (IsViewOf parts.now) }
     {
         let target = target_view(alloc, &parts.uri, authority)?;
-        let method = parts.method.clone()?;
-        let headers = parts.headers.clone()?;
-        Ok(SigningRequest::new(method, target, headers))
+        match copies_of(parts) {
+            Ok((method, headers)) => Ok(SigningRequest::new(method, target, headers)),
+            Err(e) => {
+                drop(target);
+                Err(e)
+            }
+        }
     }
 
     fn new(method: Method, target: TargetView, headers: HeaderMap) -> SigningRequest
@@ -182,5 +190,35 @@ impl SigningRequest {
         }
         let pairs = pairs_of(*self.query.allocator(), &parts.uri)?;
         Ok(same_pairs(&self.query, &pairs))
+    }
+}
+
+// The view of a target, which has to name an authority.
+fn named_target(alloc: Global, uri: &Uri) -> Result<TargetView, Error>
+    ensures authority { IfOk result (λ view. Some view.authority ≡ uri_authority uri.now) }
+    ensures scheme { IfOk result (λ view. view.scheme ≡ target_scheme uri.now) }
+    ensures path { IfOk result (λ view. string_bytes view.path ≡ target_path uri.now) }
+    ensures query { IfOk result (λ view. text_pairs view.query.items ≡ target_pairs uri.now) }
+    ensures err { IfErr result (λ e. IsOutOfMemory e
+        ⊎ RefusedFor no_authority (uri_authority uri.now ≡ None) e) }
+{
+    let Some(authority) = uri.authority() else {
+        return Err(refusal(alloc, NO_AUTHORITY));
+    };
+    Ok(target_view(alloc, uri, authority)?)
+}
+
+// What a view copies of a head.
+fn copies_of(parts: &Parts) -> Result<(Method, HeaderMap), NoMemory<()>>
+    ensures method { IfOk result (λ copies. copies.0 ≡ parts.now.method) }
+    ensures headers { IfOk result (λ copies. copies.1 ≡ parts.now.headers) }
+{
+    let method = parts.method.clone()?;
+    match parts.headers.clone() {
+        Ok(headers) => Ok((method, headers)),
+        Err(_) => {
+            drop(method);
+            Err(NoMemory { back: () })
+        }
     }
 }

@@ -31,12 +31,40 @@ pub(crate) fn target_view(
     ensures path { IfOk result (λ view. string_bytes view.path ≡ target_path uri.now) }
     ensures query { IfOk result (λ view. text_pairs view.query.items ≡ target_pairs uri.now) }
 {
-    Ok(TargetView {
-        scheme: scheme_of(uri)?,
-        authority: authority.clone()?,
-        path: String::from_str(alloc, path_of(uri))?,
-        query: pairs_of(alloc, uri)?,
-    })
+    let (path, query) = texts_of(alloc, uri)?;
+    match names_of(uri, authority) {
+        Ok((scheme, authority)) => Ok(TargetView {
+            scheme,
+            authority,
+            path,
+            query,
+        }),
+        Err(_) => {
+            drop(path);
+            drop(query);
+            Err(NoMemory { back: () })
+        }
+    }
+}
+
+// Scheme and authority.
+fn names_of(uri: &Uri, authority: &Authority) -> Result<(Scheme, Authority), AllocError>
+    ensures scheme { IfOk result (λ names. names.0 ≡ target_scheme uri.now) }
+    ensures authority { IfOk result (λ names. names.1 ≡ authority.now) }
+{
+    let scheme = scheme_of(uri)?;
+    let authority = authority.clone()?;
+    Ok((scheme, authority))
+}
+
+// Path and pairs.
+fn texts_of(alloc: Global, uri: &Uri) -> Result<(String, Vec<(String, String)>), AllocError>
+    ensures path { IfOk result (λ texts. string_bytes texts.0 ≡ target_path uri.now) }
+    ensures query { IfOk result (λ texts. text_pairs texts.1.items ≡ target_pairs uri.now) }
+{
+    let path = String::from_str(alloc, path_of(uri))?;
+    let query = pairs_of(alloc, uri)?;
+    Ok((path, query))
 }
 
 /// The scheme, or `http`.

@@ -1,14 +1,14 @@
-use Rattle.std.proofs.Common.{◌∙◌, List, ap, subst, inl}
+use Rattle.std.proofs.Common.{◌∙◌, List, ap, subst}
 use Rattle.std.proofs.lemmas.List.{take_all}
 use Rattle.sign_base.specs.declared.head.Field.{Field}
 use Rattle.sign_request.specs.PlainHead.{header_map, RefusesFields}
 use Rattle.sign_request.proofs.Refused.{passed_on}
 use Rattle.sign_request.proofs.FieldsTaken.{header_map-next, accepted-next, refused-next}
-use Rattle.sign_request.proofs.fields.headers_of.Goals as goal
+use Rattle.sign_request.proofs.fields.append_fields.Goals as goal
 
 pub returns-in_err-append_field-clause-err : goal.returns-in_err-append_field-clause-err
 returns-in_err-append_field-clause-err c =
-    passed_on c.from_residual-in_err-append_field.result _ c.from_residual-in_err-append_field.ensures.1
+    passed_on c.from_residual.result _ c.from_residual.ensures.1
     (λ cause.
     subst (λ (fields : List Field). RefusesFields fields) c.as_slice-field-items.ensures
     (refused-next c.as_slice-field-items.result.now c.loop-field.field-index c.field-item.result c.loop-field-test.true c.field-item.is
@@ -24,11 +24,6 @@ loop-field-preserved c = record {
       accepted-next c.as_slice-field-items.result.now c.loop-field.field-index c.field-item.result c.loop-field-test.true c.field-item.is
       c.loop-field.headers c.loop-field.invariant.made c.loop-field.invariant.accepted (c.in_ok-append_field.ensures {u = tt}).accepted;
 }
-
-pub returns-in_err-headers-clause-err : goal.returns-in_err-headers-clause-err
-returns-in_err-headers-clause-err c =
-    passed_on c.from_residual.result _ c.from_residual.ensures.1 (λ (cause : RefusesFields c.args.fields.now). cause)
-    (inl (c.in_err-headers.ensures {u = tt}).err)
 
 pub returns-clause-ok : goal.returns-clause-ok
 returns-clause-ok c =

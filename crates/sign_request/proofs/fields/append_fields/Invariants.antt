@@ -1,6 +1,6 @@
 use Rattle.std.proofs.Common.{◌≡◌, take}
 use Rattle.sign_request.specs.PlainHead.{header_map, RefusesFields}
-use Rattle.sign_request.proofs.fields.headers_of.Given as goal
+use Rattle.sign_request.proofs.fields.append_fields.Given as goal
 
 -- the fields so far are in the map
 abbrev pub invariant-loop-field : goal.invariant-loop-field
