@@ -6,7 +6,7 @@ use Rattle.sign_base.specs.Lines.{line_limit}
 use Rattle.sign_base.specs.declared.close.Close.{Close}
 use Rattle.signctl_driver.specs.Command.{Command, BadLine, blamed}
 use Rattle.signctl_driver.specs.Lines.{is_too_long}
-use Rattle.signctl_driver.specs.LineOutcome.{LineOutcome, Ends, line_outcome_by, line_outcome}
+use Rattle.signctl_driver.specs.LineOutcome.{Ends, line_outcome_by, line_outcome}
 use Rattle.signctl_driver.specs.LinesRead.{too_long_line, reading_of}
 use Rattle.signctl_driver.specs.Output.{bad_line}
 use Rattle.signctl_driver.specs.declared.status.Status.{Status}
@@ -18,6 +18,11 @@ module _ {Item Cause : Type 0} (command : Command Item Cause) (line : List ℕ) 
   reading-as_read items =
       let short : is_too_long line ≡ false = grind (arith, nat_tests) in
       ap (λ (b : Bool). if b then Err (too_long_line (length items + 1)) else result_map_both (λ item. item) (blamed command (length items + 1)) (command.read items line)) short
+
+  -- so a line that the command reads as an item is good
+  pub reading-good : (items : List Item) (item : Item) → command.read items line ≡ Ok item → reading_of command items line ≡ Ok item
+  reading-good items item reads =
+      reading-as_read items ∙ ap (λ r. result_map_both (λ item. item) (blamed command (length items + 1)) r) reads
 
   module _ {E : Type 0} (Served : List Item → Type 0) (cause : Cause) (old new : List ℕ) (reads : (items : List Item) → Served items → Err cause ≡ command.read items line) where
     -- where the line that names the bad one was added, the run ends so

@@ -1,4 +1,4 @@
-use Rattle.std.proofs.Common.{◌≡◌, ◌+◌, false, List, length, ap, ◌∙◌, refl}
+use Rattle.std.proofs.Common.{◌≡◌, ◌+◌, false, length, ap, ◌∙◌}
 use Rattle.sign_base.specs.LineReader.{is_fault}
 use Rattle.sign_base.specs.Next.{answer_of}
 use Rattle.signctl_driver.specs.LineOutcome.{Good, line_outcome_by, line_outcome}
