@@ -1,8 +1,7 @@
 -- The output to all bytes taken, by what stands after the lines that were handed out.
-use Rattle.std.proofs.Common.{◌≡◌, ℕ, ◌+◌, ◌-◌, ◌<◌, ◌≤◌, inl, inr, Bool, true, false, nat_lt, List, [], ◌∷◌, ◌++◌, length, take, drop, Option, Some, Err, refl, sym, ap, ◌∙◌, subst, append_assoc, arith, length-append, IsSome}
+use Rattle.std.proofs.Common.{◌≡◌, ℕ, ◌+◌, ◌-◌, ◌<◌, ◌≤◌, inl, inr, Bool, true, false, nat_lt, List, [], ◌∷◌, ◌++◌, length, take, drop, Option, Some, Err, refl, sym, ap, ◌∙◌, subst, append_assoc, arith, length-append, IsSome, ltb-true, ltb-false}
 use Rattle.std.proofs.Math.Seq.{take-append-add}
 use Rattle.std.proofs.lemmas.List.{take_all, take-append-drop, length-take-le}
-use Rattle.std.proofs.lemmas.Bool.Decides.{nat_tests}
 use Rattle.sign_base.specs.Bytes.{newline}
 use Rattle.sign_base.specs.Lines.{input_limit, line_limit, HasNoNewline, BeginsTooLong}
 use Rattle.signctl_driver.specs.Command.{Command, BadLine, answers_to}
@@ -42,10 +41,10 @@ module _ {Item Cause : Type 0} (command : Command Item Cause) (items : List Item
     where
       by_length : (b : Bool) → nat_lt input_limit (length (bytes ++ held)) ≡ b → output command (bytes ++ held) ending ≡ answers_to command items ++ bad_line bad
       by_length true e =
-          let past : input_limit < length (bytes ++ held) = grind (arith, nat_tests) in
+          let past : input_limit < length (bytes ++ held) = ltb-true input_limit (length (bytes ++ held)) e in
           output-many command items (Some bad) (bytes ++ held) (bytes ++ seen bytes held) ending past (seen-past bytes held few) (reads Fault)
       by_length false e =
-          let within : length (bytes ++ held) ≤ input_limit = grind (arith, nat_tests) in
+          let within : length (bytes ++ held) ≤ input_limit = ltb-false input_limit (length (bytes ++ held)) e in
           output-bad command items (bytes ++ held) ending bad within (ap (λ v. lines_read command (bytes ++ v) ending) (sym (seen-within bytes held within)) ∙ reads ending)
 
   -- and is why the input is refused
@@ -54,10 +53,10 @@ module _ {Item Cause : Type 0} (command : Command Item Cause) (items : List Item
     where
       by_length : (b : Bool) → nat_lt input_limit (length (bytes ++ held)) ≡ b → IsBadInput command left (bytes ++ held)
       by_length true e =
-          let past : input_limit < length (bytes ++ held) = grind (arith, nat_tests) in
+          let past : input_limit < length (bytes ++ held) = ltb-true input_limit (length (bytes ++ held)) e in
           inr (inr past)
       by_length false e =
-          let within : length (bytes ++ held) ≤ input_limit = grind (arith, nat_tests) in
+          let within : length (bytes ++ held) ≤ input_limit = ltb-false input_limit (length (bytes ++ held)) e in
           let read : lines_read command (bytes ++ held) Fault ≡ record { items = items; bad = Some bad } = ap (λ v. lines_read command (bytes ++ v) Fault) (sym (seen-within bytes held within)) ∙ reads Fault in
           let P : LinesRead Item → Type 0 = λ s. IsSome (first_bad command Fault s) in
           inl (subst P (sym read) refl)

@@ -10,7 +10,7 @@ use Rattle.sign_base.specs.LineInput.{LineInput, NeedsRead}
 use Rattle.sign_base.specs.LineReader.{AnswersOpen, AnswersNext, is_fault}
 use Rattle.signctl_driver.specs.Command.{Command, BadLine}
 use Rattle.signctl_driver.specs.LinesRead.{reading_of}
-use Rattle.signctl_driver.specs.Status.{FinishesBy, is_read_fault}
+use Rattle.signctl_driver.specs.Status.{FinishesBy, is_read_fault, is_write_fault}
 use Rattle.signctl_driver.specs.LineOutcome.{Good, Ends, line_outcome_by, end_outcome, line_outcome}
 use Rattle.signctl_driver.specs.declared.status.Status.{Status}
 use Rattle.signctl_driver.proofs.RunState.{IsReadSoFar}
@@ -33,6 +33,23 @@ module _ {Item Cause : Type 0} (command : Command Item Cause) where
   turn-fault items (Err close.TooMuch) status closing t = ap (λ s. is_read_fault s) (sym (status-is {Item = Item} _ _ _ _ t))
   turn-fault items (Err close.End) status closing t = end-no_fault items (command.closing items) status closing t
   turn-fault items (Err close.Fault) status closing t = ap (λ s. is_read_fault s) (sym (status-is {Item = Item} _ _ _ _ t))
+
+  -- and no write has failed yet
+  end-no_write_fault : (items : List Item) (closes : Result (List ℕ) Cause) (status : Status) (closing : List ℕ) → end_outcome command items closes ≡ Ends status closing → is_write_fault status ≡ false
+  end-no_write_fault items (Ok text) status closing t = ap (λ s. is_write_fault s) (sym (status-is {Item = Item} _ _ _ _ t))
+  end-no_write_fault items (Err cause) status closing t = ap (λ s. is_write_fault s) (sym (status-is {Item = Item} _ _ _ _ t))
+
+  pub turn-no_write_fault : (items : List Item) (answer : Result (List ℕ) Close) (status : Status) (closing : List ℕ) → line_outcome command items answer ≡ Ends status closing → is_write_fault status ≡ false
+  turn-no_write_fault items (Ok line) status closing t = by_reading (reading_of command items line) t
+    where
+      by_reading : (r : Result Item BadLine) → line_outcome_by r ≡ Ends status closing → is_write_fault status ≡ false
+      by_reading (Ok x) e = absurd (cc)
+      by_reading (Err bad) e = ap (λ s. is_write_fault s) (sym (status-is {Item = Item} _ _ _ _ e))
+  turn-no_write_fault items (Err close.TooLong) status closing t = ap (λ s. is_write_fault s) (sym (status-is {Item = Item} _ _ _ _ t))
+  turn-no_write_fault items (Err close.TooMuch) status closing t = ap (λ s. is_write_fault s) (sym (status-is {Item = Item} _ _ _ _ t))
+  turn-no_write_fault items (Err close.End) status closing t =
+      end-no_write_fault items (command.closing items) status closing t
+  turn-no_write_fault items (Err close.Fault) status closing t = ap (λ s. is_write_fault s) (sym (status-is {Item = Item} _ _ _ _ t))
 
   -- after a good line no read has failed
   pub good-no_fault : (items : List Item) (answer : Result (List ℕ) Close) (x : Item) → line_outcome command items answer ≡ Good x → is_fault answer ≡ false

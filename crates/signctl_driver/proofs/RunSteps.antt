@@ -1,10 +1,10 @@
 -- A run takes a line more, or ends.
-use Rattle.std.proofs.Common.{◌≡◌, ℕ, ◌+◌, ◌-◌, ◌≤◌, inl, inr, List, [], ◌∷◌, ◌++◌, length, take, Option, Some, None, true, false, Result, Ok, Err, is_err, OnOk, OnErr, MatchOption, refl, sym, ap, ◌∙◌, subst, append_assoc, append-nil, arith, length-append}
+use Rattle.std.proofs.Common.{◌≡◌, ℕ, ◌+◌, ◌-◌, ◌<◌, ◌≤◌, inl, inr, List, [], ◌∷◌, ◌++◌, length, take, Option, Some, None, true, false, Result, Ok, Err, is_err, OnOk, OnErr, IfOk, MatchOption, refl, sym, ap, ◌∙◌, subst, append_assoc, append-nil, arith, length-append}
 use Rattle.std.specs.Io.{StartsWith}
 use Rattle.std.specs.Io.KnownBytes.{Appends, Consumes}
 use Rattle.std.proofs.KnownBytes.{Appends-nil, Appends-trans, Consumes-nil, Consumes-trans}
 use Rattle.sign_base.specs.Bytes.{newline}
-use Rattle.sign_base.specs.Lines.{input_limit, HasNoNewline, IsLine, BeginsTooLong}
+use Rattle.sign_base.specs.Lines.{line_limit, input_limit, HasNoNewline, IsLine, BeginsTooLong}
 use Rattle.sign_base.specs.declared.close.Close.{Close}
 use Rattle.sign_base.specs.declared.close.Close.TheVariants as close
 use Rattle.sign_base.specs.LineInput.{LineInput, taken, with_taken, looked_at, NeedsRead, IsWithinLimit}
@@ -135,6 +135,10 @@ module _ {C Item Cause : Type 0} (command : Command Item Cause) (represents : C 
             let few : length state.bytes ≤ input_limit = omega (arith, state.handed, state.within) in
             let P : List ℕ → Type 0 = λ v. StartsWith (output command v End) (answers_to command state.items) in
             inr (over.1, subst P (sym all) (starts-append _ (answers_to command state.items) (closing_by command state.items (command.closing state.items)) (output-good command state.items state.bytes End few over.3)))
+
+    -- there are not too many lines
+    pub items-few : length state.items ≤ input_limit
+    items-few = omega (arith, state.few, state.within)
 
     -- a write of the answers that wait has failed
     pub stops-writing : {E : Type 0} (now : Option (List ℕ)) (result : Result (Unit {0}) E) → is_err result ≡ true → OnErr result (AppendsPrefix sink.now now service.text.items) → RunEnds command (record { before = before; now = left }) (record { before = sink.before; now = now }) WriteFault
@@ -290,6 +294,55 @@ module _ {C Item Cause : Type 0} (command : Command Item Cause) (represents : C 
             let h : (answer ≡ Err close.End) × (new ≡ input) = subst P over.0 answers in
             let t : end_outcome command state.items (command.closing state.items) ≡ Good item = sym (ap (λ a. line_outcome command state.items a) h.0) ∙ turn in
             absurd (end-no_line command state.items (command.closing state.items) item t)
+
+  -- a reader that hands out a line is open
+  opened : (line : List ℕ) (new : LineInput) → AnswersNext input left next (Ok line) new → AnswersOpen input left next (Ok line) new
+  opened line new answers = by_read state.read
+    where
+      P : Option Close → Type 0
+      P o = MatchOption o (AnswersOpen input left next (Ok line) new) (λ close. (Ok line ≡ Err close) × (new ≡ input))
+
+      by_read : IsReadSoFar command left state.items state.bytes input → AnswersOpen input left next (Ok line) new
+      by_read (inl runs) = subst P runs.0 answers
+      by_read (inr over) =
+          let h : (Ok line ≡ Err close.End) × (new ≡ input) = subst P over.0 answers in
+          let e : Ok line ≡ Err close.End = h.0 in
+          absurd (cc)
+
+  -- it is not too long, and there are not too many before it
+  pub line-fits : (answer : Result (List ℕ) Close) (new : LineInput) → AnswersNext input left next answer new → IfOk answer (λ line. (length line ≤ line_limit) × (service.lines < input_limit))
+  line-fits (Err close) new answers = tt
+  line-fits (Ok line) new answers = by_gives (opened line new answers)
+    where
+      by : (h : AnswersOpen input left next (Ok line) new) → Answers (with_taken input h.0) next (Ok line) new → (length line ≤ line_limit) × (service.lines < input_limit)
+      by h (inl gives) = (gives.0.1, omega (arith, state.served.count, state.few, gives.2, gives.3))
+      by h (inr gives) =
+          let size : length (input.held ++ h.0) ≡ length line = ap (λ (v : List ℕ). length v) gives.3 in (
+            omega (arith, gives.0.2.1, size),
+            omega (arith, state.served.count, state.few, gives.0.1, gives.2, size),
+          )
+
+      by_gives : AnswersOpen input left next (Ok line) new → (length line ≤ line_limit) × (service.lines < input_limit)
+      by_gives h = by h h.3
+
+  -- a good line hands out a byte more, and no more than the limit
+  pub line-hands_out : (item : Item) (answer : Result (List ℕ) Close) (new : LineInput) → AnswersNext input left next answer new → line_outcome command state.items answer ≡ Good item → input_limit - new.handed < input_limit - input.handed
+  line-hands_out item (Ok line) new answers turn = by_gives (opened line new answers)
+    where
+      by : (h : AnswersOpen input left next (Ok line) new) → Answers (with_taken input h.0) next (Ok line) new → input_limit - new.handed < input_limit - input.handed
+      by h (inl gives) = omega (arith, gives.2, gives.3)
+      by h (inr gives) =
+          let size : length (input.held ++ h.0) ≡ length line = ap (λ (v : List ℕ). length v) gives.3 in
+          let more : new.handed ≡ input.handed + length line = ap (λ (i : LineInput). i.handed) gives.4 in
+          omega (arith, more, size, gives.0.1, gives.2)
+
+      by_gives : AnswersOpen input left next (Ok line) new → input_limit - new.handed < input_limit - input.handed
+      by_gives h = by h h.3
+  line-hands_out item (Err close.TooLong) new answers turn = absurd (cc)
+  line-hands_out item (Err close.TooMuch) new answers turn = absurd (cc)
+  line-hands_out item (Err close.End) new answers turn =
+      absurd (end-no_line command state.items (command.closing state.items) item turn)
+  line-hands_out item (Err close.Fault) new answers turn = absurd (cc)
 
   -- the run ends at this answer
   pub ends-after : (answer : Result (List ℕ) Close) (new : LineInput) (status : Status) (closing : List ℕ) → AnswersNext input left next answer new → ((NeedsRead input → ⊥) → next ≡ left) → line_outcome command state.items answer ≡ Ends status closing → (all : List ℕ) × HasTaken (record { before = before; now = next }) all × EndsWith command next status all (answers_to command state.items ++ closing)

@@ -34,16 +34,17 @@ pub fn head_line(alloc: Global, line: &[u8]) -> Result<Head, ReadError>
     head_with(alloc, method, rest)
 }
 
-/// The head that a first word and those after it spell.
+/// The head that a first word and those after it spell. Words that need no memory are read first,
+/// while there is nothing to drop.
 #[tactic(auto, unfolding(crate::specs::Reading::head_in))]
 fn head_with(alloc: Global, method: &[u8], rest: &[u8]) -> Result<Head, ReadError>
     ensures { Gives (λ h. h) result (head_in (method.now ∷ words_after rest.now)) }
 {
-    let method = target(alloc, method)?;
-    let (word, rest) = word_at(rest)?;
-    let uri = target(alloc, word)?;
+    let (uri, rest) = word_at(rest)?;
     let (word, rest) = word_at(rest)?;
     let version = version(word)?;
+    let method = target(alloc, method)?;
+    let uri = target(alloc, uri)?;
     let headers = fields(alloc, rest)?;
     Ok(Head {
         method,

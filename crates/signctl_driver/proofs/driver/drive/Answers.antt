@@ -2,8 +2,8 @@ use Rattle.std.proofs.Common.{inl, ◌≡◌, true, [], refl, sym, ap, ◌∙◌
 use Rattle.std.proofs.KnownBytes.{Appends-nil, Consumes-nil}
 use Rattle.sign_base.specs.LineReader.{is_fault}
 use Rattle.sign_base.specs.Next.{answer_of}
-use Rattle.signctl_driver.proofs.RunSteps.{state-first, state-wrote, stops-writing, stops-taking, state-line, ends-after, finishes}
-use Rattle.signctl_driver.proofs.RunFaults.{good-no_fault, turn-fault, turn-nothing, needs-fault, counts-answer, counts-same, counts-none, finish-fault, nothing-waits, where-ok}
+use Rattle.signctl_driver.proofs.RunSteps.{state-first, state-wrote, stops-writing, stops-taking, state-line, items-few, line-fits, line-hands_out, ends-after, finishes}
+use Rattle.signctl_driver.proofs.RunFaults.{good-no_fault, turn-no_write_fault, turn-fault, turn-nothing, needs-fault, counts-answer, counts-same, counts-none, finish-fault, nothing-waits, where-ok}
 use Rattle.signctl_driver.proofs.driver.drive.Goals as goal
 
 pub returns-in-Err-clause-bytes : goal.returns-in-Err-clause-bytes
@@ -66,3 +66,43 @@ returns-in-Ok-Some-clause-reads g c =
     let waiting = where-ok _ c.write_out.result (sym c.if-is_err.ensures.value) c.write_out.ensures.now (c.needs_read.ensures.1 needed) in
     c.finish.ensures.nothing (nothing-waits _ turn.0 _ turn.2 waiting (turn-nothing g.C.LineCommand.command state.items _ _ turn.0 turn.1 failed)) in
     counts-same _ _ _ _ _ counts (finish-fault _ _ _ _ _ _ fault c.finish.ensures.written nothing) c.lines.invariant.reads
+
+-- a line is asked for only where one more fits
+pub take-requires-clause-served : goal.take-requires-clause-served
+take-requires-clause-served g c =
+    let state = state-wrote _ _ _ _ _ _ _ _ _ c.write_out.result c.lines.invariant.state (sym c.if-is_err.ensures.value) c.write_out.ensures.ok c.write_out.ensures.same in
+    (state.items, state.served, items-few _ _ _ _ _ _ _ state)
+
+pub take-requires-clause-line : goal.take-requires-clause-line
+take-requires-clause-line g c =
+    let state = state-wrote _ _ _ _ _ _ _ _ _ c.write_out.result c.lines.invariant.state (sym c.if-is_err.ensures.value) c.write_out.ensures.ok c.write_out.ensures.same in
+    line-fits _ _ _ _ _ _ _ state _ _ _ c.next.follows.holds-at-none
+
+pub lines-smaller : goal.lines-smaller
+lines-smaller g c =
+    let state = state-wrote _ _ _ _ _ _ _ _ _ c.write_out.result c.lines.invariant.state (sym c.if-is_err.ensures.value) c.write_out.ensures.ok c.write_out.ensures.same in
+    let turn = (rw c.in-Ok-None.field-0-is at c.in-Ok-None.ensures.goes_on) refl state.items state.served in
+    line-hands_out _ _ _ _ _ _ _ state _ turn.0 _ _ c.next.follows.holds-at-none turn.1
+
+pub finish-requires : goal.finish-requires
+finish-requires g c =
+    let state = c.lines.invariant.state in
+    let served = state-wrote _ _ _ _ _ _ _ _ _ c.write_out.result state (sym c.if-is_err.ensures.value) c.write_out.ensures.ok c.write_out.ensures.same in
+    let turn = rw c.in-Ok-Some.field-0-is at c.in-Ok-Some.ensures.ends served.items served.served in
+    turn-no_write_fault g.C.LineCommand.command served.items (answer_of c.next.result) _ turn.0 turn.1
+
+-- the faults of the sink
+pub returns-then-is_err-clause-reads : goal.returns-then-is_err-clause-reads
+returns-then-is_err-clause-reads g c = c.lines.invariant.reads
+
+pub returns-then-is_err-clause-writes : goal.returns-then-is_err-clause-writes
+returns-then-is_err-clause-writes g c =
+    counts-same _ true _ _ _ c.write_out.ensures.faults c.if-is_err.ensures.value c.lines.invariant.writes
+
+pub returns-in-Err-take-clause-writes : goal.returns-in-Err-take-clause-writes
+returns-in-Err-take-clause-writes g c =
+    counts-none _ _ _ c.write_out.ensures.faults (λ e. c.if-is_err.ensures.value ∙ e) ∙ c.lines.invariant.writes
+
+pub returns-in-Ok-Some-clause-writes : goal.returns-in-Ok-Some-clause-writes
+returns-in-Ok-Some-clause-writes g c =
+    counts-same _ _ _ _ _ c.finish.ensures.faults refl (counts-none _ _ _ c.write_out.ensures.faults (λ e. c.if-is_err.ensures.value ∙ e) ∙ c.lines.invariant.writes)

@@ -1,5 +1,5 @@
-use Rattle.std.proofs.Common.{◌≡◌, ◌++◌, ℕ, List, take, drop, sym, ap, ◌∙◌, append_assoc}
-use Rattle.std.proofs.KnownBytes.{Appends-trans}
+use Rattle.std.proofs.Common.{◌≡◌, ◌++◌, ℕ, List, [], take, drop, refl, sym, ap, ◌∙◌, append_assoc, arith}
+use Rattle.std.proofs.KnownBytes.{Appends-nil, Appends-trans}
 use Rattle.std.proofs.lemmas.List.{take-append-drop}
 use Rattle.signctl_driver.proofs.output.write_all.Goals as goal
 
@@ -21,3 +21,18 @@ loop-rest-preserved g c =
       );
       faults = c.in_ok-n.ensures.faults ∙ c.loop-rest.invariant.faults;
     }
+
+pub loop-rest-init : goal.loop-rest-init
+loop-rest-init g c = record {
+  written = ([], refl, Appends-nil _);
+  faults = refl;
+}
+
+pub loop-rest-smaller : goal.loop-rest-smaller
+loop-rest-smaller g c = omega (arith, c.split_at.ensures.back_len, c.in_ok-n.ensures.some, c.in_ok-n.ensures.bound)
+
+pub split_at-requires : goal.split_at-requires
+split_at-requires g c = c.in_ok-n.ensures.bound
+
+pub returns-clause-faults : goal.returns-clause-faults
+returns-clause-faults g c = c.loop-rest.invariant.faults
