@@ -91,8 +91,13 @@ fn append_field(alloc: Global, headers: &mut HeaderMap, field: &Field) -> Result
         ⊎ RefusedAs (RefusesField headers.old field.now) e) }
 {
     let name = name_of(alloc, field.name.as_slice())?;
-    let value = value_of(alloc, field.value.as_slice())?;
-    append_to(alloc, headers, name, value)
+    match value_of(alloc, field.value.as_slice()) {
+        Ok(value) => append_to(alloc, headers, name, value),
+        Err(e) => {
+            drop(name);
+            Err(e)
+        }
+    }
 }
 
 fn append_to(
