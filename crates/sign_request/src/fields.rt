@@ -25,11 +25,7 @@ pub(crate) fn fields_of(alloc: Global, headers: &HeaderMap) -> Result<Fields, No
     Ok(Fields::from_vec(fields))
 }
 
-fn field_of(
-    alloc: Global,
-    name: &HeaderName,
-    value: &HeaderValue,
-) -> Result<Field, NoMemory<()>>
+fn field_of(alloc: Global, name: &HeaderName, value: &HeaderValue) -> Result<Field, NoMemory<()>>
     ensures { IfOk result (λ field. field_pair field ≡ header_pair (name.now, value.now)) }
 {
     Ok(Field {
