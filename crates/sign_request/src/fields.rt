@@ -25,11 +25,7 @@ pub(crate) fn fields_of(alloc: Global, headers: &HeaderMap) -> Result<Fields, No
     Ok(Fields::from_vec(fields))
 }
 
-fn field_of(
-    alloc: Global,
-    name: &HeaderName,
-    value: &HeaderValue,
-) -> Result<Field, NoMemory<()>>
+fn field_of(alloc: Global, name: &HeaderName, value: &HeaderValue) -> Result<Field, NoMemory<()>>
     ensures { IfOk result (λ field. field_pair field ≡ header_pair (name.now, value.now)) }
 {
     Ok(Field {
@@ -91,8 +87,13 @@ fn append_field(alloc: Global, headers: &mut HeaderMap, field: &Field) -> Result
         ⊎ RefusedAs (RefusesField headers.old field.now) e) }
 {
     let name = name_of(alloc, field.name.as_slice())?;
-    let value = value_of(alloc, field.value.as_slice())?;
-    append_to(alloc, headers, name, value)
+    match value_of(alloc, field.value.as_slice()) {
+        Ok(value) => append_to(alloc, headers, name, value),
+        Err(e) => {
+            drop(name);
+            Err(e)
+        }
+    }
 }
 
 fn append_to(

@@ -1,6 +1,7 @@
 //! Reading a query into pairs, for a view and for the test that it still fits its head.
 ghost use Rattle.std.specs.Prelude.{◌≡◌, ◌↔◌, IfOk, IsTrue};
-ghost use Rattle.sign_request.specs.Query.{read_pair, query_pairs, text_pair, text_pairs};
+ghost use Rattle.std.specs.List.{before_first, after_first};
+ghost use Rattle.sign_request.specs.Query.{is_equals_sign, read_pair, query_pairs, text_pair, text_pairs};
 
 use crate::decode::decode;
 use std::alloc::{AllocError, Global};
@@ -29,8 +30,15 @@ pub(crate) fn same_pairs(pairs: &Vec<(String, String)>, others: &Vec<(String, St
 fn read_pair(alloc: Global, piece: &str) -> Result<(String, String), AllocError>
     ensures { IfOk result (λ pair. text_pair pair ≡ read_pair piece.now) }
 {
-    let (key, value) = piece.split_once('=').unwrap_or((piece, ""));
+    let (key, value) = key_and_value(piece);
     let key = decode(alloc, key)?.into_owned(alloc)?;
     let value = decode(alloc, value)?.into_owned(alloc)?;
     Ok((key, value))
+}
+
+fn key_and_value(piece: &str) -> (&str, &str)
+    ensures key { result.0.now ≡ before_first is_equals_sign piece.now }
+    ensures value { result.1.now ≡ after_first is_equals_sign piece.now }
+{
+    piece.split_once('=').unwrap_or((piece, ""))
 }
