@@ -89,6 +89,28 @@ read_more (suc places) (digit ∷ others) n some long is e =
     let all : suc (length others) - 1 ≡ length others = omega arith in
     rw back (behind places digit others n is (ap (fraction_of places) (sym (take-length others)) ∙ rw (back, all) at e))
 
+-- nothing, where the others spell nothing
+behind_none : (places digit : ℕ) (others : List ℕ) → 0 < length others → is_digit digit ≡ true → fraction_of places others ≡ None → fraction_of (suc places) (digit ∷ others) ≡ None
+unfolding fraction_of
+behind_none places digit [] some is e = absurd (omega arith)
+behind_none places digit (next ∷ others) some is e = rw (is, e) refl
+
+pub read_more_none : (places : ℕ) (word : List ℕ) → 0 < places → 1 ≤ length word → is_digit (get_or word 0 0) ≡ true → 0 < length (take (length word - 1) (drop 1 word)) → fraction_of (places - 1) (take (length word - 1) (drop 1 word)) ≡ None → fraction_of places word ≡ None
+read_more_none zero word some long is more e = absurd (omega (arith, some))
+read_more_none places [] some long is more e = absurd (omega (arith, long))
+read_more_none (suc places) (digit ∷ others) some long is more e =
+    let back : suc places - 1 ≡ places = omega arith in
+    let all : suc (length others) - 1 ≡ length others = omega arith in
+    let whole : take (length others) others ≡ others = take-length others in
+    behind_none places digit others (omega (arith, ap length whole, rw all at more)) is (ap (fraction_of places) (sym whole) ∙ rw (back, all) at e)
+
+-- what a digit counts, and what those after it do, is below its place
+pub place_below : (places here rest : ℕ) → 0 < places → here + 10 ^ (places - 1) ≤ 10 ^ (places - 1 + 1) → rest < 10 ^ (places - 1) → here + rest < 10 ^ places
+place_below places here rest some fits below =
+    let back : places - 1 + 1 ≡ places = omega arith in
+    let power : 10 ^ (places - 1 + 1) ≡ 10 ^ places = ap (λ n. 10 ^ n) back in
+    omega (arith, fits, below, power)
+
 -- a last digit that is zero
 pub read_none : (places : ℕ) (word : List ℕ) → 0 < places → 1 ≤ length word → is_digit (get_or word 0 0) ≡ true → length (take (length word - 1) (drop 1 word)) ≤ 0 → (get_or word 0 0 - zero_digit) * 10 ^ (places - 1) ≤ 0 → fraction_of places word ≡ None
 unfolding fraction_of

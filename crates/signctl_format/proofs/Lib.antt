@@ -19,3 +19,5 @@ pub mod Texts
 pub mod ShortTexts
 pub mod Escaped
 pub mod SetupIn
+pub mod Failures
+pub mod NextBytes

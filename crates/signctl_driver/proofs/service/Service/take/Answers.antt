@@ -1,4 +1,4 @@
-use Rattle.std.proofs.Common.{◌≡◌, ◌+◌, false, length, ap, ◌∙◌}
+use Rattle.std.proofs.Common.{◌≡◌, ◌+◌, false, length, ap, ◌∙◌, [], sym, append-nil}
 use Rattle.sign_base.specs.LineReader.{is_fault}
 use Rattle.sign_base.specs.Next.{answer_of}
 use Rattle.signctl_driver.specs.LineOutcome.{Good, line_outcome_by, line_outcome}
@@ -30,3 +30,10 @@ pub returns-in-TooLong-clause-ends : goal.returns-in-TooLong-clause-ends
 returns-in-TooLong-clause-ends g c =
     let command = g.C.LineCommand.command in
     refused-ends command _ (answer_of c.args.next) _ _ (λ items. too_long_line (length items + 1)) c.refuse_too_long.result (λ items. ap (λ n. line_outcome command items (answer_of n)) c.in-TooLong.is) c.refuse_too_long.ensures
+
+pub returns-in-Fault-clause-ends : goal.returns-in-Fault-clause-ends
+returns-in-Fault-clause-ends g c = λ items served.
+    ([], ap (λ n. line_outcome g.C.LineCommand.command items (answer_of n)) c.in-Fault.is, sym (append-nil _))
+
+pub returns-in-Err-clause-goes_on : goal.returns-in-Err-clause-goes_on
+returns-in-Err-clause-goes_on g c = λ is items served. absurd (refused-stops _ c.refuse.result c.refuse.ensures is)
