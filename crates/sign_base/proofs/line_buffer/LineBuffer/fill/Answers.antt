@@ -1,5 +1,5 @@
-use Rattle.std.proofs.Common.{◌≡◌, refl, ap, ◌∙◌}
-use Rattle.sign_base.specs.LineInput.{with_taken, NeedsRead}
+use Rattle.std.proofs.Common.{◌≡◌, refl, ap, ◌∙◌, arith, length-append}
+use Rattle.sign_base.specs.LineInput.{taken, with_taken, NeedsRead}
 use Rattle.sign_base.proofs.TakingLemmas.{needed-first, takes-more, fills-at-end, fills-failed}
 use Rattle.sign_base.proofs.line_buffer.LineBuffer.fill.Goals as goal
 
@@ -37,3 +37,31 @@ pub returns-in-Err-clause-still : goal.returns-in-Err-clause-still
 returns-in-Err-clause-still g c =
     let needs : NeedsRead c.loop-self.self.input = c.loop-self-test.ensures.0 refl in
     λ ready. absurd (ready (needed-first _ _ _ _ c.loop-self.invariant.taken needs))
+
+pub returns-in-Ok-eq0-clause-still : goal.returns-in-Ok-eq0-clause-still
+returns-in-Ok-eq0-clause-still g c =
+    let needs : NeedsRead c.loop-self.self.input = c.loop-self-test.ensures.0 refl in
+    λ ready. absurd (ready (needed-first _ _ _ _ c.loop-self.invariant.taken needs))
+
+pub loop-self-smaller : goal.loop-self-smaller
+loop-self-smaller g c =
+    let now = c.loop-self.self.input in
+    let needs : NeedsRead now = c.loop-self-test.ensures.0 refl in
+    let piece = c.in-Ok.ensures.piece in
+    let new_is : c.read.new.self.input ≡ with_taken now piece.0 = c.in-Ok.ensures.same ∙ ap (λ held. record now { held = held }) piece.1 in
+    omega (arith, needs.1, ap taken new_is, length-append now.held piece.0, piece.2, c.in-Ok.field-0-test.1)
+
+pub read-requires : goal.read-requires
+read-requires g c = c.loop-self-test.ensures.0 refl
+
+pub returns-in-Ok-eq0-clause-faults : goal.returns-in-Ok-eq0-clause-faults
+returns-in-Ok-eq0-clause-faults g c = c.in-Ok-eq0.ensures.faults ∙ c.loop-self.invariant.faults
+
+pub returns-in-Err-clause-faults : goal.returns-in-Err-clause-faults
+returns-in-Err-clause-faults g c = rw (← c.loop-self.invariant.faults) c.in-Err.ensures.faults
+
+pub returns-clause-faults : goal.returns-clause-faults
+returns-clause-faults g c = c.loop-self.invariant.faults
+
+pub returns-clause-still : goal.returns-clause-still
+returns-clause-still g c = c.loop-self.invariant.still
