@@ -76,7 +76,7 @@ item_form form words = do
   asked ← asked_at form moment.1
   head ← head_in asked.1
   Some
-  (record { credential = credential.0; scope = scope.0; moment = moment.0; asked = asked.0; head = head })
+      (record { credential = credential.0; scope = scope.0; moment = moment.0; asked = asked.0; head = head })
 
 -- the item that the words of a line spell
 unfoldable pub sigv4_words_say : List (List ℕ) → Option Sigv4Item
