@@ -26,8 +26,7 @@ impl<K: SigningCredential, D: DeadlineRule<Credential = K>> GrantTables<K, D> {
     pub fn provided(&mut self, call: CallId, now: Timestamp, answer: &Answer<K>) -> GrantReply<K>
         requires { GrantPrecondition self.old }
         ensures done { GrantTransition (policy_of K.valid K.valid_at D.deadline)
-            (Provided call now answer.now)
-            self.old result self.new }
+            (Provided call now answer.now) self.old result self.new }
         ensures memory { ClonesAreFree K.clones_freely → result ≢ OutOfMemory }
     {
         let Some(view) = self.find(call) else {

@@ -293,10 +293,11 @@ where
     pub fn poll(&mut self, grant: Grant<P, G>, now: Timestamp) -> GrantPoll<P, G>
         requires { IsGrantIssuedBy (meanings_of P.ProvideCredential G.GrantCredential.own) self.old grant }
         ensures poll { (o : Objects P G P.Ctx) → objects_of self.old grant.begun.id.handle ≡ Some o
-            → IsGrantPoll (polled_call
-                (policy_of P.Credential.valid P.Credential.valid_at G.deadline) P.Credential.clones_freely
-            (meanings_of P.ProvideCredential G.GrantCredential.own) o grant.begun now) grant.state
-            self.old.desk self.new.desk result }
+            → IsGrantPoll
+                (polled_call (policy_of P.Credential.valid P.Credential.valid_at G.deadline)
+                    P.Credential.clones_freely (meanings_of P.ProvideCredential G.GrantCredential.own)
+                    o grant.begun now)
+                grant.state self.old.desk self.new.desk result }
         ensures issued { IsAnswerIssuedBy
             (meanings_of P.ProvideCredential G.GrantCredential.own) self.new grant.begun.id result }
         ensures same { self.new ≡ record self.old { desk = self.new.desk } }

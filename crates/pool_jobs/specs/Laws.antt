@@ -61,6 +61,5 @@ PromptCallsAreSigned {K} {D} policy gate =
 abbrev pub EveryPoolCallIsSigned : Type 0
 EveryPoolCallIsSigned =
     (workers jobs : ℕ) (journal : List (Entry ScriptCredential))
-    (passes : List (List (Receipt ScriptCredential)))
-    (served : List Served)
+    (passes : List (List (Receipt ScriptCredential))) (served : List Served)
     → 0 < workers → IsPoolRun pool_meaning workers jobs journal passes served → SignsAll jobs journal served

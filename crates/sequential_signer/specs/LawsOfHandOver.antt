@@ -90,12 +90,12 @@ begins_load loader _ = false
 abbrev pub LoadsExactlyWhereTheLookFails : Type 0 → Type 0 → Type 0
 LoadsExactlyWhereTheLookFails K D =
     (policy : Policy K D) (setup : Setup D) (entries : List (Entry K)) (call : CallId) (now : ℤ)
-    (reply : Reply K)
-    (i : ℕ) (loader : Loader) (rule : D) (begin : BeginInput)
+    (reply : Reply K) (i : ℕ) (loader : Loader) (rule : D) (begin : BeginInput)
     → IsLegal policy setup (entries ++ record { event = Poll call now; reply = reply } ∷ [])
     → cache_of setup call ≡ Some i → slice_get setup.loaders i ≡ Some loader → rule_of setup call ≡ Some rule
     → begin_of (committed_entries entries) call ≡ Some begin
     → IsTrue (is_waiting (phase_of (committed_entries entries) call))
     → IsTrue (has_turn setup (committed_entries entries) i call)
-    → begins_load loader reply ≡ is_none (cache_lookup policy
-        (sequential_cache policy setup (committed_entries entries) i) rule begin.duration now)
+    → begins_load loader reply ≡ is_none
+        (cache_lookup policy (sequential_cache policy setup (committed_entries entries) i) rule
+            begin.duration now)

@@ -114,8 +114,7 @@ impl<K: SigningCredential, D: DeadlineRule<Credential = K>> Audit<K, D> {
         ensures expected { (entries : List (Entry K))
             → AuditRepresents (policy_of K.valid K.valid_at D.deadline) self.now entries
             → IsLegalEntry (policy_of K.valid K.valid_at D.deadline) (setup_of self.now.desk)
-                (committed_entries entries)
-            (record { event = event.now; reply = result }) }
+                (committed_entries entries) (record { event = event.now; reply = result }) }
         ensures kind { IsTrue (is_reply_to event.now result) }
     {
         self.desk.preview(event)

@@ -300,8 +300,7 @@ impl<K: SigningCredential, D: DeadlineRule<Credential = K>> Desk<K, D> {
         ensures expected { (entries : List (Entry K))
             → Represents (policy_of K.valid K.valid_at D.deadline) self.now entries
             → IsLegalEntry (policy_of K.valid K.valid_at D.deadline) (setup_of self.now)
-                (committed_entries entries)
-            (record { event = event.now; reply = result }) }
+                (committed_entries entries) (record { event = event.now; reply = result }) }
         ensures causes { IsCaused
             (cause_of (policy_of K.valid K.valid_at D.deadline) self.now event.now) result }
         ensures kind { IsTrue (is_reply_to event.now result) }

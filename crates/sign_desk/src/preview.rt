@@ -71,7 +71,8 @@ impl<K: SigningCredential, D: DeadlineRule<Credential = K>> State<K, D> {
         requires { IsPlaced self.now view }
         ensures done { Previews
             (first_poll_action self.now view (is_held_line (line_at view.cache self.now.queues))
-            (desk_lookup (policy_of K.valid K.valid_at D.deadline) self.now now view)) result }
+                (desk_lookup (policy_of K.valid K.valid_at D.deadline) self.now now view))
+            result }
         ensures memory { ClonesAreFree K.clones_freely → result ≢ OutOfMemory }
     {
         if self.tables.is_held(view.cache) {
@@ -93,7 +94,8 @@ impl<K: SigningCredential, D: DeadlineRule<Credential = K>> State<K, D> {
         requires { IsPlaced self.now view }
         ensures done { Previews
             (later_poll_action self.now view (is_first view.call (line_at view.cache self.now.queues))
-            (desk_lookup (policy_of K.valid K.valid_at D.deadline) self.now now view)) result }
+                (desk_lookup (policy_of K.valid K.valid_at D.deadline) self.now now view))
+            result }
         ensures memory { ClonesAreFree K.clones_freely → result ≢ OutOfMemory }
     {
         if !self.tables.is_held_by(view.cache, view.call) {

@@ -131,8 +131,8 @@ impl<K: SigningCredential, D: DeadlineRule<Credential = K>> State<K, D> {
     pub(crate) fn accept_with(&mut self, call: CallId, uri: Octets, headers: Fields) -> Reply<K>
         requires { IsSome (find_call call self.old.calls) }
         ensures done { (candidate : Head) → candidate.uri ≡ uri → candidate.headers ≡ headers
-            → Performs
-                (accept_action self.old candidate (find_call call self.old.calls)) call self.old result self.new }
+            → Performs (accept_action self.old candidate (find_call call self.old.calls))
+                call self.old result self.new }
         ensures memory { result ≢ OutOfMemory }
     {
         let live = self.tables.take_record(call).unwrap();

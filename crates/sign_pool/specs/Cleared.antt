@@ -25,8 +25,8 @@ tickets_of jobs = map (λ job. job.ticket) jobs
 abbrev pub answered_tickets : List Answer → List Ticket
 answered_tickets answers = map (λ answer. answer.ticket) answers
 
--- where the event begins the answer's call, a submitted job with the answer's ticket has its head and
--- duration
+-- where the event begins the answer's call, a submitted job with the answer's
+-- ticket has its head and duration
 abbrev pub IsBegunAs : {K : Type 0} → List PoolJob → Answer → Event K → Type 0
 IsBegunAs submitted answer (Begin call head expires_in) =
     call ≡ answer.call

@@ -21,8 +21,8 @@ use Rattle.sign_pool.specs.declared.job.PoolJob.{PoolJob}
 -- the receipt has this head, which is the sequential signer's after the entries before it; and there the
 -- answer's call was begun with the head and the duration of the submitted job with the answer's ticket
 pub record IsSignedAsSubmitted {K D : Type 0} (policy : Policy K D) (setup : Setup D)
-    (journal : List (Entry K)) (submitted : List PoolJob)
-    (answer : Answer) (receipt : Receipt K) (head : Head) : Type 0 where
+    (journal : List (Entry K)) (submitted : List PoolJob) (answer : Answer) (receipt : Receipt K)
+    (head : Head) : Type 0 where
   pub replied : receipt.entry.reply ≡ reply.Done head
   pub expected : expected_reply policy setup
       (committed_entries (take receipt.place journal)) receipt.entry.event ≡ reply.Done head
@@ -36,8 +36,7 @@ pub record IsSignedAsSubmitted {K D : Type 0} (policy : Policy K D) (setup : Set
 abbrev pub DoneHeadsAreExpected : Type 0 → Type 0 → Type 0
 DoneHeadsAreExpected K D =
     (policy : Policy K D) (setup : Setup D) (journal : List (Entry K)) (pass : List (Receipt K))
-    (answers : List Answer)
-    (left submitted : List PoolJob) (answer : Answer)
+    (answers : List Answer) (left submitted : List PoolJob) (answer : Answer)
     → IsLegal policy setup journal → IsCleared journal answers left submitted → Contains answers answer
     → IsTrueAnswer journal pass answer → answer.outcome ≡ Done
     → (receipt : Receipt K) × (head : Head) × Contains pass receipt

@@ -1,5 +1,5 @@
--- The pieces of a request target as tests: which bytes `http` takes for a scheme, an authority, a path and
--- query.
+-- The pieces of a request target as tests: which bytes `http` takes for a scheme,
+-- an authority, a path and query.
 use Rattle.std.specs.Prelude.{ℕ, ◌-◌, Bool, true, not, ◌&&◌, ◌||◌, List, length, take, drop, slice_index, codes, bytes_eq, ◌==◌, nat_lt, nat_le}
 use Rattle.std.specs.List.{list_all, range_with_len}
 use Rattle.std.specs.Option.{option_map_or}

@@ -68,8 +68,7 @@ EndsCommand gate (Queue workers jobs capacity) ended sink = EndsQueue gate worke
 
 -- a run did what its words ask for
 pub record IsThreadsRun {D : Type 0} (gate : GateMeaning ScriptCredential) (asked : Option PoolCommand)
-    (ended : PoolEnd)
-    (sink : Written D) : Type 0 where
+    (ended : PoolEnd) (sink : Written D) : Type 0 where
   -- Usage comes exactly where nothing is asked for, and writes nothing
   pub usage : (ended ≡ end.Ended status.Usage) ↔ (asked ≡ None)
   pub untouched : ended ≡ end.Ended status.Usage → sink.new ≡ sink.old

@@ -116,11 +116,10 @@ counts_of entries = record {
 -- the line of counts
 abbrev pub counts_line : Counts → List ℕ
 counts_line counts =
-    line_of (codes "begun" ∷ decimal counts.begun ∷ codes "pending" ∷ decimal counts.pending ∷ codes "ask"
-    ∷ decimal counts.ask ∷ codes "sign" ∷ decimal counts.sign ∷ codes "done" ∷ decimal counts.done
-    ∷ codes "refused"
-    ∷ decimal counts.refused ∷ codes "cancelled" ∷ decimal counts.cancelled ∷ codes "not-now"
-    ∷ decimal counts.not_now ∷ [])
+    line_of (codes "begun" ∷ decimal counts.begun ∷ codes "pending" ∷ decimal counts.pending
+    ∷ codes "ask" ∷ decimal counts.ask ∷ codes "sign" ∷ decimal counts.sign
+    ∷ codes "done" ∷ decimal counts.done ∷ codes "refused" ∷ decimal counts.refused
+    ∷ codes "cancelled" ∷ decimal counts.cancelled ∷ codes "not-now" ∷ decimal counts.not_now ∷ [])
 
 -- the output of `load` for n calls
 unfoldable pub load_output : ℕ → List ℕ

@@ -301,11 +301,12 @@ where
     pub fn poll(&mut self, sign: Sign<P, S>, req: &mut Parts, now: Timestamp) -> SignPoll<P, S>
         requires { IsIssuedBy (meanings_of P.ProvideCredential S.SignRequest.own) self.old sign }
         ensures poll { (o : Objects P S P.Ctx) → objects_of self.old sign.begun.id.handle ≡ Some o
-            → IsPoll (polled_call
-                (policy_of P.Credential.valid P.Credential.valid_at S.deadline) P.Credential.clones_freely
-            (meanings_of P.ProvideCredential S.SignRequest.own) o sign.begun now) sign.state
-            self.old.desk self.new.desk
-            (record { poll = result; before = req.old; after = req.new }) }
+            → IsPoll
+                (polled_call (policy_of P.Credential.valid P.Credential.valid_at S.deadline)
+                    P.Credential.clones_freely (meanings_of P.ProvideCredential S.SignRequest.own)
+                    o sign.begun now)
+                sign.state self.old.desk self.new.desk
+                (record { poll = result; before = req.old; after = req.new }) }
         ensures issued { IsAnswerIssuedBy
             (meanings_of P.ProvideCredential S.SignRequest.own) self.new sign.begun.id result.answer }
         ensures same { self.new ≡ record self.old { desk = self.new.desk } }

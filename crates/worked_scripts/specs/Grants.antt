@@ -74,8 +74,8 @@ StaleCredentialIsRefused =
     ∷ fail 0 2 110 6 gets Refused (Service 6)
     ∷ []) (Some seven ∷ [])
 
--- a granted credential that is not fresh is given where it is valid at that moment, whatever deadline it
--- names
+-- a granted credential that is not fresh is given where it is valid at that
+-- moment, whatever deadline it names
 abbrev pub FreshnessOfTheGrantedIsNotAsked : Type 0
 FreshnessOfTheGrantedIsNotAsked =
     IsWorkedGrant (one_cache Cred) (granting
@@ -95,8 +95,8 @@ PollsAwaitTheAnswers =
     ∷ poll 0 1 102 gets NotNow
     ∷ []) (Some seven ∷ [])
 
--- a deadline out of range refuses the source, when it is found and when it is looked at; what was cached
--- stays
+-- a deadline out of range refuses the source, when it is found and when it is
+-- looked at; what was cached stays
 abbrev pub DeadlineOutOfRangeRefusesTheSource : Type 0
 DeadlineOutOfRangeRefusesTheSource =
     IsWorkedGrant (one_cache Now) (

@@ -97,8 +97,8 @@ RefusedRefreshLeavesTheCache =
 abbrev pub never_fresh : Credential
 never_fresh = credential 7 0 1000 600
 
--- whether a found credential is fresh is not asked: it is handed out and cached, and the next call loads
--- again
+-- whether a found credential is fresh is not asked: it is handed out and cached,
+-- and the next call loads again
 abbrev pub StaleRefreshIsHandedOut : Type 0
 StaleRefreshIsHandedOut =
     IsWorked (one_cache Cred) (

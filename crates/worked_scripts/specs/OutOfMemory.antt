@@ -1,5 +1,5 @@
--- Transcripts in which an allocation failed: at which events that may be, and that the event can be sent
--- again.
+-- Transcripts in which an allocation failed: at which events that may be, and
+-- that the event can be sent again.
 use Rattle.std.specs.Prelude.{List, [], ◌∷◌, ◌++◌}
 use Rattle.sequential_signer.specs.Legal.{IsLegal}
 use Rattle.sequential_signer.specs.declared.event.Entry.{Entry}
