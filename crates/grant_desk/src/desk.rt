@@ -259,10 +259,10 @@ impl<K: SigningCredential, D: DeadlineRule<Credential = K>> GrantDesk<K, D> {
     /// only where memory is taken: at a begin, and where a source is handed to the granter or its
     /// credential to the call, unless clones take none. Both change nothing.
     pub fn step(&mut self, event: &GrantEvent<K>) -> GrantReply<K>
-        ensures step { IsGrantStep
-            (policy_of K.valid K.valid_at D.deadline) event.now self.old result self.new }
-        ensures transition { GrantTransition
-            (policy_of K.valid K.valid_at D.deadline) event.now self.old result self.new }
+        ensures step { IsGrantStep (policy_of K.valid K.valid_at D.deadline)
+            event.now self.old result self.new }
+        ensures transition { GrantTransition (policy_of K.valid K.valid_at D.deadline)
+            event.now self.old result self.new }
         ensures memory { ClonesAreFree K.clones_freely → RunsOutAtBegins event.now result }
         ensures sound { GrantPrecondition self.old }
     {
@@ -276,8 +276,8 @@ impl<K: SigningCredential, D: DeadlineRule<Credential = K>> GrantDesk<K, D> {
     pub fn run(&mut self, events: &[GrantEvent<K>]) -> Result<Vec<GrantReply<K>>, RunError>
         ensures replies { IfOk result (λ replies. length replies.items ≡ length events.now) }
         ensures steps { IfOk result (λ replies.
-            AreGrantSteps
-                (policy_of K.valid K.valid_at D.deadline) events.now replies.items self.old self.new) }
+            AreGrantSteps (policy_of K.valid K.valid_at D.deadline)
+                events.now replies.items self.old self.new) }
         ensures represents { IfOk result (λ replies. (entries : List (GrantEntry K))
             → GrantRepresents (policy_of K.valid K.valid_at D.deadline) self.old entries
             → GrantRepresents (policy_of K.valid K.valid_at D.deadline) self.new

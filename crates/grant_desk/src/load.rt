@@ -84,8 +84,8 @@ impl<K: SigningCredential, D: DeadlineRule<Credential = K>> GrantTables<K, D> {
         requires live { IsSome (find_call view.call self.old.calls) }
         requires loader { view.cache < length self.old.loaders }
         ensures done { GrantPerforms (progress_action (λ c. with_cached c view self.old) self.old view
-            (next_load (slice_get self.old.loaders view.cache) view.answers single)) view.call self.old
-            result self.new }
+            (next_load (slice_get self.old.loaders view.cache) view.answers single))
+            view.call self.old result self.new }
         ensures memory { result ≢ OutOfMemory }
     {
         match self.tables.loader_at(view.cache) {

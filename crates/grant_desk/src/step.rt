@@ -21,8 +21,8 @@ impl<K: SigningCredential, D: DeadlineRule<Credential = K>> GrantTables<K, D> {
     /// One event.
     pub fn step(&mut self, event: &GrantEvent<K>) -> GrantReply<K>
         requires { GrantPrecondition self.old }
-        ensures done { GrantTransition
-            (policy_of K.valid K.valid_at D.deadline) event.now self.old result self.new }
+        ensures done { GrantTransition (policy_of K.valid K.valid_at D.deadline)
+            event.now self.old result self.new }
         ensures memory { ClonesAreFree K.clones_freely → RunsOutAtBegins event.now result }
     {
         match event {

@@ -48,8 +48,8 @@ module _ {P G K C L W : Type 0} (m : Meanings P G K C L W) where
   pub record Begins (policy : Policy K G) (change : GranterChange P G K C)
       (grant : Grant P G K C L C W K) : Type 0 where
     pub number : grant.begun.id.number ≡ change.old.begun
-    pub step : IsGrantStep policy
-        (Begin grant.begun.id grant.begun.expires_in) change.old.desk Begun change.new.desk
+    pub step : IsGrantStep policy (Begin grant.begun.id grant.begun.expires_in)
+        change.old.desk Begun change.new.desk
     pub next : change.new ≡ record change.old { desk = change.new.desk; begun = change.old.begun + 1 }
     pub issued : IsGrantIssuedBy m change.new grant
     pub others : KeepsOthers grant.begun.id change

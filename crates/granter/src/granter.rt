@@ -100,8 +100,8 @@ where
         granter: G,
     ) -> Result<Self, NoMemory<(P::Ctx, Providers<P>, G)>>
         requires { AreFew loader }
-        ensures ok { IfOk result (IsNewGranter
-            (policy_of P.Credential.valid P.Credential.valid_at G.deadline) ctx loader granter) }
+        ensures ok { IfOk result (IsNewGranter (policy_of P.Credential.valid P.Credential.valid_at G.deadline)
+            ctx loader granter) }
         ensures back { IfErr result (λ e. e.back ≡ (ctx, loader, granter)) }
     {
         let loads = loader_of(&loader);
@@ -150,8 +150,8 @@ where
         ensures answer { AddAnswerBack (late_refusal self.old.desk) (length self.old.desk.handles) result }
         ensures added { OnOk result (IfSome (slice_get self.old.desk.handles handle) (λ like.
             IfSome (slice_get self.old.desk.loaders like.cache) (λ loads.
-            self.new ≡
-            with_context_handle like loads (slice_index self.old.provider_places like.cache) ctx self.old))) }
+            self.new ≡ with_context_handle like loads
+                (slice_index self.old.provider_places like.cache) ctx self.old))) }
         ensures fresh { OnOk result (GrantRepresents
             (policy_of P.Credential.valid P.Credential.valid_at G.deadline) self.new.desk []) }
         ensures unchanged { IfErr result (λ refused. (refused.back ≡ ctx) × (self.new ≡ self.old)) }
@@ -233,7 +233,7 @@ where
         ensures answer { AddAnswerBack (late_refusal self.old.desk) (length self.old.desk.handles) result }
         ensures added { OnOk result (IfSome (slice_get self.old.desk.handles handle) (λ like.
             self.new ≡
-            with_service_handle like (slice_index self.old.context_places handle) granter self.old)) }
+                with_service_handle like (slice_index self.old.context_places handle) granter self.old)) }
         ensures fresh { OnOk result (GrantRepresents
             (policy_of P.Credential.valid P.Credential.valid_at G.deadline) self.new.desk []) }
         ensures unchanged { IfErr result (λ refused. (refused.back ≡ granter) × (self.new ≡ self.old)) }
@@ -298,8 +298,8 @@ where
                     P.Credential.clones_freely (meanings_of P.ProvideCredential G.GrantCredential.own)
                     o grant.begun now)
                 grant.state self.old.desk self.new.desk result }
-        ensures issued { IsAnswerIssuedBy
-            (meanings_of P.ProvideCredential G.GrantCredential.own) self.new grant.begun.id result }
+        ensures issued { IsAnswerIssuedBy (meanings_of P.ProvideCredential G.GrantCredential.own)
+            self.new grant.begun.id result }
         ensures same { self.new ≡ record self.old { desk = self.new.desk } }
         ensures others { KeepsOthers (meanings_of P.ProvideCredential G.GrantCredential.own) grant.begun.id
             (record { old = self.old; new = self.new }) }

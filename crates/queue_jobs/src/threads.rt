@@ -32,8 +32,8 @@ pub(crate) fn run_threads<G: Gate<ScriptCredential> + Sync, R: Threads + Wait + 
     let threads = slots.len();
     let thread = move |place: usize, slot: &mut Slot|
         requires { (0 < workers) × IsSlot pool.now.queue (G.meaning gate.now) slot.now }
-        ensures { IsRun pool.entry.now.queue
-            (G.meaning gate.entry.now) workers jobs place slot.entry.now slot.exit.now }
+        ensures { IsRun pool.entry.now.queue (G.meaning gate.entry.now)
+            workers jobs place slot.entry.now slot.exit.now }
     { run_slot(rt, alloc, pool, gate, share(workers, jobs, place), slot) };
     thread::for_each_mut(rt, slots, threads, &thread);
 }

@@ -153,8 +153,8 @@ impl<K: SigningCredential, D: DeadlineRule<Credential = K>> Audit<K, D> {
     fn miss(&mut self, event: &Event<K>) -> Claim<K>
         ensures answer { (entries : List (Entry K))
             → AuditRepresents (policy_of K.valid K.valid_at D.deadline) self.old entries
-            → AnswersMissed
-                (policy_of K.valid K.valid_at D.deadline) self.old entries event.now result self.new }
+            → AnswersMissed (policy_of K.valid K.valid_at D.deadline)
+                self.old entries event.now result self.new }
         ensures setup { setup_of self.new.desk ≡ setup_of self.old.desk }
     {
         if !allocates(&self.desk, event) {
@@ -231,8 +231,8 @@ impl<K: SigningCredential + EqualByValue, D: DeadlineRule<Credential = K>> Audit
             → AcceptsAll (policy_of K.valid K.valid_at D.deadline) self.old entries claims.now self.new) }
         ensures err { IfErr result (λ failed. (entries : List (Entry K))
             → AuditRepresents (policy_of K.valid K.valid_at D.deadline) self.old entries
-            → FailsAt (policy_of K.valid K.valid_at D.deadline) self.old entries claims.now failed.0
-                failed.1 self.new) }
+            → FailsAt (policy_of K.valid K.valid_at D.deadline)
+                self.old entries claims.now failed.0 failed.1 self.new) }
         ensures setup { setup_of self.new.desk ≡ setup_of self.old.desk }
     {
         for (place, entry) in claims.iter().enumerate() {

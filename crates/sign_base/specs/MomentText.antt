@@ -42,8 +42,8 @@ iso8601_text c =
 -- `Tue, 01 Mar 2022 08:12:34 GMT`
 abbrev pub http_date_text : Civil → List ℕ
 http_date_text c =
-    weekday_name c.weekday ++ (codes ", "
-    ++ (two_digits c.day ++ (codes " " ++ (month_name c.month ++ (codes " " ++ (four_digits c.year ++ (codes " "
+    weekday_name c.weekday ++ (codes ", " ++ (two_digits c.day ++ (codes " " ++ (month_name c.month
+    ++ (codes " " ++ (four_digits c.year ++ (codes " "
     ++ (two_digits c.hour ++ (codes ":" ++ (two_digits c.minute ++ (codes ":"
     ++ (two_digits c.second ++ codes " GMT"))))))))))))
 

@@ -283,8 +283,8 @@ impl<K: SigningCredential, D: DeadlineRule<Credential = K>> Desk<K, D> {
     /// none, and at an accepted head. Both change nothing.
     pub fn step(&mut self, event: &Event<K>) -> Reply<K>
         ensures step { IsStep (policy_of K.valid K.valid_at D.deadline) event.now self.old result self.new }
-        ensures transition { Transition
-            (policy_of K.valid K.valid_at D.deadline) event.now self.old result self.new }
+        ensures transition { Transition (policy_of K.valid K.valid_at D.deadline)
+            event.now self.old result self.new }
         ensures live { LiveAfter result (length self.old.calls) (length self.new.calls) }
         ensures memory { ClonesAreFree K.clones_freely → RunsOutAtHeads event.now result }
         ensures sound { StepPrecondition self.old }
@@ -316,8 +316,8 @@ impl<K: SigningCredential, D: DeadlineRule<Credential = K>> Desk<K, D> {
     /// a credential is handed out. The event is gone then too; `step` leaves it with its caller.
     pub fn step_owned(&mut self, event: Event<K>) -> Reply<K>
         ensures step { IsStep (policy_of K.valid K.valid_at D.deadline) event self.old result self.new }
-        ensures transition { Transition
-            (policy_of K.valid K.valid_at D.deadline) event self.old result self.new }
+        ensures transition { Transition (policy_of K.valid K.valid_at D.deadline)
+            event self.old result self.new }
         ensures live { LiveAfter result (length self.old.calls) (length self.new.calls) }
         ensures memory { ClonesAreFree K.clones_freely → RunsOutAtBegins event result }
         ensures sound { StepPrecondition self.old }

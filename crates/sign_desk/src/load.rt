@@ -85,8 +85,8 @@ impl<K: SigningCredential, D: DeadlineRule<Credential = K>> State<K, D> {
         requires live { IsSome (find_call view.call self.old.calls) }
         requires places { HasPlaces self.old view.cache view.rule }
         ensures done { Performs (hold_action (loading_hold self.old view) view
-            (next_load (slice_get self.old.loaders view.cache) view.answers single)) view.call self.old
-            result self.new }
+            (next_load (slice_get self.old.loaders view.cache) view.answers single))
+            view.call self.old result self.new }
         ensures memory { ClonesAreFree K.clones_freely → result ≢ OutOfMemory }
     {
         match self.tables.loader_at(view.cache) {

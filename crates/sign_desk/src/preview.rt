@@ -113,8 +113,9 @@ impl<K: SigningCredential, D: DeadlineRule<Credential = K>> State<K, D> {
     /// The reply to a provider's answer.
     fn preview_provided(&self, call: CallId, now: Timestamp, answer: &Answer<K>) -> Reply<K>
         requires { StepPrecondition self.now }
-        ensures done { Previews (action_of (policy_of K.valid K.valid_at D.deadline) self.now
-            (Provided call now answer.now)) result }
+        ensures done { Previews
+            (action_of (policy_of K.valid K.valid_at D.deadline) self.now (Provided call now answer.now))
+            result }
         ensures memory { ClonesAreFree K.clones_freely → result ≢ OutOfMemory }
     {
         let Some(view) = self.find(call) else {

@@ -17,8 +17,8 @@ impl<K: SigningCredential, D: DeadlineRule<Credential = K>> State<K, D> {
     /// The call waits for its turn.
     pub fn wait(&mut self, view: LiveCallView) -> Reply<K>
         requires { IsSome (find_call view.call self.old.calls) }
-        ensures { TakesEffect
-            (live_effect self.old (record view { stage = Queued }) Pending) view.call result self.new }
+        ensures { TakesEffect (live_effect self.old (record view { stage = Queued }) Pending)
+            view.call result self.new }
     {
         self.tables.note_progress(LiveCallView {
             stage: Stage::Queued,

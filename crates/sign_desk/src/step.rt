@@ -27,8 +27,8 @@ impl<K: SigningCredential, D: DeadlineRule<Credential = K>> State<K, D> {
     /// One event.
     pub fn step(&mut self, event: &Event<K>) -> Reply<K>
         requires { StepPrecondition self.old }
-        ensures done { Transition
-            (policy_of K.valid K.valid_at D.deadline) event.now self.old result self.new }
+        ensures done { Transition (policy_of K.valid K.valid_at D.deadline)
+            event.now self.old result self.new }
         ensures memory { ClonesAreFree K.clones_freely → RunsOutAtHeads event.now result }
     {
         match event {

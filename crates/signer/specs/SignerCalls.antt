@@ -50,8 +50,8 @@ module _ {P S K C L W : Type 0} (m : Meanings P S K C L W) where
       (sign : Sign P S K C L C W K) : Type 0 where
     pub number : sign.begun.id.number ≡ change.old.begun
     pub head : IsHeadOf parts sign.begun.head
-    pub step : IsStep policy
-        (Begin sign.begun.id sign.begun.head sign.begun.expires_in) change.old.desk Begun change.new.desk
+    pub step : IsStep policy (Begin sign.begun.id sign.begun.head sign.begun.expires_in)
+        change.old.desk Begun change.new.desk
     pub next : change.new ≡ record change.old { desk = change.new.desk; begun = change.old.begun + 1 }
     pub issued : IsIssuedBy m change.new sign
     pub others : KeepsOthers sign.begun.id change

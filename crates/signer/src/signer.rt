@@ -193,7 +193,7 @@ where
         ensures answer { AddAnswerBack (late_refusal self.old.desk) (length self.old.desk.handles) result }
         ensures added { OnOk result (IfSome (slice_get self.old.desk.handles handle) (λ like.
             self.new ≡
-            with_service_handle like (slice_index self.old.context_places handle) builder self.old)) }
+                with_service_handle like (slice_index self.old.context_places handle) builder self.old)) }
         ensures fresh { OnOk result
             (Represents (policy_of P.Credential.valid P.Credential.valid_at S.deadline) self.new.desk []) }
         ensures unchanged { IfErr result (λ refused. (refused.back ≡ builder) × (self.new ≡ self.old)) }
@@ -307,8 +307,8 @@ where
                     o sign.begun now)
                 sign.state self.old.desk self.new.desk
                 (record { poll = result; before = req.old; after = req.new }) }
-        ensures issued { IsAnswerIssuedBy
-            (meanings_of P.ProvideCredential S.SignRequest.own) self.new sign.begun.id result.answer }
+        ensures issued { IsAnswerIssuedBy (meanings_of P.ProvideCredential S.SignRequest.own)
+            self.new sign.begun.id result.answer }
         ensures same { self.new ≡ record self.old { desk = self.new.desk } }
         ensures others { KeepsOthers (meanings_of P.ProvideCredential S.SignRequest.own) sign.begun.id
             (record { old = self.old; new = self.new }) }

@@ -71,8 +71,8 @@ impl<K: SigningCredential, D: DeadlineRule<Credential = K>> Book<K, D> {
     /// `OutOfMemory` changes neither. It does not come for a cancel of a live call of which the pass has
     /// the begin and no cancel.
     pub fn apply(&mut self, pass: &mut Pass<K>, event: &Event<K>) -> Reply<K>
-        ensures represents { Represents
-            (policy_of K.valid K.valid_at D.deadline) self.new.desk self.new.journal }
+        ensures represents { Represents (policy_of K.valid K.valid_at D.deadline)
+            self.new.desk self.new.journal }
         ensures journal { result ≢ OutOfMemory
             → self.new.journal ≡ self.old.journal ++ record { event = event.now; reply = result } ∷ [] }
         ensures receipt { result ≢ OutOfMemory → pass.new ≡ pass.old
