@@ -81,7 +81,7 @@ impl GrantSession {
         requires { CanAnswer self.old (item.Cache loader) }
         ensures { OnOk result (AnswersItem (item.Cache loader)
             (record { session = self.old; text = text.old.items })
-                (record { session = self.new; text = text.new.items })) }
+            (record { session = self.new; text = text.new.items })) }
     {
         match self.desk.add_cache(loader) {
             Ok(number) => push_cache(text, u64::from(number))?,
@@ -101,7 +101,7 @@ impl GrantSession {
         requires { CanAnswer self.old (item.Handle cache rule) }
         ensures { OnOk result (AnswersItem (item.Handle cache rule)
             (record { session = self.old; text = text.old.items })
-                (record { session = self.new; text = text.new.items })) }
+            (record { session = self.new; text = text.new.items })) }
     {
         match self.desk.add_handle(cache, rule.place()) {
             Ok(number) => push_handle(text, u64::from(number))?,
@@ -119,7 +119,7 @@ impl GrantSession {
     ) -> Result<(), NoMemory<()>>
         ensures { OnOk result (AnswersItem (item.Event event.now)
             (record { session = self.old; text = text.old.items })
-                (record { session = self.new; text = text.new.items })) }
+            (record { session = self.new; text = text.new.items })) }
     {
         let reply = self.desk.step(event.as_event());
         if is_out_of_memory(&reply) {

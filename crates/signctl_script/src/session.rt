@@ -92,7 +92,7 @@ impl Session {
         requires { CanAnswer self.old (item.Cache loader) }
         ensures answers { OnOk result (AnswersItem (item.Cache loader)
             (record { session = self.old; text = text.old.items })
-                (record { session = self.new; text = text.new.items })) }
+            (record { session = self.new; text = text.new.items })) }
         ensures version { self.new.version ≡ self.old.version }
     {
         match self.desk.add_cache(loader) {
@@ -113,7 +113,7 @@ impl Session {
         requires { CanAnswer self.old (item.Handle cache rule) }
         ensures answers { OnOk result (AnswersItem (item.Handle cache rule)
             (record { session = self.old; text = text.old.items })
-                (record { session = self.new; text = text.new.items })) }
+            (record { session = self.new; text = text.new.items })) }
         ensures version { self.new.version ≡ self.old.version }
     {
         match self.desk.add_handle(cache, rule.place()) {
@@ -128,7 +128,7 @@ impl Session {
     fn answer_event(&mut self, event: ScriptEvent, text: &mut Vec<u8>) -> Result<(), NoMemory<()>>
         ensures answers { OnOk result (AnswersItem (item.Event event)
             (record { session = self.old; text = text.old.items })
-                (record { session = self.new; text = text.new.items })) }
+            (record { session = self.new; text = text.new.items })) }
         ensures version { self.new.version ≡ self.old.version }
     {
         let reply = self.desk.step_owned(event.into_event());
@@ -150,7 +150,7 @@ impl Session {
         requires { CanAnswer self.old item }
         ensures answers { OnOk result (AnswersItem item
             (record { session = self.old; text = text.old.items })
-                (record { session = self.new; text = text.new.items })) }
+            (record { session = self.new; text = text.new.items })) }
         ensures version { self.new.version ≡ self.old.version }
     {
         match item {

@@ -63,8 +63,8 @@ pub(crate) fn cancel_call<K: SigningCredential, D: DeadlineRule<Credential = K>>
 ) -> Option<CallId>
     requires there { IsSome (slice_get desk.old.handles begun.now.id.handle) }
     requires live { IsLive begun.now desk.old }
-    ensures step { IsStep (policy_of K.valid K.valid_at D.deadline) (Cancel begun.now.id) desk.old
-        (Cancelled result) desk.new }
+    ensures step { IsStep (policy_of K.valid K.valid_at D.deadline)
+        (Cancel begun.now.id) desk.old (Cancelled result) desk.new }
     ensures others { LeavesOthers begun.now.id desk.old desk.new }
 {
     let event = Event::Cancel { call: begun.id };
