@@ -1,11 +1,12 @@
--- Providers that are asked in order. Of each provider the definitions take what it gives, and which of its loads it started
--- and has ready, all in one context.
+-- Providers that are asked in order. Of each provider the definitions take what it gives, and which of its
+-- loads it started and has ready, all in one context.
 use Rattle.std.specs.Prelude.{◌≡◌, ◌++◌, ◌∷◌, ◌+◌, ◌⊎◌, ⊤, ℕ, Bool, true, false, List, All, take, drop, Option, Some, None, IfSome, IsSomeAnd, MatchOption, slice_get}
 use Rattle.sign_base.specs.Error.{ErrorParts}
 use Rattle.credentials.specs.declared.polled.Polled.{Polled}
 use Rattle.credentials.specs.declared.polled.Polled.TheVariants.{Pending, Ready, Failed, OutOfMemory}
 
--- how far a load of a chain is: the place of the provider that was asked last, or that is asked next where no load is open
+-- how far a load of a chain is: the place of the provider that was asked last, or that is
+-- asked next where no load is open
 pub record ChainProgress (L : Type 0) : Type 0 where
   pub place : ℕ
   pub open_load : Option L
@@ -30,7 +31,8 @@ module _ {P K : Type 0} (gives : P → Polled (Option K) → Type 0) where
   -- some provider gives the answer, and each one before it may be passed over
   abbrev pub FirstGives : List P → Polled (Option K) → Type 0
   FirstGives providers answer =
-      (before : List P) × (p : P) × (after : List P) × (providers ≡ before ++ p ∷ after) × AllPassedOver before × gives p answer
+      (before : List P) × (p : P) × (after : List P) × (providers ≡ before ++ p ∷ after)
+      × AllPassedOver before × gives p answer
 
   -- what a chain gives: a credential that was found first, or Missing where none is found; it never fails
   abbrev pub ChainGives : List P → Polled (Option K) → Type 0
@@ -40,9 +42,10 @@ module _ {P K : Type 0} (gives : P → Polled (Option K) → Type 0) where
   ChainGives providers Pending = FirstGives providers Pending
   ChainGives providers OutOfMemory = ⊤
 
--- an open load was started by the provider that was asked last, and each one before that, or before the one that is asked next,
--- may be passed over
-abbrev pub ChainStarted : {P K L : Type 0} → (P → Polled (Option K) → Type 0) → (P → L → Type 0) → List P → ChainProgress L → Type 0
+-- an open load was started by the provider that was asked last, and each one before that, or before the one
+-- that is asked next, may be passed over
+abbrev pub ChainStarted : {P K L : Type 0} → (P → Polled (Option K) → Type 0) → (P → L → Type 0) → List P
+    → ChainProgress L → Type 0
 ChainStarted gives started providers load =
     AllPassedOver gives (take load.place providers)
     × IfSome load.open_load (λ l. IsSomeAnd (slice_get providers load.place) (λ p. started p l))
@@ -52,7 +55,9 @@ abbrev pub AllStartReady : {P L : Type 0} → (P → L → Type 0) → (P → L 
 AllStartReady started ready providers = All (λ p. (l : _) → started p l → ready p l) providers
 
 -- the open load, if there is one, is ready, and so is each that a provider still to be started may start
-abbrev pub ChainReady : {P L : Type 0} → (P → L → Type 0) → (P → L → Type 0) → List P → ChainProgress L → Type 0
+abbrev pub ChainReady : {P L : Type 0} → (P → L → Type 0) → (P → L → Type 0) → List P
+    → ChainProgress L → Type 0
 ChainReady started ready providers load =
     MatchOption load.open_load (AllStartReady started ready (drop load.place providers))
-    (λ l. IsSomeAnd (slice_get providers load.place) (λ p. ready p l) × AllStartReady started ready (drop (load.place + 1) providers))
+    (λ l. IsSomeAnd (slice_get providers load.place) (λ p. ready p l)
+        × AllStartReady started ready (drop (load.place + 1) providers))

@@ -22,11 +22,13 @@ module _ {Z : Type 0} where
 
   -- a response with the text of its body
   abbrev pub IsTextResponse : Response (List ℕ) → Response (String Z) → Type 0
-  IsTextResponse response read = (head_of read ≡ head_of response) × IsTextOf (body_of response) (body_of read)
+  IsTextResponse response read =
+      (head_of read ≡ head_of response) × IsTextOf (body_of response) (body_of read)
 
 -- what a poll answers that reads the value of an object's answer as text, for which it may have no memory
 abbrev pub AnswersText : {A B : Type 0} → (A → B → Type 0) → Polled A → Polled B → Type 0
 AnswersText Reads Pending answer = answer ≡ Pending
-AnswersText Reads (Ready value) answer = (answer ≡ OutOfMemory) ⊎ ((text : _) × (answer ≡ Ready text) × Reads value text)
+AnswersText Reads (Ready value) answer =
+    (answer ≡ OutOfMemory) ⊎ ((text : _) × (answer ≡ Ready text) × Reads value text)
 AnswersText Reads (Failed error) answer = answer ≡ Failed error
 AnswersText Reads OutOfMemory answer = answer ≡ OutOfMemory

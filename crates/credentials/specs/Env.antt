@@ -10,7 +10,8 @@ abbrev pub map_variables : {Y Z S : Type 0} → HashMap (String Y) (String Z) S 
 map_variables m name = option_map string_bytes (get_by_text m name)
 
 -- a map has these variables and no others
-abbrev pub HasVariables : {Y Z S : Type 0} → HashMap (String Y) (String Z) S → (List ℕ → Option (List ℕ)) → Type 0
+abbrev pub HasVariables : {Y Z S : Type 0} → HashMap (String Y) (String Z) S
+    → (List ℕ → Option (List ℕ)) → Type 0
 HasVariables m variables = (name : List ℕ) → map_variables m name ≡ variables name
 
 -- a name and its value

@@ -16,4 +16,5 @@ with_home home path = flat_map (λ b. if is_tilde b then home else b ∷ []) pat
 
 -- a path that begins in the home folder with that folder in it, where there is one; any other path as it is
 abbrev pub expanded_path : Option (List ℕ) → List ℕ → Option (List ℕ)
-expanded_path home path = if begins_at_home path then option_map (λ folder. with_home folder path) home else Some path
+expanded_path home path =
+    if begins_at_home path then option_map (λ folder. with_home folder path) home else Some path

@@ -16,7 +16,8 @@ first_found found (p ∷ later) = found_or (found p) (first_found found later)
 
 -- a provider finds this credential and no other, or none
 abbrev pub FindsOnly : {K : Type 0} → (Polled (Option K) → Type 0) → Option K → Type 0
-FindsOnly gives found = ((c : _) → gives (Ready (Some c)) → found ≡ Some c) × (MayBePassedOver gives → found ≡ None)
+FindsOnly gives found =
+    ((c : _) → gives (Ready (Some c)) → found ≡ Some c) × (MayBePassedOver gives → found ≡ None)
 
 -- a provider finds what the answer says
 abbrev pub Finds : {K : Type 0} → (Polled (Option K) → Type 0) → Option K → Type 0
@@ -25,4 +26,5 @@ Finds gives None = ⊥
 
 -- the first provider finds what the answer says, or may be passed over, and those after it answer so
 abbrev pub FirstOrRest : {P K : Type 0} → (P → Polled (Option K) → Type 0) → P → List P → Option K → Type 0
-FirstOrRest gives p later answer = Finds (gives p) answer ⊎ (MayBePassedOver (gives p) × ChainGives gives later (Ready answer))
+FirstOrRest gives p later answer =
+    Finds (gives p) answer ⊎ (MayBePassedOver (gives p) × ChainGives gives later (Ready answer))

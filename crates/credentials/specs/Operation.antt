@@ -14,7 +14,8 @@ pub record SignOutcome : Type 0 where
   pub answer : Polled (Unit {0})
   pub candidate : Head
 
--- a candidate before a poll, by what the polls may leave: the head itself, or one that a poll left which can be repeated
+-- a candidate before a poll, by what the polls may leave: the head itself, or one that a
+-- poll left which can be repeated
 abbrev pub IsCandidate : (SignOutcome → Type 0) → Head → Head → Type 0
 IsCandidate gives head candidate =
     (candidate ≡ head) ⊎ (gives (record { answer = Pending; candidate = candidate })

@@ -42,9 +42,11 @@ impl<P: ProvideCredential> ProvideCredential for ProvideCredentialChain<P> {
 
     type Load = ChainLoad<P::Load>;
 
-    ghost started = { λ chain ctx load. ChainStarted (λ p answer. P.gives p ctx answer) (λ p l. P.started p ctx l) chain load };
+    ghost started = { λ chain ctx load.
+        ChainStarted (λ p answer. P.gives p ctx answer) (λ p l. P.started p ctx l) chain load };
 
-    ghost ready = { λ chain ctx load. ChainReady (λ p l. P.started p ctx l) (λ p l. P.ready p ctx l) chain load };
+    ghost ready = { λ chain ctx load.
+        ChainReady (λ p l. P.started p ctx l) (λ p l. P.ready p ctx l) chain load };
 
     ghost gives = { λ chain ctx answer. ChainGives (λ p a. P.gives p ctx a) chain answer };
 
@@ -79,13 +81,16 @@ impl<P: ProvideCredential> ProvideCredential for ProvideCredentialChain<P> {
         ctx: &P::Ctx,
         load: &mut ChainLoad<P::Load>,
     ) -> Polled<Option<P::Credential>>
-        ensures kept { ChainStarted (λ p a. P.gives p ctx.now a) (λ p l. P.started p ctx.now l) self.now load.old
+        ensures kept { ChainStarted (λ p a. P.gives p ctx.now a)
+            (λ p l. P.started p ctx.now l) self.now load.old
             → CanBePolledAgain result
             → ChainStarted (λ p a. P.gives p ctx.now a) (λ p l. P.started p ctx.now l) self.now load.new }
-        ensures ready { ChainReady (λ p l. P.started p ctx.now l) (λ p l. P.ready p ctx.now l) self.now load.old
+        ensures ready { ChainReady (λ p l. P.started p ctx.now l)
+            (λ p l. P.ready p ctx.now l) self.now load.old
             → result ≢ Polled.Pending }
         ensures pending { result ≡ Polled.Pending → IsSome load.new.open_load }
-        ensures gives { ChainStarted (λ p a. P.gives p ctx.now a) (λ p l. P.started p ctx.now l) self.now load.old
+        ensures gives { ChainStarted (λ p a. P.gives p ctx.now a)
+            (λ p l. P.started p ctx.now l) self.now load.old
             → ChainGives (λ p a. P.gives p ctx.now a) self.now result }
         ensures empty { self.now ≡ [] → result ≡ Polled.Ready None }
     {
@@ -152,7 +157,8 @@ fn poll_provider<P: ProvideCredential>(
 ) -> Polled<Option<P::Credential>>
     ensures kept { IfSome open_load.old (λ l. P.started provider.now ctx.now l) → CanBePolledAgain result
         → IfSome open_load.new (λ l. P.started provider.now ctx.now l) }
-    ensures ready { MatchOption open_load.old ((l : P.Load) → P.started provider.now ctx.now l → P.ready provider.now ctx.now l)
+    ensures ready { MatchOption open_load.old
+        ((l : P.Load) → P.started provider.now ctx.now l → P.ready provider.now ctx.now l)
         (λ l. P.ready provider.now ctx.now l)
         → result ≢ Polled.Pending }
     ensures gives { IfSome open_load.old (λ l. P.started provider.now ctx.now l)

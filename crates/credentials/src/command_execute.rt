@@ -79,7 +79,8 @@ impl CommandExecute for NoopCommandExecute {
 
     ghost ready = { λ object run. ⊤ };
 
-    ghost gives = { λ object program args answer. FailsWith (codes "command execution not supported: no command executor configured") answer };
+    ghost gives = { λ object program args answer.
+        FailsWith (codes "command execution not supported: no command executor configured") answer };
 
     fn command_execute(
         &self,

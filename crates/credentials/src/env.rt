@@ -60,8 +60,8 @@ impl Env for NoopEnv {
     }
 }
 
-/// An environment that is written down, for tests and for settings of one's own. `Debug` shows the names of its
-/// variables alone, in any order, since a value may be a secret.
+/// An environment that is written down, for tests and for settings of one's own. `Debug` shows the names of
+/// its variables alone, in any order, since a value may be a secret.
 #[derive(Drop)]
 pub struct StaticEnv {
     /// The path of the home folder.
@@ -104,7 +104,8 @@ impl fmt::Debug for StaticEnv {
 
 /// A copy of a text that may be absent.
 pub(crate) fn copy_of(alloc: Global, text: Option<&String>) -> Result<Option<String>, NoMemory<()>>
-    ensures ok { IfOk result (λ copy. option_map string_bytes copy ≡ option_map (λ t. string_bytes t.now) text.entry) }
+    ensures ok { IfOk result
+        (λ copy. option_map string_bytes copy ≡ option_map (λ t. string_bytes t.now) text.entry) }
     ensures none { option_map (λ t. string_bytes t.now) text.entry ≡ None → IsOk result }
 {
     match text {

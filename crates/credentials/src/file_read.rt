@@ -51,7 +51,8 @@ impl FileRead for NoopFileRead {
 
     ghost ready = { λ object read. ⊤ };
 
-    ghost gives = { λ object path answer. FailsWith (codes "file reading not supported: no file reader configured") answer };
+    ghost gives = { λ object path answer.
+        FailsWith (codes "file reading not supported: no file reader configured") answer };
 
     fn file_read(&self, _alloc: Global, _path: &str) -> Result<(), NoMemory<()>>
         ensures started { IfOk result (λ read. ⊤) }

@@ -46,7 +46,8 @@ pub trait HttpSend: Drop {
         ensures kept { (req : Request (List ℕ)) → started self.now req send.old → CanBePolledAgain result
             → started self.now req send.new }
         ensures ready { ready self.now send.old → result ≢ Polled.Pending }
-        ensures gives { (req : Request (List ℕ)) → started self.now req send.old → gives self.now req result };
+        ensures gives { (req : Request (List ℕ)) → started self.now req send.old
+            → gives self.now req result };
 }
 
 /// Sends no requests: each send fails at its poll.
@@ -60,7 +61,8 @@ impl HttpSend for NoopHttpSend {
 
     ghost ready = { λ object send. ⊤ };
 
-    ghost gives = { λ object req answer. FailsWith (codes "HTTP sending not supported: no HTTP client configured") answer };
+    ghost gives = { λ object req answer.
+        FailsWith (codes "HTTP sending not supported: no HTTP client configured") answer };
 
     fn http_send(&self, _alloc: Global, req: Request<Bytes>) -> Result<(), NoMemory<Request<Bytes>>>
         ensures ok { IfOk result (λ send. ⊤) }

@@ -10,7 +10,8 @@ use crate::{ProvideCredential, SigningCredential};
 /// A chain answers its first found credential, whatever its providers find after it, and that there
 /// is none where none is found.
 pub fn a_chain_answers_its_first_found<P: ProvideCredential>()
-    ensures { (ctx : P.Ctx) (found : P → Option P.Credential) (providers : List P) (answer : Option P.Credential)
+    ensures { (ctx : P.Ctx) (found : P → Option P.Credential) (providers : List P)
+        (answer : Option P.Credential)
         → All (λ p. FindsOnly (λ a. P.gives p ctx a) (found p)) providers
         → ChainGives (λ p a. P.gives p ctx a) providers (Ready answer)
         → answer ≡ first_found found providers }

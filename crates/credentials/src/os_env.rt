@@ -15,8 +15,8 @@ use std::marker::Model;
 /// What `from_list` hands back.
 type Handed = (Option<String>, Vec<(String, String)>);
 
-/// The environment of a process, as its program read it. Nothing is read again. `Debug` shows the names of its
-/// variables alone, since a value may be a secret.
+/// The environment of a process, as its program read it. Nothing is read again. `Debug` shows the names of
+/// its variables alone, since a value may be a secret.
 #[derive(Drop)]
 pub struct OsEnv {
     home: Option<String>,

@@ -12,7 +12,12 @@ use Rattle.desk_parts.specs.declared.call_record.Stage.TheVariants.{Unpolled, Qu
 
 -- what a desk keeps of the call at this stage, after so many answers
 abbrev pub record_of : {H : Type 0} → BegunCall H → Stage → ℕ → CallRecord H
-record_of begun stage answers = record { stage = stage; head = begun.head; expires_in = begun.expires_in; answers = answers }
+record_of begun stage answers = record {
+  stage = stage;
+  head = begun.head;
+  expires_in = begun.expires_in;
+  answers = answers
+}
 
 -- the desk has the call at this stage, after so many answers
 abbrev pub IsAt : {K D Q H : Type 0} → BegunCall H → Stage → ℕ → DeskTables K D Q H → Type 0
@@ -36,7 +41,8 @@ loader_of desk handle = option_and_then (λ h. slice_get desk.loaders h.cache) (
 
 -- the handle's cache has a provider with this number
 abbrev pub HasProvider : {K D Q H : Type 0} → DeskTables K D Q H → ℕ → ℕ → Type 0
-HasProvider desk handle provider = IsSomeAnd (loader_of desk handle) (λ loader. provider < provider_count loader)
+HasProvider desk handle provider =
+    IsSomeAnd (loader_of desk handle) (λ loader. provider < provider_count loader)
 
 -- the call loads, and this provider was asked last
 abbrev pub IsAsking : {K D Q H : Type 0} → BegunCall H → ℕ → DeskTables K D Q H → Type 0
@@ -48,4 +54,5 @@ pub record LeavesOthers {K D Q H : Type 0} (call : CallId) (old new : DeskTables
   pub rules : new.rules ≡ old.rules
   pub handles : new.handles ≡ old.handles
   pub greatest : new.greatest ≡ old.greatest
-  pub other_calls : (other : CallId) → same_call call other ≡ false → find_call other new.calls ≡ find_call other old.calls
+  pub other_calls : (other : CallId) → same_call call other ≡ false
+      → find_call other new.calls ≡ find_call other old.calls

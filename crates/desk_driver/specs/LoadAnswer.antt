@@ -47,10 +47,13 @@ pub record ProviderMeaning (K L : Type 0) : Type 1 where
 abbrev pub IsLoadAnswer : {K L : Type 0} → ProviderMeaning K L → LoadState K L → LoadAnswer K L → Type 0
 IsLoadAnswer m before (Pending load) = m.started load × IsLoadPending m.started m.ready before
 IsLoadAnswer m before (OutOfMemory kept) = IsLoadKept m.started m.gives kept × LoadRunsOut m.gives before kept
-IsLoadAnswer m before (Found credential) = m.gives (polled.Ready (Some credential)) × KeepsLoad before (load_state.Found credential)
+IsLoadAnswer m before (Found credential) =
+    m.gives (polled.Ready (Some credential)) × KeepsLoad before (load_state.Found credential)
 IsLoadAnswer m before Missing = m.gives (polled.Ready None) × IsLoadOpen before
 IsLoadAnswer m before (Failed e) = m.gives (polled.Failed e) × IsLoadOpen before
 
 -- what a provider means in a context
-abbrev pub provider_meaning : {P K C L : Type 0} → ProvideCredential.Ghosts P K C L → P → C → ProviderMeaning K L
-provider_meaning g provider ctx = record { started = g.started provider ctx; ready = g.ready provider ctx; gives = g.gives provider ctx }
+abbrev pub provider_meaning : {P K C L : Type 0} → ProvideCredential.Ghosts P K C L → P → C
+    → ProviderMeaning K L
+provider_meaning g provider ctx =
+    record { started = g.started provider ctx; ready = g.ready provider ctx; gives = g.gives provider ctx }

@@ -18,8 +18,11 @@ credential_error message name = record (new_error CredentialInvalid message) { c
 
 -- the same, with a line more
 abbrev pub credential_error_with : List ℕ → List ℕ → List ℕ → ErrorParts
-credential_error_with message name line = record (new_error CredentialInvalid message) { context = type_line name ∷ line ∷ [] }
+credential_error_with message name line =
+    record (new_error CredentialInvalid message) { context = type_line name ∷ line ∷ [] }
 
 -- the deadline is out of range
 abbrev pub range_error : List ℕ → ErrorParts
-range_error name = record (new_error RequestInvalid (codes "operation deadline is out of range")) { context = type_line name ∷ [] }
+range_error name =
+    record (new_error RequestInvalid (codes "operation deadline is out of range"))
+    { context = type_line name ∷ [] }

@@ -13,7 +13,8 @@ pub fn poll_provider<P: ProvideCredential>(
     ctx: &P::Ctx,
     load: LoadState<P::Credential, P::Load>,
 ) -> LoadAnswer<P::Credential, P::Load>
-    requires { let m = provider_meaning P.ProvideCredential provider.now ctx.now in IsLoadKept m.started m.gives load }
+    requires { let m = provider_meaning P.ProvideCredential provider.now ctx.now
+        in IsLoadKept m.started m.gives load }
     ensures { IsLoadAnswer (provider_meaning P.ProvideCredential provider.now ctx.now) load result }
 {
     match load {
@@ -33,7 +34,8 @@ fn poll_load<P: ProvideCredential>(
     mut load: P::Load,
 ) -> LoadAnswer<P::Credential, P::Load>
     requires { P.started provider.now ctx.now load }
-    ensures { IsLoadAnswer (provider_meaning P.ProvideCredential provider.now ctx.now) (load_state.Started load) result }
+    ensures { IsLoadAnswer (provider_meaning P.ProvideCredential provider.now ctx.now)
+        (load_state.Started load) result }
 {
     match provider.poll_load(alloc, ctx, &mut load) {
         Polled::Pending => LoadAnswer::Pending(load),

@@ -24,7 +24,8 @@ pub fn credential_refused_at(
     label: &str,
     moment: Timestamp,
 ) -> Result<Error, NoMemory<()>>
-    ensures { IfOk result (λ e. e ≡ credential_error_with message.now name.now (moment_line label.now moment)) }
+    ensures { IfOk result
+        (λ e. e ≡ credential_error_with message.now name.now (moment_line label.now moment)) }
 {
     let e = credential_refused(alloc, message, name)?;
     let line = moment_text(alloc, label, moment)?;

@@ -28,7 +28,11 @@ as_viewed view live = record live { stage = view.stage; answers = view.answers }
 module _ {R K D Q H : Type 0} where
   -- the call stays live, as this view says
   abbrev pub live_effect : DeskTables K D Q H → LiveCallView → R → EffectOn R K D Q H
-  live_effect desk view reply = record { reply = reply; desk = desk; live = option_map (as_viewed view) (find_call view.call desk.calls) }
+  live_effect desk view reply = record {
+    reply = reply;
+    desk = desk;
+    live = option_map (as_viewed view) (find_call view.call desk.calls)
+  }
 
   -- the call is over
   abbrev pub end_effect : DeskTables K D Q H → R → EffectOn R K D Q H
@@ -36,14 +40,17 @@ module _ {R K D Q H : Type 0} where
 
   -- this effect on the call: its reply, and the desk after it
   abbrev pub TakesEffect : EffectOn R K D Q H → CallId → R → DeskTables K D Q H → Type 0
-  TakesEffect effect call reply new = (reply ≡ effect.reply) × ChangesOnlyCall effect.desk call effect.live new
+  TakesEffect effect call reply new =
+      (reply ≡ effect.reply) × ChangesOnlyCall effect.desk call effect.live new
 
-  -- what is done to the call, where `lost` is the reply to an allocation that failed: the desk before it, its reply, and the
-  -- desk after it
-  abbrev pub PerformsOr : R → ActionOn R K D Q H → CallId → DeskTables K D Q H → R → DeskTables K D Q H → Type 0
+  -- what is done to the call, where `lost` is the reply to an allocation that failed: the desk before it,
+  -- its reply, and the desk after it
+  abbrev pub PerformsOr : R → ActionOn R K D Q H → CallId → DeskTables K D Q H → R
+      → DeskTables K D Q H → Type 0
   PerformsOr lost (Leaves given) call old reply new = (reply ≡ given) × (new ≡ old)
   PerformsOr lost (Does effect) call old reply new = TakesEffect effect call reply new
-  PerformsOr lost (Allocates effect) call old reply new = TakesEffect effect call reply new ⊎ ((reply ≡ lost) × (new ≡ old))
+  PerformsOr lost (Allocates effect) call old reply new =
+      TakesEffect effect call reply new ⊎ ((reply ≡ lost) × (new ≡ old))
 
   -- the reply of what would be done, or `lost` where that takes memory
   abbrev pub PreviewsOr : R → ActionOn R K D Q H → R → Type 0

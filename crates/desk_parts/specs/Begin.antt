@@ -16,7 +16,9 @@ is_new_at n (Some greatest) = is_above n greatest
 
 -- whether a begin fits: the handle is there, and the number is above the greatest
 abbrev pub can_begin : {K D Q H : Type 0} → DeskTables K D Q H → CallId → Bool
-can_begin desk call = is_some (slice_get desk.handles call.handle) && is_new_at call.number (slice_get desk.greatest call.handle)
+can_begin desk call =
+    is_some (slice_get desk.handles call.handle)
+    && is_new_at call.number (slice_get desk.greatest call.handle)
 
 -- the cache of a handle that is there
 abbrev pub cache_at : Option Handle → ℕ
@@ -38,4 +40,5 @@ with_begin call desk = record (with_number call desk) {
 
 -- the record of a call that is begun
 abbrev pub new_record : {H : Type 0} → H → Option Duration → CallRecord H
-new_record head expires_in = record { stage = stage.Unpolled; head = head; expires_in = expires_in; answers = 0 }
+new_record head expires_in =
+    record { stage = stage.Unpolled; head = head; expires_in = expires_in; answers = 0 }

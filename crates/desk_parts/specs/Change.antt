@@ -13,7 +13,8 @@ one_if None = 0
 one_if (Some x) = 1
 
 -- the desk has this record of the call, and is else as this one
-pub record ChangesOnlyCall {K D Q H : Type 0} (base : DeskTables K D Q H) (call : CallId) (live : Option (CallRecord H)) (new : DeskTables K D Q H) : Type 0 where
+pub record ChangesOnlyCall {K D Q H : Type 0} (base : DeskTables K D Q H) (call : CallId)
+    (live : Option (CallRecord H)) (new : DeskTables K D Q H) : Type 0 where
   pub loaders : new.loaders ≡ base.loaders
   pub rules : new.rules ≡ base.rules
   pub handles : new.handles ≡ base.handles
@@ -22,11 +23,13 @@ pub record ChangesOnlyCall {K D Q H : Type 0} (base : DeskTables K D Q H) (call 
   pub greatest : new.greatest ≡ base.greatest
   pub started : new.started ≡ base.started
   pub this_call : find_call call new.calls ≡ live
-  pub other_calls : (other : CallId) → same_call call other ≡ false → find_call other new.calls ≡ find_call other base.calls
+  pub other_calls : (other : CallId) → same_call call other ≡ false
+      → find_call other new.calls ≡ find_call other base.calls
   pub count : length new.calls + one_if (find_call call base.calls) ≡ length base.calls + one_if live
 
 -- the desk where the queue of cache i changed
-abbrev pub with_queue : {K D H : Type 0} → (Queue → Queue) → ℕ → DeskTables K D Queue H → DeskTables K D Queue H
+abbrev pub with_queue : {K D H : Type 0} → (Queue → Queue) → ℕ → DeskTables K D Queue H
+    → DeskTables K D Queue H
 with_queue change i desk = record desk { queues = with_changed change i desk.queues }
 
 -- the desk where this cache holds this credential

@@ -21,8 +21,8 @@ phase_of_stage stage.Queued = Queued
 phase_of_stage stage.Loading = Loading
 phase_of_stage stage.Signing = Signing
 
--- the setup; the credential of each cache, and its queue, or what is kept in its place; the greatest number begun under each
--- handle; whether a begin was accepted; and the live calls
+-- the setup; the credential of each cache, and its queue, or what is kept in its place; the greatest number
+-- begun under each handle; whether a begin was accepted; and the live calls
 pub record DeskTables (K D Q H : Type 0) : Type 0 where
   pub loaders : List Loader
   pub rules : List D

@@ -17,7 +17,8 @@ impl<K: SigningCredential, D: DeadlineRule<Credential = K>, Q: Drop, H: Drop> Ta
     /// Notes the stage of a live call and the number of its answers.
     pub fn note_progress(&mut self, view: LiveCallView)
         requires { IsSome (find_call view.call self.old.calls) }
-        ensures { ChangesOnlyCall self.old view.call (option_map (as_viewed view) (find_call view.call self.old.calls)) self.new }
+        ensures { ChangesOnlyCall self.old view.call
+            (option_map (as_viewed view) (find_call view.call self.old.calls)) self.new }
     {
         let live = self.calls.get_mut(&view.call).unwrap();
         live.stage = view.stage;

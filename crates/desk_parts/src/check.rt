@@ -26,7 +26,8 @@ impl<K: SigningCredential, D: DeadlineRule<Credential = K>, Q: Drop, H: Drop> Ta
     /// The view with one more answer, of a call that had fewer answers than there are providers.
     pub fn with_answer(&self, view: LiveCallView) -> LiveCallView
         requires there { view.cache < length self.now.loaders }
-        requires few { IfSome (slice_get self.now.loaders view.cache) (λ loader. view.answers < provider_count loader) }
+        requires few { IfSome (slice_get self.now.loaders view.cache)
+            (λ loader. view.answers < provider_count loader) }
         ensures { result ≡ with_answer view }
     {
         let provider_count = self.provider_count(view.cache);

@@ -31,7 +31,8 @@ impl<K: SigningCredential, D: DeadlineRule<Credential = K>, Q: Drop, H: Drop> Ta
         requires loader { view.cache < length self.now.loaders }
         requires cache { view.cache < length self.now.caches }
         requires rule { view.rule < length self.now.rules }
-        ensures lookup { IsLookup (desk_lookup (policy_of K.valid K.valid_at D.deadline) self.now now view) result }
+        ensures lookup { IsLookup
+            (desk_lookup (policy_of K.valid K.valid_at D.deadline) self.now now view) result }
         ensures memory { ClonesAreFree K.clones_freely → result ≢ OutOfMemory }
     {
         let rule = &self.rules[view.rule as usize];

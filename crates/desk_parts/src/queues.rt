@@ -18,7 +18,8 @@ impl<K: SigningCredential, D: DeadlineRule<Credential = K>, H: Drop> Tables<K, D
     /// Takes the room of one more call in the queue of a cache, or changes nothing.
     fn take_room(&mut self, cache: u32) -> Result<(), NoMemory<()>>
         requires there { cache < length self.old.queues }
-        requires few { IfSome (slice_get self.old.queues cache) (λ queue. queue.unpolled ≤ length self.old.calls) }
+        requires few { IfSome (slice_get self.old.queues cache)
+            (λ queue. queue.unpolled ≤ length self.old.calls) }
         ensures ok { OnOk result (self.new ≡ with_queue with_room cache self.old) }
         ensures err { OnErr result (self.new ≡ self.old) }
     {
@@ -29,8 +30,10 @@ impl<K: SigningCredential, D: DeadlineRule<Credential = K>, H: Drop> Tables<K, D
 
     /// Takes a call in under its handle, with its room in the queue and its record, or changes nothing.
     pub fn insert_call(&mut self, call: CallId, live: CallRecord<H>) -> Result<(), NoMemory<()>>
-        requires places { IfSome (slice_get self.old.handles call.handle) (λ handle. HasPlaces self.old handle.cache handle.rule) }
-        requires room { (i : ℕ) → IfSome (slice_get self.old.queues i) (λ queue. queue.unpolled ≤ length self.old.calls) }
+        requires places { IfSome (slice_get self.old.handles call.handle)
+            (λ handle. HasPlaces self.old handle.cache handle.rule) }
+        requires room { (i : ℕ)
+            → IfSome (slice_get self.old.queues i) (λ queue. queue.unpolled ≤ length self.old.calls) }
         requires fits { can_begin self.old call ≡ true }
         ensures ok { OnOk result (ChangesOnlyCall (with_begin call self.old) call (Some live) self.new) }
         ensures err { OnErr result (self.new ≡ self.old) }

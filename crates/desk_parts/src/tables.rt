@@ -162,7 +162,8 @@ impl<K: SigningCredential, D: DeadlineRule<Credential = K>, Q: Drop, H: Drop> Ta
     /// Adds a rule and a handle with it, or hands the rule back.
     pub fn add_handle_with_rule(&mut self, cache: u32, rule: D) -> Result<(), D>
         requires { length self.old.rules < 4294967296 }
-        ensures added { OnOk result (self.new ≡ with_handle cache (length self.old.rules) (with_rule rule self.old)) }
+        ensures added { OnOk result
+            (self.new ≡ with_handle cache (length self.old.rules) (with_rule rule self.old)) }
         ensures unchanged { OnErr result (self.new ≡ self.old) }
         ensures back { IfErr result (λ back. back ≡ rule) }
     {
@@ -190,7 +191,8 @@ impl<K: SigningCredential, D: DeadlineRule<Credential = K>, Q: Drop, H: Drop> Ta
         rule: u32,
     ) -> Result<(), AllocError>
         requires { length self.old.loaders < 4294967296 }
-        ensures added { OnOk result (self.new ≡ with_handle (length self.old.loaders) rule (with_cache loader queue self.old)) }
+        ensures added { OnOk result
+            (self.new ≡ with_handle (length self.old.loaders) rule (with_cache loader queue self.old)) }
         ensures unchanged { OnErr result (self.new ≡ self.old) }
     {
         let number = self.loaders.len() as u32;

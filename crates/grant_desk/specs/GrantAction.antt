@@ -31,15 +31,21 @@ GrantAction K D = ActionOn (GrantReply K) K D (Unit {0}) (Unit {0})
 -- a begin, which takes memory
 abbrev pub grant_begin_action : {K D : Type 0} → GrantState K D → CallId → GrantRecord → GrantAction K D
 grant_begin_action desk call live =
-    if can_begin desk call then Allocates (record { reply = Begun; desk = with_number call desk; live = Some live }) else Leaves NotNow
+    if can_begin desk call
+    then Allocates (record { reply = Begun; desk = with_number call desk; live = Some live })
+    else Leaves NotNow
 
--- what is done by how far a look or a load gets; `handed` is the desk where a source is handed to the granter, which alone
--- takes memory
-abbrev pub progress_action : {K D : Type 0} → (K → GrantState K D) → GrantState K D → LiveCallView → Option (Progress K) → GrantAction K D
+-- what is done by how far a look or a load gets; `handed` is the desk where a source is handed to the
+-- granter, which alone takes memory
+abbrev pub progress_action : {K D : Type 0} → (K → GrantState K D) → GrantState K D → LiveCallView
+    → Option (Progress K) → GrantAction K D
 progress_action handed desk view None = Leaves NotNow
-progress_action handed desk view (Some (Asking provider)) = Does (live_effect desk (record view { stage = stage.Loading }) (Ask provider))
-progress_action handed desk view (Some (Over (HandOut c) left)) = Allocates (live_effect (handed c) (record view { stage = stage.Signing }) (Grant c))
-progress_action handed desk view (Some (Over (Refuse why) left)) = Does (end_effect desk (Refused (grant_why why)))
+progress_action handed desk view (Some (Asking provider)) =
+    Does (live_effect desk (record view { stage = stage.Loading }) (Ask provider))
+progress_action handed desk view (Some (Over (HandOut c) left)) =
+    Allocates (live_effect (handed c) (record view { stage = stage.Signing }) (Grant c))
+progress_action handed desk view (Some (Over (Refuse why) left)) =
+    Does (end_effect desk (Refused (grant_why why)))
 
 -- a look, which leaves the caches
 abbrev pub look_action : {K D : Type 0} → Policy K D → GrantState K D → ℤ → LiveCallView → GrantAction K D
@@ -52,9 +58,11 @@ grant_poll_action look stage.Queued = look
 grant_poll_action look _ = Leaves Pending
 
 -- a provider's answer to a call that loads: a source that is handed to the granter is cached
-abbrev pub grant_load_action : {K D : Type 0} → Policy K D → GrantState K D → ℤ → Answer K → LiveCallView → GrantAction K D
+abbrev pub grant_load_action : {K D : Type 0} → Policy K D → GrantState K D → ℤ → Answer K → LiveCallView
+    → GrantAction K D
 grant_load_action policy desk now answer view =
-    progress_action (λ c. with_cached c view desk) desk (with_answer view) (desk_load policy desk now view answer)
+    progress_action (λ c. with_cached c view desk) desk (with_answer view)
+    (desk_load policy desk now view answer)
 
 -- a provider's answer, by the stage of its call
 abbrev pub grant_provided_action : {K D : Type 0} → GrantAction K D → Stage → GrantAction K D
@@ -64,31 +72,45 @@ grant_provided_action load _ = Leaves NotNow
 -- what the granter made now: it is given where it is valid now, which takes memory
 abbrev pub made_action : {K D : Type 0} → Policy K D → GrantState K D → ℤ → K → GrantAction K D
 made_action policy desk now c =
-    if policy.valid_at c now now then Allocates (end_effect desk (Given c)) else Does (end_effect desk (Refused (Stale now)))
+    if policy.valid_at c now now
+    then Allocates (end_effect desk (Given c))
+    else Does (end_effect desk (Refused (Stale now)))
 
 -- the granter's answer, by the stage of its call
-abbrev pub granted_action : {K D : Type 0} → Policy K D → GrantState K D → ℤ → MadeOrFailed K → Stage → GrantAction K D
+abbrev pub granted_action : {K D : Type 0} → Policy K D → GrantState K D → ℤ → MadeOrFailed K → Stage
+    → GrantAction K D
 granted_action policy desk now (Made c) stage.Signing = made_action policy desk now c
 granted_action policy desk now (Failed e) stage.Signing = Does (end_effect desk (Refused (Service e)))
 granted_action policy desk now answer _ = Leaves NotNow
 
 -- what is done at a live call; an event of no live call does not fit
-abbrev pub live_grant_action : {K D : Type 0} → (LiveCallView → GrantAction K D) → Option LiveCallView → GrantAction K D
+abbrev pub live_grant_action : {K D : Type 0} → (LiveCallView → GrantAction K D) → Option LiveCallView
+    → GrantAction K D
 live_grant_action action None = Leaves NotNow
 live_grant_action action (Some view) = action view
 
 -- what is done at an event
 abbrev pub grant_action_of : {K D : Type 0} → Policy K D → GrantState K D → GrantEvent K → GrantAction K D
 grant_action_of policy desk (Begin call expires_in) = grant_begin_action desk call (new_record tt expires_in)
-grant_action_of policy desk (Poll call now) = live_grant_action (λ view. grant_poll_action (look_action policy desk now view) view.stage) (find_view desk call)
-grant_action_of policy desk (Provided call now answer) = live_grant_action (λ view. grant_provided_action (grant_load_action policy desk now answer view) view.stage) (find_view desk call)
-grant_action_of policy desk (Granted call now answer) = live_grant_action (λ view. granted_action policy desk now answer view.stage) (find_view desk call)
-grant_action_of policy desk (Cancel call) = live_grant_action (λ view. Does (end_effect desk Cancelled)) (find_view desk call)
+grant_action_of policy desk (Poll call now) =
+    live_grant_action (λ view. grant_poll_action (look_action policy desk now view) view.stage)
+    (find_view desk call)
+grant_action_of policy desk (Provided call now answer) =
+    live_grant_action
+    (λ view. grant_provided_action (grant_load_action policy desk now answer view) view.stage)
+    (find_view desk call)
+grant_action_of policy desk (Granted call now answer) =
+    live_grant_action (λ view. granted_action policy desk now answer view.stage) (find_view desk call)
+grant_action_of policy desk (Cancel call) =
+    live_grant_action (λ view. Does (end_effect desk Cancelled)) (find_view desk call)
 
 -- what is done to the call: the desk before it, its reply, and the desk after it
-abbrev pub GrantPerforms : {K D : Type 0} → GrantAction K D → CallId → GrantState K D → GrantReply K → GrantState K D → Type 0
+abbrev pub GrantPerforms : {K D : Type 0} → GrantAction K D → CallId → GrantState K D → GrantReply K
+    → GrantState K D → Type 0
 GrantPerforms action call old reply new = PerformsOr OutOfMemory action call old reply new
 
 -- what is done at the event
-abbrev pub GrantTransition : {K D : Type 0} → Policy K D → GrantEvent K → GrantState K D → GrantReply K → GrantState K D → Type 0
-GrantTransition policy event old reply new = GrantPerforms (grant_action_of policy old event) (grant_call_of event) old reply new
+abbrev pub GrantTransition : {K D : Type 0} → Policy K D → GrantEvent K → GrantState K D → GrantReply K
+    → GrantState K D → Type 0
+GrantTransition policy event old reply new =
+    GrantPerforms (grant_action_of policy old event) (grant_call_of event) old reply new

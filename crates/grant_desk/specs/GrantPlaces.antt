@@ -8,13 +8,15 @@ use Rattle.desk_parts.specs.declared.call_record.Stage.TheVariants.{Loading}
 use Rattle.desk_parts.specs.declared.tables.LiveCallView.{LiveCallView}
 use Rattle.grant_desk.specs.GrantDeskState.{GrantState}
 
--- at a live call: its record and its places are there, and one that loads had fewer answers than there are providers
+-- at a live call: its record and its places are there, and one that loads had fewer
+-- answers than there are providers
 pub record IsGrantPlaced {K D : Type 0} (desk : GrantState K D) (view : LiveCallView) : Type 0 where
   pub live : IsSome (find_call view.call desk.calls)
   pub loader : view.cache < length desk.loaders
   pub cached : view.cache < length desk.caches
   pub rules : view.rule < length desk.rules
-  pub few : view.stage ≡ Loading → IfSome (slice_get desk.loaders view.cache) (λ loader. view.answers < provider_count loader)
+  pub few : view.stage ≡ Loading
+      → IfSome (slice_get desk.loaders view.cache) (λ loader. view.answers < provider_count loader)
 
 -- at any event: each live call has its places, and each handle its greatest number
 pub record GrantPrecondition {K D : Type 0} (desk : GrantState K D) : Type 0 where

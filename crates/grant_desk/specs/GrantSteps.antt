@@ -15,9 +15,10 @@ use Rattle.desk_parts.specs.Tables.{setup_of}
 use Rattle.grant_desk.specs.GrantCause.{grant_cause_of, IsGrantCaused}
 use Rattle.grant_desk.specs.GrantDeskState.{GrantState, GrantRepresents}
 
--- a source that is found and handed to the granter is the one found, and its call's cache holds it; every other reply leaves
--- all caches
-abbrev pub SourcesAfter : {K D : Type 0} → GrantEvent K → GrantReply K → GrantState K D → GrantState K D → Type 0
+-- a source that is found and handed to the granter is the one found, and its call's cache holds it; every
+-- other reply leaves all caches
+abbrev pub SourcesAfter : {K D : Type 0} → GrantEvent K → GrantReply K → GrantState K D
+    → GrantState K D → Type 0
 SourcesAfter (Provided call now (Found c)) (Grant source) old new = (source ≡ c) × Caches call c old new
 SourcesAfter event reply old new = new.caches ≡ old.caches
 
@@ -37,16 +38,21 @@ abbrev pub RunsOutAtBegins : {K : Type 0} → GrantEvent K → GrantReply K → 
 RunsOutAtBegins event reply = reply ≡ OutOfMemory → BeginsGrant event
 
 -- what a caller knows of a step at this event: the desk before it, its reply, and the desk after it
-pub record IsGrantStep {K D : Type 0} (policy : Policy K D) (event : GrantEvent K) (old : GrantState K D) (reply : GrantReply K) (new : GrantState K D) : Type 0 where
-  pub represents : (entries : List (GrantEntry K)) → GrantRepresents policy old entries → GrantRepresents policy new (entries ++ record { event = event; reply = reply } ∷ [])
-  pub expected : (entries : List (GrantEntry K)) → GrantRepresents policy old entries → IsLegalGrantEntry policy (setup_of old) (committed_grants entries) (record { event = event; reply = reply })
+pub record IsGrantStep {K D : Type 0} (policy : Policy K D) (event : GrantEvent K) (old : GrantState K D)
+    (reply : GrantReply K) (new : GrantState K D) : Type 0 where
+  pub represents : (entries : List (GrantEntry K)) → GrantRepresents policy old entries
+      → GrantRepresents policy new (entries ++ record { event = event; reply = reply } ∷ [])
+  pub expected : (entries : List (GrantEntry K)) → GrantRepresents policy old entries
+      → IsLegalGrantEntry policy (setup_of old) (committed_grants entries)
+          (record { event = event; reply = reply })
   pub causes : IsGrantCaused (grant_cause_of policy old event) reply
   pub caches : SourcesAfter event reply old new
   pub setup : setup_of new ≡ setup_of old
   pub unchanged : GrantUnchangedBy reply old new
 
 -- each event in turn has the reply at its place, by a step from the desk that the step before it left
-abbrev pub AreGrantSteps : {K D : Type 0} → Policy K D → List (GrantEvent K) → List (GrantReply K) → GrantState K D → GrantState K D → Type 0
+abbrev pub AreGrantSteps : {K D : Type 0} → Policy K D → List (GrantEvent K) → List (GrantReply K)
+    → GrantState K D → GrantState K D → Type 0
 AreGrantSteps policy events replies old new = StepsBy (IsGrantStep policy) events replies old new
 
 -- an event with its reply

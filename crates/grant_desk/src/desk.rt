@@ -1,10 +1,10 @@
 //! The desk of a granter: events in, one reply each. It asks nobody and waits for nobody: what providers and
 //! granters answer comes in as events.
 //!
-//! No lock stands round a cache. A call looks at its cache at its first poll: a source that is fresh and lasts
-//! to the call's deadline is handed to the granter, and else the call loads, also where another call of the
-//! cache loads already. What it finds is cached where it is handed to the granter, in place of what the cache
-//! held. What the granter makes goes to the call and into no cache.
+//! No lock stands round a cache. A call looks at its cache at its first poll: a source that is fresh and
+//! lasts to the call's deadline is handed to the granter, and else the call loads, also where another call of
+//! the cache loads already. What it finds is cached where it is handed to the granter, in place of what the
+//! cache held. What the granter makes goes to the call and into no cache.
 //!
 //! Contracts see a desk as the record `GrantState`, and compare it with the transcript of all events and
 //! replies by `GrantRepresents`: the desk replies what the definitions expect of the transcript alone.
@@ -138,7 +138,8 @@ impl<K: SigningCredential, D: DeadlineRule<Credential = K>> GrantDesk<K, D> {
         requires rules { length self.old.rules < 4294967295 }
         requires handles { length self.old.handles < 4294967295 }
         ensures answer { AddAnswerBack (late_refusal self.old) (length self.old.handles) result }
-        ensures added { OnOk result (self.new ≡ with_handle cache (length self.old.rules) (with_rule rule self.old)) }
+        ensures added { OnOk result
+            (self.new ≡ with_handle cache (length self.old.rules) (with_rule rule self.old)) }
         ensures fresh { OnOk result (GrantRepresents (policy_of K.valid K.valid_at D.deadline) self.new []) }
         ensures unchanged { IfErr result (λ refused. (refused.back ≡ rule) × (self.new ≡ self.old)) }
     {
@@ -167,7 +168,8 @@ impl<K: SigningCredential, D: DeadlineRule<Credential = K>> GrantDesk<K, D> {
         requires caches { length self.old.loaders < 4294967295 }
         requires handles { length self.old.handles < 4294967295 }
         ensures answer { AddAnswer (late_refusal self.old) (length self.old.handles) result }
-        ensures added { OnOk result (self.new ≡ with_handle (length self.old.loaders) rule (with_source loader self.old)) }
+        ensures added { OnOk result
+            (self.new ≡ with_handle (length self.old.loaders) rule (with_source loader self.old)) }
         ensures fresh { OnOk result (GrantRepresents (policy_of K.valid K.valid_at D.deadline) self.new []) }
         ensures unchanged { OnErr result (self.new ≡ self.old) }
     {
@@ -240,8 +242,10 @@ impl<K: SigningCredential, D: DeadlineRule<Credential = K>> GrantDesk<K, D> {
     /// Whether no call was begun. Such a desk represents the empty transcript.
     pub fn is_fresh(&self) -> bool
         ensures flag { result ≡ not self.now.started }
-        ensures empty { result ≡ true → GrantRepresents (policy_of K.valid K.valid_at D.deadline) self.now [] }
-        ensures begins { (entries : List (GrantEntry K)) → GrantRepresents (policy_of K.valid K.valid_at D.deadline) self.now entries
+        ensures empty { result ≡ true
+            → GrantRepresents (policy_of K.valid K.valid_at D.deadline) self.now [] }
+        ensures begins { (entries : List (GrantEntry K))
+            → GrantRepresents (policy_of K.valid K.valid_at D.deadline) self.now entries
             → result ≡ not (was_begun (as_signer (committed_grants entries))) }
     {
         !self.tables.is_started()
@@ -255,8 +259,10 @@ impl<K: SigningCredential, D: DeadlineRule<Credential = K>> GrantDesk<K, D> {
     /// only where memory is taken: at a begin, and where a source is handed to the granter or its
     /// credential to the call, unless clones take none. Both change nothing.
     pub fn step(&mut self, event: &GrantEvent<K>) -> GrantReply<K>
-        ensures step { IsGrantStep (policy_of K.valid K.valid_at D.deadline) event.now self.old result self.new }
-        ensures transition { GrantTransition (policy_of K.valid K.valid_at D.deadline) event.now self.old result self.new }
+        ensures step { IsGrantStep (policy_of K.valid K.valid_at D.deadline)
+            event.now self.old result self.new }
+        ensures transition { GrantTransition (policy_of K.valid K.valid_at D.deadline)
+            event.now self.old result self.new }
         ensures memory { ClonesAreFree K.clones_freely → RunsOutAtBegins event.now result }
         ensures sound { GrantPrecondition self.old }
     {
@@ -270,10 +276,12 @@ impl<K: SigningCredential, D: DeadlineRule<Credential = K>> GrantDesk<K, D> {
     pub fn run(&mut self, events: &[GrantEvent<K>]) -> Result<Vec<GrantReply<K>>, RunError>
         ensures replies { IfOk result (λ replies. length replies.items ≡ length events.now) }
         ensures steps { IfOk result (λ replies.
-            AreGrantSteps (policy_of K.valid K.valid_at D.deadline) events.now replies.items self.old self.new) }
+            AreGrantSteps (policy_of K.valid K.valid_at D.deadline)
+                events.now replies.items self.old self.new) }
         ensures represents { IfOk result (λ replies. (entries : List (GrantEntry K))
             → GrantRepresents (policy_of K.valid K.valid_at D.deadline) self.old entries
-            → GrantRepresents (policy_of K.valid K.valid_at D.deadline) self.new (entries ++ paired_grants events.now replies.items)) }
+            → GrantRepresents (policy_of K.valid K.valid_at D.deadline) self.new
+                (entries ++ paired_grants events.now replies.items)) }
         ensures setup { setup_of self.new ≡ setup_of self.old }
         ensures unchanged { OnErr result (self.new ≡ self.old) }
         ensures none { events.now ≡ [] → IsOk result }

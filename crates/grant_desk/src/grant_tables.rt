@@ -83,7 +83,8 @@ impl<K: SigningCredential, D: DeadlineRule<Credential = K>> GrantTables<K, D> {
     /// Adds a rule and a handle with it, or hands the rule back.
     pub fn add_handle_with_rule(&mut self, cache: u32, rule: D) -> Result<(), D>
         requires { length self.old.rules < 4294967296 }
-        ensures added { OnOk result (self.new ≡ with_handle cache (length self.old.rules) (with_rule rule self.old)) }
+        ensures added { OnOk result
+            (self.new ≡ with_handle cache (length self.old.rules) (with_rule rule self.old)) }
         ensures unchanged { OnErr result (self.new ≡ self.old) }
         ensures back { IfErr result (λ back. back ≡ rule) }
     {
@@ -93,7 +94,8 @@ impl<K: SigningCredential, D: DeadlineRule<Credential = K>> GrantTables<K, D> {
     /// Adds an empty cache and a handle on it, or changes nothing.
     pub fn add_handle_with_cache(&mut self, loader: Loader, rule: u32) -> Result<(), AllocError>
         requires { length self.old.loaders < 4294967296 }
-        ensures added { OnOk result (self.new ≡ with_handle (length self.old.loaders) rule (with_source loader self.old)) }
+        ensures added { OnOk result
+            (self.new ≡ with_handle (length self.old.loaders) rule (with_source loader self.old)) }
         ensures unchanged { OnErr result (self.new ≡ self.old) }
     {
         self.tables.add_handle_with_cache(loader, (), rule)

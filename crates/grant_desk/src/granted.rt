@@ -35,7 +35,8 @@ impl<K: SigningCredential, D: DeadlineRule<Credential = K>> GrantTables<K, D> {
 
     /// What the granter made. A call that is refused takes no memory.
     fn give(&mut self, call: CallId, now: Timestamp, made: &K) -> GrantReply<K>
-        ensures done { GrantPerforms (made_action (policy_of K.valid K.valid_at D.deadline) self.old now made.now)
+        ensures done { GrantPerforms
+            (made_action (policy_of K.valid K.valid_at D.deadline) self.old now made.now)
             call self.old result self.new }
         ensures memory { ClonesAreFree K.clones_freely → result ≢ OutOfMemory }
     {

@@ -25,8 +25,8 @@ impl<K: SigningCredential, D: DeadlineRule<Credential = K>> GrantTables<K, D> {
     /// A provider's answer.
     pub fn provided(&mut self, call: CallId, now: Timestamp, answer: &Answer<K>) -> GrantReply<K>
         requires { GrantPrecondition self.old }
-        ensures done { GrantTransition (policy_of K.valid K.valid_at D.deadline) (Provided call now answer.now)
-            self.old result self.new }
+        ensures done { GrantTransition (policy_of K.valid K.valid_at D.deadline)
+            (Provided call now answer.now) self.old result self.new }
         ensures memory { ClonesAreFree K.clones_freely → result ≢ OutOfMemory }
     {
         let Some(view) = self.find(call) else {
@@ -42,7 +42,8 @@ impl<K: SigningCredential, D: DeadlineRule<Credential = K>> GrantTables<K, D> {
     fn load(&mut self, view: LiveCallView, now: Timestamp, answer: &Answer<K>) -> GrantReply<K>
         requires placed { IsGrantPlaced self.old view }
         requires loading { view.stage ≡ Loading }
-        ensures done { GrantPerforms (grant_load_action (policy_of K.valid K.valid_at D.deadline) self.old now answer.now view)
+        ensures done { GrantPerforms
+            (grant_load_action (policy_of K.valid K.valid_at D.deadline) self.old now answer.now view)
             view.call self.old result self.new }
         ensures memory { ClonesAreFree K.clones_freely → result ≢ OutOfMemory }
     {
@@ -61,7 +62,8 @@ impl<K: SigningCredential, D: DeadlineRule<Credential = K>> GrantTables<K, D> {
         requires cached { view.cache < length self.old.caches }
         requires rule { view.rule < length self.old.rules }
         ensures done { GrantPerforms (progress_action (λ c. with_cached c view self.old) self.old view
-            (desk_load (policy_of K.valid K.valid_at D.deadline) self.old now view (Found found.now))) view.call self.old result self.new }
+            (desk_load (policy_of K.valid K.valid_at D.deadline) self.old now view (Found found.now)))
+            view.call self.old result self.new }
         ensures memory { ClonesAreFree K.clones_freely → result ≢ OutOfMemory }
     {
         if let Err(why) = self.tables.check(view, now, found) {
@@ -82,7 +84,8 @@ impl<K: SigningCredential, D: DeadlineRule<Credential = K>> GrantTables<K, D> {
         requires live { IsSome (find_call view.call self.old.calls) }
         requires loader { view.cache < length self.old.loaders }
         ensures done { GrantPerforms (progress_action (λ c. with_cached c view self.old) self.old view
-            (next_load (slice_get self.old.loaders view.cache) view.answers single)) view.call self.old result self.new }
+            (next_load (slice_get self.old.loaders view.cache) view.answers single))
+            view.call self.old result self.new }
         ensures memory { result ≢ OutOfMemory }
     {
         match self.tables.loader_at(view.cache) {

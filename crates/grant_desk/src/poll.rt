@@ -20,7 +20,8 @@ impl<K: SigningCredential, D: DeadlineRule<Credential = K>> GrantTables<K, D> {
     /// A poll.
     pub fn poll(&mut self, call: CallId, now: Timestamp) -> GrantReply<K>
         requires { GrantPrecondition self.old }
-        ensures done { GrantTransition (policy_of K.valid K.valid_at D.deadline) (Poll call now) self.old result self.new }
+        ensures done { GrantTransition (policy_of K.valid K.valid_at D.deadline)
+            (Poll call now) self.old result self.new }
         ensures memory { ClonesAreFree K.clones_freely → result ≢ OutOfMemory }
     {
         let Some(view) = self.find(call) else {

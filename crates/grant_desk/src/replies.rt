@@ -17,7 +17,8 @@ impl<K: SigningCredential, D: DeadlineRule<Credential = K>> GrantTables<K, D> {
     /// The call loads, and waits for the answer of this provider.
     pub fn ask(&mut self, view: LiveCallView, provider: u32) -> GrantReply<K>
         requires { IsSome (find_call view.call self.old.calls) }
-        ensures { TakesEffect (live_effect self.old (record view { stage = Loading }) (Ask provider)) view.call result self.new }
+        ensures { TakesEffect (live_effect self.old (record view { stage = Loading }) (Ask provider))
+            view.call result self.new }
     {
         self.tables.note_progress(LiveCallView {
             stage: Stage::Loading,
@@ -29,7 +30,8 @@ impl<K: SigningCredential, D: DeadlineRule<Credential = K>> GrantTables<K, D> {
     /// The granter makes a credential from this source for the call, which waits for it.
     pub fn grant(&mut self, view: LiveCallView, source: K) -> GrantReply<K>
         requires { IsSome (find_call view.call self.old.calls) }
-        ensures { TakesEffect (live_effect self.old (record view { stage = Signing }) (Grant source)) view.call result self.new }
+        ensures { TakesEffect (live_effect self.old (record view { stage = Signing }) (Grant source))
+            view.call result self.new }
     {
         self.tables.note_progress(LiveCallView {
             stage: Stage::Signing,

@@ -21,7 +21,8 @@ impl<K: SigningCredential, D: DeadlineRule<Credential = K>> GrantTables<K, D> {
     /// One event.
     pub fn step(&mut self, event: &GrantEvent<K>) -> GrantReply<K>
         requires { GrantPrecondition self.old }
-        ensures done { GrantTransition (policy_of K.valid K.valid_at D.deadline) event.now self.old result self.new }
+        ensures done { GrantTransition (policy_of K.valid K.valid_at D.deadline)
+            event.now self.old result self.new }
         ensures memory { ClonesAreFree K.clones_freely → RunsOutAtBegins event.now result }
     {
         match event {
@@ -35,7 +36,8 @@ impl<K: SigningCredential, D: DeadlineRule<Credential = K>> GrantTables<K, D> {
 
     /// A begin: the call's record is taken, or nothing is.
     fn begin(&mut self, call: CallId, expires_in: Option<Duration>) -> GrantReply<K>
-        ensures { GrantTransition (policy_of K.valid K.valid_at D.deadline) (Begin call expires_in) self.old result self.new }
+        ensures { GrantTransition (policy_of K.valid K.valid_at D.deadline)
+            (Begin call expires_in) self.old result self.new }
     {
         if !self.tables.begin_fits(call) {
             return GrantReply::NotNow;
@@ -55,7 +57,8 @@ impl<K: SigningCredential, D: DeadlineRule<Credential = K>> GrantTables<K, D> {
     /// A cancel, which ends any live call.
     fn cancel(&mut self, call: CallId) -> GrantReply<K>
         requires { GrantPrecondition self.old }
-        ensures done { GrantTransition (policy_of K.valid K.valid_at D.deadline) (Cancel call) self.old result self.new }
+        ensures done { GrantTransition (policy_of K.valid K.valid_at D.deadline)
+            (Cancel call) self.old result self.new }
         ensures memory { result ≢ OutOfMemory }
     {
         if self.find(call).is_none() {

@@ -178,7 +178,8 @@ fn add_each(
 }
 
 fn has_handle_and_room(granter: &Granter<Source, Issuer>) -> bool
-    ensures { IsTrue result → (0 < length granter.now.desk.handles) × (length granter.now.desk.handles < 4294967295) }
+    ensures { IsTrue result
+        → (0 < length granter.now.desk.handles) × (length granter.now.desk.handles < 4294967295) }
 {
     let handles = granter.desk().handles();
     0 < handles && handles < u32::MAX

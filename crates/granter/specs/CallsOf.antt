@@ -14,7 +14,10 @@ module _ {P G K C L W : Type 0} where
   state_back (OutOfMemory grant) = Some grant
   state_back _ = None
 
-  -- there are as many as were begun, and a state stands at the number of its call and was issued by this granter
-  pub record AreCallsOf (m : Meanings P G K C L W) (granter : GranterState P G K C) (calls : List (Option (Grant P G K C L C W K))) : Type 0 where
+  -- there are as many as were begun, and a state stands at the number of its call
+  -- and was issued by this granter
+  pub record AreCallsOf (m : Meanings P G K C L W) (granter : GranterState P G K C)
+      (calls : List (Option (Grant P G K C L C W K))) : Type 0 where
     pub begun : length calls ≡ granter.begun
-    pub at : (n : ℕ) (grant : Grant P G K C L C W K) → slice_get calls n ≡ Some (Some grant) → (grant.begun.id.number ≡ n) × IsGrantIssuedBy m granter grant
+    pub at : (n : ℕ) (grant : Grant P G K C L C W K) → slice_get calls n ≡ Some (Some grant)
+        → (grant.begun.id.number ≡ n) × IsGrantIssuedBy m granter grant

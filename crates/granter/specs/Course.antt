@@ -51,8 +51,8 @@ pub record PollRun (K L W : Type 0) : Type 0 where
   pub entries : List (GrantEntry K)
   pub end : PollEnd K L W
 
--- a call that is polled: which credentials' clones take no memory, what its objects mean, what it was begun with, and the moment of
--- the poll
+-- a call that is polled: which credentials' clones take no memory, what its objects mean, what it was begun
+-- with, and the moment of the poll
 pub record PolledCall (K D L W : Type 0) : Type 1 where
   pub policy : Policy K D
   pub clones_freely : K → Type 0
@@ -86,46 +86,65 @@ module _ {K L W : Type 0} where
   IsRefusal m state (why.Short deadline) (refusal.Short moment) = moment ≡ deadline
   IsRefusal m state why.Range refusal.Range = Unit {0}
   IsRefusal m (Loading provider l) (why.Loader n) (refusal.Loader e) = m.load_gives provider (polled.Failed e)
-  IsRefusal m (Granting source w) (why.Service n) (refusal.Service e) = m.work_gives source (polled.Failed e) × IsWorkOpen w
+  IsRefusal m (Granting source w) (why.Service n) (refusal.Service e) =
+      m.work_gives source (polled.Failed e) × IsWorkOpen w
   IsRefusal m state (why.Stale checked) (refusal.Stale moment) = moment ≡ checked
   IsRefusal m state cause refused = ⊥
 
-  -- the poll ends by this reply; where the desk had no memory, the call has the very answer that the desk was given
-  abbrev pub EndsBy : CallMeaning K L W → CallState K L W → GrantEvent K → GrantReply K → PollEnd K L W → Type 0
+  -- the poll ends by this reply; where the desk had no memory, the call has the very
+  -- answer that the desk was given
+  abbrev pub EndsBy : CallMeaning K L W → CallState K L W → GrantEvent K → GrantReply K
+      → PollEnd K L W → Type 0
   EndsBy m Waiting event reply.OutOfMemory (RunsOut Waiting) = Unit {0}
-  EndsBy m (Loading provider l) (Provided call now (Found source)) reply.OutOfMemory (RunsOut left) = left ≡ Loading provider (load.Found source)
-  EndsBy m (Granting source w) (Granted call now (made.Made credential)) reply.OutOfMemory (RunsOut left) = left ≡ Granting source (work.Made credential)
-  EndsBy m state (Granted call now (made.Made credential)) (reply.Given handed) (Gives given) = (handed ≡ credential) × (given ≡ credential)
+  EndsBy m (Loading provider l) (Provided call now (Found source)) reply.OutOfMemory (RunsOut left) =
+      left ≡ Loading provider (load.Found source)
+  EndsBy m (Granting source w) (Granted call now (made.Made credential)) reply.OutOfMemory (RunsOut left) =
+      left ≡ Granting source (work.Made credential)
+  EndsBy m state (Granted call now (made.Made credential)) (reply.Given handed) (Gives given) =
+      (handed ≡ credential) × (given ≡ credential)
   EndsBy m state event (reply.Refused cause) (Refuses refused) = IsRefusal m state cause refused
   EndsBy m state event answered end = ⊥
 
   -- the poll ends without an event: the object that is asked is not ready, or has no memory
   abbrev pub StopsAt : CallMeaning K L W → CallState K L W → PollEnd K L W → Type 0
-  StopsAt m (Loading provider l) (Pends (Loading same (load.Started left))) = (same ≡ provider) × IsLoadPending (m.load_started provider) (m.load_ready provider) l
-  StopsAt m (Loading provider l) (RunsOut (Loading same left)) = (same ≡ provider) × LoadRunsOut (m.load_gives provider) l left
-  StopsAt m (Granting source w) (Pends (Granting same (work.Started left))) = (same ≡ source) × IsWorkPending (m.work_started source) m.work_ready w
-  StopsAt m (Granting source w) (RunsOut (Granting same left)) = (same ≡ source) × WorkRunsOut (m.work_gives source) w left
+  StopsAt m (Loading provider l) (Pends (Loading same (load.Started left))) =
+      (same ≡ provider) × IsLoadPending (m.load_started provider) (m.load_ready provider) l
+  StopsAt m (Loading provider l) (RunsOut (Loading same left)) =
+      (same ≡ provider) × LoadRunsOut (m.load_gives provider) l left
+  StopsAt m (Granting source w) (Pends (Granting same (work.Started left))) =
+      (same ≡ source) × IsWorkPending (m.work_started source) m.work_ready w
+  StopsAt m (Granting source w) (RunsOut (Granting same left)) =
+      (same ≡ source) × WorkRunsOut (m.work_gives source) w left
   StopsAt m state end = ⊥
 
 module _ {K D L W : Type 0} (v : PolledCall K D L W) where
   -- the event is of the call, at the moment of the poll, and the object that is asked gives its answer
   abbrev pub IsGiven : CallState K L W → GrantEvent K → Type 0
   IsGiven Waiting (Poll call now) = (call ≡ v.begun.id) × (now ≡ v.now)
-  IsGiven (Loading provider l) (Provided call now given) = (call ≡ v.begun.id) × (now ≡ v.now) × IsAnswerGiven (v.meaning.load_gives provider) l given
-  IsGiven (Granting source w) (Granted call now given) = (call ≡ v.begun.id) × (now ≡ v.now) × IsMadeGiven (v.meaning.work_gives source) w given
+  IsGiven (Loading provider l) (Provided call now given) =
+      (call ≡ v.begun.id) × (now ≡ v.now) × IsAnswerGiven (v.meaning.load_gives provider) l given
+  IsGiven (Granting source w) (Granted call now given) =
+      (call ≡ v.begun.id) × (now ≡ v.now) × IsMadeGiven (v.meaning.work_gives source) w given
   IsGiven state event = ⊥
 
   -- from a call in this state and this desk, the poll has this run, and leaves this desk
   pub data IsCourse : CallState K L W → GrantState K D → PollRun K L W → GrantState K D → Type 0 where
-    stops : (state : CallState K L W) (desk : GrantState K D) (end : PollEnd K L W) → StopsAt v.meaning state end
+    stops : (state : CallState K L W) (desk : GrantState K D) (end : PollEnd K L W)
+        → StopsAt v.meaning state end
         → IsCourse state desk (record { entries = []; end = end }) desk
-    ends : (state : CallState K L W) (old new : GrantState K D) (event : GrantEvent K) (answered : GrantReply K) (end : PollEnd K L W)
-        → IsGiven state event → IsGrantStep v.policy event old answered new → (ClonesAreFree v.clones_freely → RunsOutAtBegins event answered)
+    ends : (state : CallState K L W) (old new : GrantState K D) (event : GrantEvent K)
+        (answered : GrantReply K) (end : PollEnd K L W)
+        → IsGiven state event → IsGrantStep v.policy event old answered new
+        → (ClonesAreFree v.clones_freely → RunsOutAtBegins event answered)
         → EndsBy v.meaning state event answered end
-        → IsCourse state old (record { entries = record { event = event; reply = answered } ∷ []; end = end }) new
-    goes_on : (state next : CallState K L W) (old between new : GrantState K D) (event : GrantEvent K) (answered : GrantReply K) (run : PollRun K L W)
-        → IsGiven state event → IsGrantStep v.policy event old answered between → state_after answered ≡ Some next → IsCourse next between run new
-        → IsCourse state old (record { entries = record { event = event; reply = answered } ∷ run.entries; end = run.end }) new
+        → IsCourse state old
+            (record { entries = record { event = event; reply = answered } ∷ []; end = end }) new
+    goes_on : (state next : CallState K L W) (old between new : GrantState K D) (event : GrantEvent K)
+        (answered : GrantReply K) (run : PollRun K L W)
+        → IsGiven state event → IsGrantStep v.policy event old answered between
+        → state_after answered ≡ Some next → IsCourse next between run new
+        → IsCourse state old
+            (record { entries = record { event = event; reply = answered } ∷ run.entries; end = run.end }) new
 
 module _ {P G K C L W : Type 0} where
   -- the answer is that of the end
@@ -137,26 +156,40 @@ module _ {P G K C L W : Type 0} where
   IsEnd given end = ⊥
 
   -- a state that is handed back is one that was issued for the call
-  abbrev pub IsAnswerIssued : {D : Type 0} → CallMeaning K L W → BegunCall → GrantState K D → GrantPoll P G K C L C W K → Type 0
-  IsAnswerIssued m begun desk (answer.Pending grant) = (grant.begun ≡ begun) × IsStateIssued m begun desk grant.state
-  IsAnswerIssued m begun desk (answer.OutOfMemory grant) = (grant.begun ≡ begun) × IsStateIssued m begun desk grant.state
+  abbrev pub IsAnswerIssued : {D : Type 0} → CallMeaning K L W → BegunCall → GrantState K D
+      → GrantPoll P G K C L C W K → Type 0
+  IsAnswerIssued m begun desk (answer.Pending grant) =
+      (grant.begun ≡ begun) × IsStateIssued m begun desk grant.state
+  IsAnswerIssued m begun desk (answer.OutOfMemory grant) =
+      (grant.begun ≡ begun) × IsStateIssued m begun desk grant.state
   IsAnswerIssued m begun desk (answer.Given credential) = Unit {0}
   IsAnswerIssued m begun desk (answer.Refused refused) = Unit {0}
 
 -- a call in this state is driven by these events of the desk, and ends by them
-pub record IsDriven {P G K C D L W : Type 0} (v : PolledCall K D L W) (state : CallState K L W) (old new : GrantState K D) (poll : GrantPoll P G K C L C W K) : Type 0 where
+pub record IsDriven {P G K C D L W : Type 0} (v : PolledCall K D L W) (state : CallState K L W)
+    (old new : GrantState K D) (poll : GrantPoll P G K C L C W K) : Type 0 where
   pub run : PollRun K L W
   pub course : IsCourse v state old run new
   pub end : IsEnd poll run.end
   pub issued : IsAnswerIssued v.meaning v.begun new poll
   pub others : LeavesOthers v.begun.id old new
 
--- the poll of a call in this state: whatever transcript the desk represents, it then represents that with the events of the poll
-pub record IsGrantPoll {P G K C D L W : Type 0} (v : PolledCall K D L W) (state : CallState K L W) (old new : GrantState K D) (poll : GrantPoll P G K C L C W K) : Type 0 where
+-- the poll of a call in this state: whatever transcript the desk represents, it then represents
+-- that with the events of the poll
+pub record IsGrantPoll {P G K C D L W : Type 0} (v : PolledCall K D L W) (state : CallState K L W)
+    (old new : GrantState K D) (poll : GrantPoll P G K C L C W K) : Type 0 where
   pub driven : IsDriven v state old new poll
-  pub represents : (entries : List (GrantEntry K)) → GrantRepresents v.policy old entries → GrantRepresents v.policy new (entries ++ driven.run.entries)
+  pub represents : (entries : List (GrantEntry K)) → GrantRepresents v.policy old entries
+      → GrantRepresents v.policy new (entries ++ driven.run.entries)
 
 -- the call that is polled, with these objects
-abbrev pub polled_call : {P G K C L W : Type 0} → Policy K G → (K → Type 0) → Meanings P G K C L W → Objects P G C → BegunCall → ℤ → PolledCall K G L W
+abbrev pub polled_call : {P G K C L W : Type 0} → Policy K G → (K → Type 0) → Meanings P G K C L W
+    → Objects P G C → BegunCall → ℤ → PolledCall K G L W
 polled_call policy clones_freely m objects begun now =
-    record { policy = policy; clones_freely = clones_freely; meaning = call_meaning m begun objects; begun = begun; now = now }
+    record {
+      policy = policy;
+      clones_freely = clones_freely;
+      meaning = call_meaning m begun objects;
+      begun = begun;
+      now = now
+    }

@@ -39,7 +39,8 @@ pub record IsBegun {K D : Type 0} (begun : BegunCall) (old new : GrantState K D)
   pub rules : new.rules ≡ old.rules
   pub handles : new.handles ≡ old.handles
   pub greatest : new.greatest ≡ slice_set old.greatest begun.id.handle (Some begun.id.number)
-  pub other_calls : (other : CallId) → same_call begun.id other ≡ false → find_call other new.calls ≡ find_call other old.calls
+  pub other_calls : (other : CallId) → same_call begun.id other ≡ false
+      → find_call other new.calls ≡ find_call other old.calls
 
 -- a poll of a call that has not looked at its cache yet
 abbrev pub AfterPoll : {K D : Type 0} → BegunCall → GrantReply K → GrantState K D → Type 0

@@ -21,7 +21,8 @@ pub record Meanings (P G K C L W : Type 0) : Type 1 where
   pub work_gives : G → C → Operation K → Polled K → Type 0
 
 -- the meanings of a type of providers and a type of services
-abbrev pub meanings_of : {P G K C L W : Type 0} → ProvideCredential.Ghosts P K C L → GrantCredential.Ghosts G C W K → Meanings P G K C L W
+abbrev pub meanings_of : {P G K C L W : Type 0} → ProvideCredential.Ghosts P K C L
+    → GrantCredential.Ghosts G C W K → Meanings P G K C L W
 meanings_of provider service = record {
   load_started = provider.started;
   load_ready = provider.ready;
@@ -39,7 +40,8 @@ pub record Objects (P G C : Type 0) : Type 0 where
 
 -- the objects, where each is there
 abbrev pub objects_by : {P G C : Type 0} → Option (Providers P) → Option C → Option G → Option (Objects P G C)
-objects_by (Some providers) (Some ctx) (Some service) = Some (record { providers = providers; ctx = ctx; service = service })
+objects_by (Some providers) (Some ctx) (Some service) =
+    Some (record { providers = providers; ctx = ctx; service = service })
 objects_by providers ctx service = None
 
 -- the service of a handle
@@ -64,7 +66,8 @@ pub record CallMeaning (K L W : Type 0) : Type 1 where
   pub work_gives : K → Polled K → Type 0
 
 -- what these objects mean for the call
-abbrev pub call_meaning : {P G K C L W : Type 0} → Meanings P G K C L W → BegunCall → Objects P G C → CallMeaning K L W
+abbrev pub call_meaning : {P G K C L W : Type 0} → Meanings P G K C L W → BegunCall → Objects P G C
+    → CallMeaning K L W
 call_meaning m begun o = record {
   load_started = λ place load. IsSomeAnd (provider_at o.providers place) (λ p. m.load_started p o.ctx load);
   load_ready = λ place load. IsSomeAnd (provider_at o.providers place) (λ p. m.load_ready p o.ctx load);
@@ -76,4 +79,5 @@ call_meaning m begun o = record {
 
 -- the objects of a call whose service is this one
 abbrev pub with_service : {P G C : Type 0} → CallObjects P C → G → Objects P G C
-with_service objects service = record { providers = objects.providers.now; ctx = objects.ctx.now; service = service }
+with_service objects service =
+    record { providers = objects.providers.now; ctx = objects.ctx.now; service = service }

@@ -30,6 +30,8 @@ module _ {K L W : Type 0} (m : CallMeaning K L W) where
   IsStateIssued begun desk (Granting source w) = IsSigning begun desk × IsWorkMade source w
 
 -- this granter issued this state
-abbrev pub IsGrantIssuedBy : {P G K C L W : Type 0} → Meanings P G K C L W → GranterState P G K C → Grant P G K C L C W K → Type 0
+abbrev pub IsGrantIssuedBy : {P G K C L W : Type 0} → Meanings P G K C L W → GranterState P G K C
+    → Grant P G K C L C W K → Type 0
 IsGrantIssuedBy m granter grant =
-    IsSomeAnd (objects_of granter grant.begun.id.handle) (λ o. IsStateIssued (call_meaning m grant.begun o) grant.begun granter.desk grant.state)
+    IsSomeAnd (objects_of granter grant.begun.id.handle)
+    (λ o. IsStateIssued (call_meaning m grant.begun o) grant.begun granter.desk grant.state)

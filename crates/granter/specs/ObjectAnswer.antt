@@ -46,5 +46,6 @@ pub record ServiceMeaning (K W : Type 0) : Type 1 where
 abbrev pub IsWorkAnswer : {K W : Type 0} → ServiceMeaning K W → WorkState K W → WorkAnswer K W → Type 0
 IsWorkAnswer m before (Pending work) = m.started work × IsWorkPending m.started m.ready before
 IsWorkAnswer m before (OutOfMemory kept) = IsWorkKept m.started m.gives kept × WorkRunsOut m.gives before kept
-IsWorkAnswer m before (Made credential) = m.gives (polled.Ready credential) × KeepsWork before (work_state.Made credential)
+IsWorkAnswer m before (Made credential) =
+    m.gives (polled.Ready credential) × KeepsWork before (work_state.Made credential)
 IsWorkAnswer m before (Failed e) = m.gives (polled.Failed e) × IsWorkOpen before

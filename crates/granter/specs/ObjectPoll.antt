@@ -15,7 +15,8 @@ abbrev pub operation_of : {K : Type 0} → BegunCall → K → Operation K
 operation_of begun source = record { credential = source; expires_in = option_map as_nanos begun.expires_in }
 
 -- what a granting service means in a context, for a call with this source
-abbrev pub service_meaning : {G C W K : Type 0} → GrantCredential.Ghosts G C W K → G → C → BegunCall → K → ServiceMeaning K W
+abbrev pub service_meaning : {G C W K : Type 0} → GrantCredential.Ghosts G C W K → G → C → BegunCall → K
+    → ServiceMeaning K W
 service_meaning g service ctx begun source = record {
   started = g.started service ctx (operation_of begun source);
   ready = g.ready service ctx;

@@ -24,7 +24,8 @@ pub record PollContext (P G K C L W : Type 0) : Type 1 where
 module _ {P G K C L W : Type 0} (d : PollContext P G K C L W) where
   -- the call with this service
   abbrev pub call_with : G → PolledCall K G L W
-  call_with service = polled_call d.policy d.clones_freely d.meanings (with_service d.objects service) d.begun d.now
+  call_with service =
+      polled_call d.policy d.clones_freely d.meanings (with_service d.objects service) d.begun d.now
 
   -- this service is the call's
   abbrev pub IsService : GrantState K G → G → Type 0
@@ -32,12 +33,17 @@ module _ {P G K C L W : Type 0} (d : PollContext P G K C L W) where
 
   -- the state was issued for the call
   abbrev pub IsIssuedFor : GrantState K G → CallState K L W → Type 0
-  IsIssuedFor desk state = (service : G) → IsService desk service → IsStateIssued (call_meaning d.meanings d.begun (with_service d.objects service)) d.begun desk state
+  IsIssuedFor desk state =
+      (service : G) → IsService desk service
+      → IsStateIssued (call_meaning d.meanings d.begun (with_service d.objects service)) d.begun desk state
 
   -- the step of the call in this state
   abbrev pub IsOutcomeWith : CallState K L W → StepChange K G → StepFlow K L W → Type 0
-  IsOutcomeWith state change flow = (service : G) → IsService change.old service → IsStepOutcome (call_with service) state change flow
+  IsOutcomeWith state change flow =
+      (service : G) → IsService change.old service → IsStepOutcome (call_with service) state change flow
 
   -- the call in this state is driven by events of the desk, and ends by them
-  abbrev pub IsDrivenFrom : CallState K L W → GrantState K G → GrantState K G → GrantPoll P G K C L C W K → Type 0
-  IsDrivenFrom state old new poll = (service : G) → IsService old service → IsDriven (call_with service) state old new poll
+  abbrev pub IsDrivenFrom : CallState K L W → GrantState K G → GrantState K G
+      → GrantPoll P G K C L C W K → Type 0
+  IsDrivenFrom state old new poll =
+      (service : G) → IsService old service → IsDriven (call_with service) state old new poll

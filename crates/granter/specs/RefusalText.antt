@@ -10,9 +10,11 @@ missing_error name = credential_error (codes "failed to load source credential")
 -- the loaded source does not last to the deadline
 abbrev pub short_error : List ℕ → ℤ → ErrorParts
 short_error name deadline =
-    credential_error_with (codes "refreshed source credential expires before the granting deadline") name (moment_line (codes "required_valid_until") deadline)
+    credential_error_with (codes "refreshed source credential expires before the granting deadline") name
+    (moment_line (codes "required_valid_until") deadline)
 
 -- the granted credential is not valid at this moment
 abbrev pub stale_error : List ℕ → ℤ → ErrorParts
 stale_error name moment =
-    credential_error_with (codes "granted credential is not currently usable") name (moment_line (codes "validated_at") moment)
+    credential_error_with (codes "granted credential is not currently usable") name
+    (moment_line (codes "validated_at") moment)

@@ -55,7 +55,8 @@ module _ {K D L W : Type 0} (v : PolledCall K D L W) where
   IsEndIssued desk (Refused refused) = Unit {0}
 
   -- the step makes an event of the desk, by whose reply the call goes on from the next state
-  pub record GoesOn (state : CallState K L W) (change : StepChange K D) (next : CallState K L W) : Type 0 where
+  pub record GoesOn (state : CallState K L W) (change : StepChange K D)
+      (next : CallState K L W) : Type 0 where
     pub event : GrantEvent K
     pub answered : GrantReply K
     pub given : IsGiven v state event

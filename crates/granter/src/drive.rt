@@ -32,9 +32,12 @@ pub(crate) fn begin_call<K: SigningCredential, D: DeadlineRule<Credential = K>>(
     expires_in: Option<Duration>,
 ) -> Result<(), NoMemory<()>>
     requires there { IsSome (slice_get desk.old.handles call.handle) }
-    requires above { IfSome (slice_get desk.old.greatest call.handle) (λ greatest. is_above call.number greatest ≡ true) }
-    ensures step { OnOk result (IsGrantStep (policy_of K.valid K.valid_at D.deadline) (Begin call expires_in) desk.old Begun desk.new) }
-    ensures begun { OnOk result (IsBegun (record { id = call; head = tt; expires_in = expires_in }) desk.old desk.new) }
+    requires above { IfSome (slice_get desk.old.greatest call.handle)
+        (λ greatest. is_above call.number greatest ≡ true) }
+    ensures step { OnOk result (IsGrantStep (policy_of K.valid K.valid_at D.deadline)
+        (Begin call expires_in) desk.old Begun desk.new) }
+    ensures begun { OnOk result
+        (IsBegun (record { id = call; head = tt; expires_in = expires_in }) desk.old desk.new) }
     ensures unchanged { OnErr result (desk.new ≡ desk.old) }
 {
     match desk.step(&GrantEvent::Begin { call, expires_in }) {
@@ -50,7 +53,8 @@ pub(crate) fn cancel_call<K: SigningCredential, D: DeadlineRule<Credential = K>>
 )
     requires there { IsSome (slice_get desk.old.handles begun.now.id.handle) }
     requires live { IsLive begun.now desk.old }
-    ensures step { IsGrantStep (policy_of K.valid K.valid_at D.deadline) (Cancel begun.now.id) desk.old Cancelled desk.new }
+    ensures step { IsGrantStep (policy_of K.valid K.valid_at D.deadline)
+        (Cancel begun.now.id) desk.old Cancelled desk.new }
     ensures others { LeavesOthers begun.now.id desk.old desk.new }
 {
     let event = GrantEvent::Cancel { call: begun.id };
@@ -65,7 +69,8 @@ pub(crate) fn poll_call<K: SigningCredential, D: DeadlineRule<Credential = K>>(
 ) -> GrantReply<K>
     requires there { IsSome (slice_get desk.old.handles begun.now.id.handle) }
     requires unpolled { IsUnpolled begun.now desk.old }
-    ensures step { IsGrantStep (policy_of K.valid K.valid_at D.deadline) (Poll begun.now.id now) desk.old result desk.new }
+    ensures step { IsGrantStep (policy_of K.valid K.valid_at D.deadline)
+        (Poll begun.now.id now) desk.old result desk.new }
     ensures memory { ClonesAreFree K.clones_freely → RunsOutAtBegins (Poll begun.now.id now) result }
     ensures after { AfterPoll begun.now result desk.new }
     ensures others { LeavesOthers begun.now.id desk.old desk.new }

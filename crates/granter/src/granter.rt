@@ -100,7 +100,8 @@ where
         granter: G,
     ) -> Result<Self, NoMemory<(P::Ctx, Providers<P>, G)>>
         requires { AreFew loader }
-        ensures ok { IfOk result (IsNewGranter (policy_of P.Credential.valid P.Credential.valid_at G.deadline) ctx loader granter) }
+        ensures ok { IfOk result (IsNewGranter (policy_of P.Credential.valid P.Credential.valid_at G.deadline)
+            ctx loader granter) }
         ensures back { IfErr result (λ e. e.back ≡ (ctx, loader, granter)) }
     {
         let loads = loader_of(&loader);
@@ -149,8 +150,10 @@ where
         ensures answer { AddAnswerBack (late_refusal self.old.desk) (length self.old.desk.handles) result }
         ensures added { OnOk result (IfSome (slice_get self.old.desk.handles handle) (λ like.
             IfSome (slice_get self.old.desk.loaders like.cache) (λ loads.
-            self.new ≡ with_context_handle like loads (slice_index self.old.provider_places like.cache) ctx self.old))) }
-        ensures fresh { OnOk result (GrantRepresents (policy_of P.Credential.valid P.Credential.valid_at G.deadline) self.new.desk []) }
+            self.new ≡
+                with_context_handle like loads (slice_index self.old.provider_places like.cache) ctx self.old))) }
+        ensures fresh { OnOk result (GrantRepresents
+            (policy_of P.Credential.valid P.Credential.valid_at G.deadline) self.new.desk []) }
         ensures unchanged { IfErr result (λ refused. (refused.back ≡ ctx) × (self.new ≡ self.old)) }
     {
         let like = self.desk.handle_at(handle).unwrap();
@@ -192,7 +195,8 @@ where
         ensures answer { AddAnswerBack (late_refusal self.old.desk) (length self.old.desk.handles) result }
         ensures added { OnOk result (IfSome (slice_get self.old.desk.handles handle) (λ like.
             self.new ≡ with_cache_handle like (slice_index self.old.context_places handle) loader self.old)) }
-        ensures fresh { OnOk result (GrantRepresents (policy_of P.Credential.valid P.Credential.valid_at G.deadline) self.new.desk []) }
+        ensures fresh { OnOk result (GrantRepresents
+            (policy_of P.Credential.valid P.Credential.valid_at G.deadline) self.new.desk []) }
         ensures unchanged { IfErr result (λ refused. (refused.back ≡ loader) × (self.new ≡ self.old)) }
     {
         let like = self.desk.handle_at(handle).unwrap();
@@ -228,8 +232,10 @@ where
         requires room { length self.old.desk.handles < 4294967295 }
         ensures answer { AddAnswerBack (late_refusal self.old.desk) (length self.old.desk.handles) result }
         ensures added { OnOk result (IfSome (slice_get self.old.desk.handles handle) (λ like.
-            self.new ≡ with_service_handle like (slice_index self.old.context_places handle) granter self.old)) }
-        ensures fresh { OnOk result (GrantRepresents (policy_of P.Credential.valid P.Credential.valid_at G.deadline) self.new.desk []) }
+            self.new ≡
+                with_service_handle like (slice_index self.old.context_places handle) granter self.old)) }
+        ensures fresh { OnOk result (GrantRepresents
+            (policy_of P.Credential.valid P.Credential.valid_at G.deadline) self.new.desk []) }
         ensures unchanged { IfErr result (λ refused. (refused.back ≡ granter) × (self.new ≡ self.old)) }
     {
         let like = self.desk.handle_at(handle).unwrap();
@@ -254,8 +260,11 @@ where
     /// allocation failed. An error begins nothing.
     pub fn grant(&mut self, handle: u32, expires_in: Option<Duration>) -> Result<Grant<P, G>, Error>
         requires { handle < length self.old.desk.handles }
-        ensures ok { IfOk result (λ grant. (grant.begun.id.handle ≡ handle) × (grant.begun.expires_in ≡ expires_in)
-            × Begins (meanings_of P.ProvideCredential G.GrantCredential.own) (policy_of P.Credential.valid P.Credential.valid_at G.deadline) (record { old = self.old; new = self.new }) grant) }
+        ensures ok { IfOk result
+            (λ grant. (grant.begun.id.handle ≡ handle) × (grant.begun.expires_in ≡ expires_in)
+            × Begins (meanings_of P.ProvideCredential G.GrantCredential.own)
+                (policy_of P.Credential.valid P.Credential.valid_at G.deadline)
+                (record { old = self.old; new = self.new }) grant) }
         ensures err { IfErr result (RefusesToBegin self.old.begun) }
         ensures unchanged { OnErr result (self.new ≡ self.old) }
     {
@@ -284,11 +293,16 @@ where
     pub fn poll(&mut self, grant: Grant<P, G>, now: Timestamp) -> GrantPoll<P, G>
         requires { IsGrantIssuedBy (meanings_of P.ProvideCredential G.GrantCredential.own) self.old grant }
         ensures poll { (o : Objects P G P.Ctx) → objects_of self.old grant.begun.id.handle ≡ Some o
-            → IsGrantPoll (polled_call (policy_of P.Credential.valid P.Credential.valid_at G.deadline) P.Credential.clones_freely
-            (meanings_of P.ProvideCredential G.GrantCredential.own) o grant.begun now) grant.state self.old.desk self.new.desk result }
-        ensures issued { IsAnswerIssuedBy (meanings_of P.ProvideCredential G.GrantCredential.own) self.new grant.begun.id result }
+            → IsGrantPoll
+                (polled_call (policy_of P.Credential.valid P.Credential.valid_at G.deadline)
+                    P.Credential.clones_freely (meanings_of P.ProvideCredential G.GrantCredential.own)
+                    o grant.begun now)
+                grant.state self.old.desk self.new.desk result }
+        ensures issued { IsAnswerIssuedBy (meanings_of P.ProvideCredential G.GrantCredential.own)
+            self.new grant.begun.id result }
         ensures same { self.new ≡ record self.old { desk = self.new.desk } }
-        ensures others { KeepsOthers (meanings_of P.ProvideCredential G.GrantCredential.own) grant.begun.id (record { old = self.old; new = self.new }) }
+        ensures others { KeepsOthers (meanings_of P.ProvideCredential G.GrantCredential.own) grant.begun.id
+            (record { old = self.old; new = self.new }) }
     {
         let handle = grant.begun.id.handle;
         let cache = self.desk.cache_of(handle).unwrap();
@@ -305,9 +319,11 @@ where
     /// Gives a call up. It takes no memory.
     pub fn cancel(&mut self, grant: Grant<P, G>)
         requires { IsGrantIssuedBy (meanings_of P.ProvideCredential G.GrantCredential.own) self.old grant }
-        ensures step { IsGrantStep (policy_of P.Credential.valid P.Credential.valid_at G.deadline) (Cancel grant.begun.id) self.old.desk Cancelled self.new.desk }
+        ensures step { IsGrantStep (policy_of P.Credential.valid P.Credential.valid_at G.deadline)
+            (Cancel grant.begun.id) self.old.desk Cancelled self.new.desk }
         ensures same { self.new ≡ record self.old { desk = self.new.desk } }
-        ensures others { KeepsOthers (meanings_of P.ProvideCredential G.GrantCredential.own) grant.begun.id (record { old = self.old; new = self.new }) }
+        ensures others { KeepsOthers (meanings_of P.ProvideCredential G.GrantCredential.own) grant.begun.id
+            (record { old = self.old; new = self.new }) }
     {
         cancel_call(&mut self.desk, &grant.begun)
     }

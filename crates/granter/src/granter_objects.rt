@@ -20,7 +20,8 @@ pub(crate) fn poll_service<G: GrantCredential>(
 ) -> WorkAnswer<G::Credential, G::Work>
     requires { let m = service_meaning G.GrantCredential.own service.now ctx.now begun.now source.now
         in IsWorkKept m.started m.gives work }
-    ensures { IsWorkAnswer (service_meaning G.GrantCredential.own service.now ctx.now begun.now source.now) work result }
+    ensures { IsWorkAnswer
+        (service_meaning G.GrantCredential.own service.now ctx.now begun.now source.now) work result }
 {
     match work {
         WorkState::Made(credential) => WorkAnswer::Made(credential),
@@ -43,7 +44,8 @@ fn poll_work<G: GrantCredential>(
     _source: &G::Credential,
     mut work: G::Work,
 ) -> WorkAnswer<G::Credential, G::Work>
-    requires { (service_meaning G.GrantCredential.own service.now ctx.now _begun.now _source.now).started work }
+    requires { (service_meaning G.GrantCredential.own service.now ctx.now _begun.now _source.now).started
+        work }
     ensures { IsWorkAnswer (service_meaning G.GrantCredential.own service.now ctx.now _begun.now _source.now)
         (work_state.Started work) result }
 {

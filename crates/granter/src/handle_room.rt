@@ -33,12 +33,18 @@ where
     ghost use Rattle.desk_parts.specs.Tables.{setup_of};
 
     pub(crate) fn new(alloc: Global, loader: Loader) -> Result<Self, AddError>
-        ensures setup { IfOk result (λ room. setup_of room.desk ≡ record { loaders = loader ∷ []; rules = []; handles = [] }) }
-        ensures fresh { IfOk result (λ room. GrantRepresents (policy_of K.valid K.valid_at D.deadline) room.desk []) }
-        ensures providers { IfOk result (λ room. (room.providers.items ≡ []) × (vec_len room.providers < vec_capacity room.providers)) }
-        ensures provider_places { IfOk result (λ room. (room.provider_places.items ≡ []) × (vec_len room.provider_places < vec_capacity room.provider_places)) }
-        ensures contexts { IfOk result (λ room. (room.contexts.items ≡ []) × (vec_len room.contexts < vec_capacity room.contexts)) }
-        ensures places { IfOk result (λ room. (room.context_places.items ≡ []) × (vec_len room.context_places < vec_capacity room.context_places)) }
+        ensures setup { IfOk result
+            (λ room. setup_of room.desk ≡ record { loaders = loader ∷ []; rules = []; handles = [] }) }
+        ensures fresh { IfOk result
+            (λ room. GrantRepresents (policy_of K.valid K.valid_at D.deadline) room.desk []) }
+        ensures providers { IfOk result
+            (λ room. (room.providers.items ≡ []) × (vec_len room.providers < vec_capacity room.providers)) }
+        ensures provider_places { IfOk result (λ room. (room.provider_places.items ≡ [])
+            × (vec_len room.provider_places < vec_capacity room.provider_places)) }
+        ensures contexts { IfOk result
+            (λ room. (room.contexts.items ≡ []) × (vec_len room.contexts < vec_capacity room.contexts)) }
+        ensures places { IfOk result (λ room. (room.context_places.items ≡ [])
+            × (vec_len room.context_places < vec_capacity room.context_places)) }
     {
         let mut desk = GrantDesk::new(alloc);
         desk.add_cache(loader)?;
@@ -71,7 +77,8 @@ where
     ensures contexts { contexts.new.items ≡ contexts.old.items }
     ensures places { context_places.new.items ≡ context_places.old.items }
     ensures providers_room { OnOk result (vec_len providers.new < vec_capacity providers.new) }
-    ensures provider_places_room { OnOk result (vec_len provider_places.new < vec_capacity provider_places.new) }
+    ensures provider_places_room { OnOk result
+        (vec_len provider_places.new < vec_capacity provider_places.new) }
     ensures contexts_room { OnOk result (vec_len contexts.new < vec_capacity contexts.new) }
     ensures places_room { OnOk result (vec_len context_places.new < vec_capacity context_places.new) }
 {

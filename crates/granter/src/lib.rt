@@ -1,4 +1,5 @@
-//! The granter on one thread: a granter's desk, and the providers, granting services and contexts that answer it.
+//! The granter on one thread: a granter's desk, and the providers, granting
+//! services and contexts that answer it.
 #![tactic(auto)]
 
 mod call_objects;

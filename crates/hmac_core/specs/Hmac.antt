@@ -29,7 +29,9 @@ outer_mask = 0x5c
 abbrev pub key_block : (List ℕ → List ℕ) → List ℕ → List ℕ
 key_block hash key = filled_block (short_key hash key)
 
--- the hash of the block under the outer mask and of the hash of the block under the inner mask and of the text
+-- the hash of the block under the outer mask and of the hash of the block under
+-- the inner mask and of the text
 abbrev pub hmac_of : (List ℕ → List ℕ) → List ℕ → List ℕ → List ℕ
 hmac_of hash key text =
-    hash (masked_block outer_mask (key_block hash key) ++ hash (masked_block inner_mask (key_block hash key) ++ text))
+    hash (masked_block outer_mask (key_block hash key)
+        ++ hash (masked_block inner_mask (key_block hash key) ++ text))

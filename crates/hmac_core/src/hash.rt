@@ -34,7 +34,8 @@ pub fn base64_decode(alloc: Global, content: &str) -> Result<Vec<u8>, Error>
     ensures value { IfOk result (λ bytes. decode_of standard content.now ≡ Ok bytes.items) }
     ensures exact { IfOk result (λ bytes. content.now ≡ encode_of standard bytes.items) }
     ensures err { IfErr result (IsErrorOf Unexpected (codes "base64 decode failed")) }
-    ensures refused { IfErr result (λ e. e ≡ new_error Unexpected (codes "base64 decode failed") → IsErr (decode_of standard content.now)) }
+    ensures refused { IfErr result (λ e. e ≡ new_error Unexpected (codes "base64 decode failed")
+        → IsErr (decode_of standard content.now)) }
 {
     match STANDARD.decode(alloc, content.as_bytes()) {
         Ok(bytes) => Ok(bytes),
@@ -82,14 +83,16 @@ pub fn hex_hmac_sha256(alloc: Global, key: &[u8], content: &[u8]) -> Result<Stri
 
 /// HMAC-SHA1 in Base64.
 pub fn base64_hmac_sha1(alloc: Global, key: &[u8], content: &[u8]) -> Result<String, NoMemory<()>>
-    ensures { IfOk result (λ text. string_bytes text ≡ encode_of standard (hmac_of sha1 key.now content.now)) }
+    ensures { IfOk result
+        (λ text. string_bytes text ≡ encode_of standard (hmac_of sha1 key.now content.now)) }
 {
     base64_encode(alloc, &hmac::hmac_sha1(key, content))
 }
 
 /// HMAC-SHA256 in Base64.
 pub fn base64_hmac_sha256(alloc: Global, key: &[u8], content: &[u8]) -> Result<String, NoMemory<()>>
-    ensures { IfOk result (λ text. string_bytes text ≡ encode_of standard (hmac_of sha256 key.now content.now)) }
+    ensures { IfOk result
+        (λ text. string_bytes text ≡ encode_of standard (hmac_of sha256 key.now content.now)) }
 {
     base64_encode(alloc, &hmac::hmac_sha256(key, content))
 }

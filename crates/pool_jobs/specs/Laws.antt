@@ -20,8 +20,8 @@ use Rattle.pool_jobs.specs.Meaning.{pool_meaning}
 use Rattle.pool_jobs.specs.PromptGates.{AnswersAtOnce, AreWorkerLists, jobs_in}
 use Rattle.pool_jobs.specs.Run.{IsPoolRun}
 
--- whether the reply is one that a call gets on its way to its signed head: none that refuses it, gives it up, or finds
--- that an event does not fit
+-- whether the reply is one that a call gets on its way to its signed head: none that refuses it, gives it up,
+-- or finds that an event does not fit
 abbrev pub goes_well : {K : Type 0} → Reply K → Bool
 goes_well Begun = true
 goes_well Pending = true
@@ -44,8 +44,9 @@ pub record SignsAll {K : Type 0} (jobs : ℕ) (journal : List (Entry K)) (served
   pub not_now : All (λ s. s.not_now ≡ 0) served
   pub given_up : All (λ s. s.given_up ≡ 0) served
 
--- Workers whose handles are on one cache with one provider, and whose gate answers at once, sign all their jobs with at
--- most one load, where none of them ran out of memory. So it is in every order in which their steps may come.
+-- Workers whose handles are on one cache with one provider, and whose gate answers at once, sign
+-- all their jobs with at most one load, where none of them ran out of memory. So it is in every
+-- order in which their steps may come.
 abbrev pub PromptCallsAreSigned : {K D : Type 0} → Policy K D → GateMeaning K → Type 0
 PromptCallsAreSigned {K} {D} policy gate =
     (setup : Setup D) (c : K) (moment : ℤ) (turns : ℕ) (lists : List (List Job))
@@ -59,6 +60,6 @@ PromptCallsAreSigned {K} {D} policy gate =
 -- a run of a pool with at least one worker signs all jobs
 abbrev pub EveryPoolCallIsSigned : Type 0
 EveryPoolCallIsSigned =
-    (workers jobs : ℕ) (journal : List (Entry ScriptCredential)) (passes : List (List (Receipt ScriptCredential)))
-    (served : List Served)
+    (workers jobs : ℕ) (journal : List (Entry ScriptCredential))
+    (passes : List (List (Receipt ScriptCredential))) (served : List Served)
     → 0 < workers → IsPoolRun pool_meaning workers jobs journal passes served → SignsAll jobs journal served

@@ -1,4 +1,5 @@
--- Gates that answer at once, and lists of jobs for them: each list has a handle of its own, and all handles are on cache 0.
+-- Gates that answer at once, and lists of jobs for them: each list has a handle of its own,
+-- and all handles are on cache 0.
 use Rattle.std.specs.Prelude.{◌≡◌, ℕ, ℤ, suc, ◌+◌, ◌≤◌, true, List, [], ◌∷◌, Some, length, option_map}
 use Rattle.std.specs.Duration.{as_nanos}
 use Rattle.sign_base.specs.declared.head.Head.{Head}
@@ -13,10 +14,12 @@ use Rattle.sequential_signer.specs.declared.event.Verdict.TheVariants.{Accepted}
 use Rattle.signer_shared.specs.Gates.{GateMeaning}
 use Rattle.signer_shared.specs.declared.job.Job.{Job}
 
--- the gate answers each load in the first turn, with this credential alone; it accepts each head; and its clock stands still
+-- the gate answers each load in the first turn, with this credential alone; it accepts each
+-- head; and its clock stands still
 pub record AnswersAtOnce {K : Type 0} (c : K) (moment : ℤ) (gate : GateMeaning K) : Type 0 where
   pub ready : (call : CallId) (provider : ℕ) → gate.ready call provider 0
-  pub gives : (call : CallId) (provider : ℕ) (answer : Answer K) → gate.gives call provider answer → answer ≡ Found c
+  pub gives : (call : CallId) (provider : ℕ) (answer : Answer K) → gate.gives call provider answer
+      → answer ≡ Found c
   pub judges : (call : CallId) (credential : K) (head : Head) (verdict : Verdict)
       → gate.judges call credential head verdict → (made : Head) × (verdict ≡ Accepted made)
   pub tells : (now : ℤ) → gate.tells now → now ≡ moment

@@ -20,7 +20,8 @@ abbrev pub ServesPool : GateMeaning ScriptCredential → ℕ → ℕ
 ServesPool gate workers jobs passes served =
     ServesLists gate 1 (pool_work workers jobs) passes served × All (λ s. s.out_of_memory ≡ false) served
 
--- the journal is the steps of these passes, a legal history of the pool's setup, and the passes serve its jobs
+-- the journal is the steps of these passes, a legal history of the pool's setup,
+-- and the passes serve its jobs
 pub record IsPoolRun (gate : GateMeaning ScriptCredential) (workers jobs : ℕ)
     (journal : List (Entry ScriptCredential)) (passes : List (List (Receipt ScriptCredential)))
     (served : List Served) : Type 0 where

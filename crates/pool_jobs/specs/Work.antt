@@ -11,7 +11,8 @@ pool_head = record { method = codes "GET"; uri = codes "https://e.x/c"; version 
 
 -- a worker's job with this number: a call of the worker's handle, for which nothing says how long it may take
 abbrev pub pool_job : ℕ → ℕ → Job
-pool_job worker number = record { call = record { handle = worker; number = number }; head = pool_head; expires_in = None }
+pool_job worker number =
+    record { call = record { handle = worker; number = number }; head = pool_head; expires_in = None }
 
 -- the jobs of one of so many workers, out of so many: job j is one of worker j mod W, with the number j div W
 abbrev pub jobs_of_worker : ℕ → ℕ → ℕ → List Job

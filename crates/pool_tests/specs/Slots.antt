@@ -8,6 +8,7 @@ use Rattle.sign_pool.specs.declared.job.PoolJob.{PoolJob}
 use Rattle.pool_tests.specs.declared.stands.Slot.{Slot}
 
 -- both seats of the slot are of this queue
-pub record IsSlotOf {Q A : Type 0} (queue : Slotted (Option PoolJob) (Doing PoolJob Hand) Q A) (slot : Slot) : Type 0 where
+pub record IsSlotOf {Q A : Type 0} (queue : Slotted (Option PoolJob) (Doing PoolJob Hand) Q A)
+    (slot : Slot) : Type 0 where
   pub submitter : IsPassOf queue slot.submitter.seat
   pub worker : IsPassOf queue slot.worker.seat

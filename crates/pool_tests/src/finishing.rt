@@ -21,8 +21,8 @@ fn worked<R: Wait>(rt: &R, alloc: Global) -> Option<Stand> {
 /// So many submitters and workers are handed in at first.
 const TOO_FEW: [(usize, usize); 4] = [(1, 2), (2, 1), (1, 1), (0, 0)];
 
-/// Why the pool is not finished with so few seats, and how many workers' answers there are once the others are handed
-/// in too.
+/// Why the pool is not finished with so few seats, and how many workers' answers there are once
+/// the others are handed in too.
 fn finished_late<R: Wait>(
     rt: &R,
     seats: Seats,

@@ -1,4 +1,5 @@
-//! The signing pool, tried: seats, full and empty queues, gates of several kinds, and threads that submit and work.
+//! The signing pool, tried: seats, full and empty queues, gates of several kinds, and
+//! threads that submit and work.
 #![tactic(auto)]
 
 #[cfg(test)]

@@ -47,8 +47,8 @@ fn finishes<R: Wait>(rt: &R, seats: Seats) -> Option<Finished<Key, UntilNow>> {
     }
 }
 
-/// The books of two jobs, submitted and served by two slots. `None` where an allocation failed outside of the calls of
-/// the pool.
+/// The books of two jobs, submitted and served by two slots. `None` where an allocation failed
+/// outside of the calls of the pool.
 fn two_jobs<R: Wait>(rt: &R, alloc: Global) -> Option<Option<Books>> {
     let gate = gate_of(alloc, Answers::Signs)?;
     let mut stand = stand_of(alloc, 2)?;

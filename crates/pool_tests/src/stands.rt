@@ -29,7 +29,8 @@ pub struct Stand {
     ghost seats: { All (IsSlotOf pool.queue) slots.items },
 }
 
-/// A pool whose queue holds so many jobs, with a slot for each of its two handles. `None` where an allocation failed.
+/// A pool whose queue holds so many jobs, with a slot for each of its two handles.
+/// `None` where an allocation failed.
 pub fn stand_of(alloc: Global, capacity: usize) -> Option<Stand> {
     let mut pool = pool_of(alloc, capacity)?;
     let slots = slots_of(alloc, &mut pool)?;

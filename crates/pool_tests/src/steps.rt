@@ -28,8 +28,8 @@ enum Told {
     Empty,
 }
 
-/// How the gate answers, how many jobs the queue holds, and the steps with their answers. Then the outcomes that
-/// the finished pool has, those of worker 0 first, and the tickets of the jobs that are left.
+/// How the gate answers, how many jobs the queue holds, and the steps with their answers. Then the outcomes
+/// that the finished pool has, those of worker 0 first, and the tickets of the jobs that are left.
 type Row = (
     Answers,
     usize,

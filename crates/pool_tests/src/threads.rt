@@ -16,8 +16,8 @@ use std::sync::atomic::AtomicU64;
 use std::thread;
 use std::thread::Threads;
 
-/// Submits a head. Each time that it meets a full queue, it works on one job itself and tries again. `None` where an
-/// allocation failed.
+/// Submits a head. Each time that it meets a full queue, it works on one job itself and tries again.
+/// `None` where an allocation failed.
 fn submit_one<G: Gate<Key>, R: Wait>(
     rt: &R,
     pool: &KeyPool,
@@ -114,8 +114,8 @@ fn run_stand<G: Gate<Key> + Sync, R: Threads + Wait + Sync>(
     );
 }
 
-/// A pool through whose queue, which holds so many jobs, two threads submitted so many jobs each, and served all.
-/// Whether a thread met a full queue, and the books.
+/// A pool through whose queue, which holds so many jobs, two threads submitted so many jobs each, and served
+/// all. Whether a thread met a full queue, and the books.
 fn served<G: Gate<Key> + Sync, R: Threads + Wait + Sync>(
     rt: &R,
     alloc: Global,

@@ -1,4 +1,5 @@
-//! The log of a call that loads and of one that waits for it: with a fault at each read and at each write in turn.
+//! The log of a call that loads and of one that waits for it: with a fault at each
+//! read and at each write in turn.
 use crate::ran::{Fault, bytes, ends_as, run_command};
 use signctl_core::Status;
 use std::alloc::Global;
@@ -11,8 +12,8 @@ const LOG: &str =
 
 const OUTPUT: &[u8] = b"legal 4\ncache 0 asks 1 signs 0 refused 0 cancelled 0 missed 0\n";
 
-/// Nothing is said of a log whose end was not read, wherever the fault cuts it: in a line, between a line and its
-/// claim, or in a claim.
+/// Nothing is said of a log whose end was not read, wherever the fault cuts it: in a line, between a line
+/// and its claim, or in a claim.
 #[test]
 fn each_read_fails_in_turn(rt: HostRuntime) {
     for read in 0..=LOG.len() {

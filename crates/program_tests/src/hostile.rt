@@ -104,8 +104,8 @@ fn lengths_at_a_fault(alloc: Global) -> Result<Vec<u64>, AllocError> {
     Ok(lengths)
 }
 
-/// How many reads of the script, in pieces of so many bytes, found another number of bytes in the sink than the
-/// output has there, how many bytes were written in the end, and how it ended.
+/// How many reads of the script, in pieces of so many bytes, found another number of bytes in the sink than
+/// the output has there, how many bytes were written in the end, and how it ended.
 fn late_reads(alloc: Global, piece: usize) -> Option<(u64, u64, Status)> {
     let script = input(alloc, LINES.len(), "").ok()?;
     let lengths = lengths_at_a_fault(alloc).ok()?;

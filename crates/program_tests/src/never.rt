@@ -1,5 +1,5 @@
-//! A credential that does not last to any deadline: each call that finds one is refused as short, and each later
-//! hold loads again.
+//! A credential that does not last to any deadline: each call that finds one is refused as short,
+//! and each later hold loads again.
 ghost use Rattle.std.specs.Prelude.{Some, false};
 
 use credentials::{DeadlineRule, SigningCredential};

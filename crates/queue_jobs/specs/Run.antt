@@ -38,7 +38,8 @@ module _ (gate : GateMeaning ScriptCredential) (workers jobs : ℕ) where
   abbrev pub IsUnclearedQueue : Finished ScriptCredential ScriptRule → FinishCause → Type 0
   IsUnclearedQueue finished why = IsClosedQueue finished × IsFinishCause finished why
 
-  -- the signer is not closed, for its first cause, with the passes of so many workers, who served so many jobs
+  -- the signer is not closed, for its first cause, with the passes of so many
+  -- workers, who served so many jobs
   pub record IsUnclosedQueue (close : CloseRefused ScriptCredential ScriptRule) : Type 0 where
     pub setup : setup_of close.plan ≡ pool_setup workers
     pub book : Represents script_policy close.book.desk close.book.journal

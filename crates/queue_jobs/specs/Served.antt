@@ -17,8 +17,10 @@ abbrev pub DidNotRunOut : Answer → Type 0
 DidNotRunOut answer = answer.outcome ≢ OutOfMemory
 
 module _ (gate : GateMeaning ScriptCredential) where
-  -- a job was served by the gate in one turn, as this call of the handle and behind so many receipts, and answered
-  pub record IsAnswered (handle number before : ℕ) (own : List (Receipt ScriptCredential)) (answer : Answer) : Type 0 where
+  -- a job was served by the gate in one turn, as this call of the handle and behind
+  -- so many receipts, and answered
+  pub record IsAnswered (handle number before : ℕ) (own : List (Receipt ScriptCredential))
+      (answer : Answer) : Type 0 where
     pub job : PoolJob
     pub served : Served
     pub serves : IsServing gate 1 (job_of job handle number ∷ []) own served
@@ -33,7 +35,8 @@ module _ (gate : GateMeaning ScriptCredential) where
   abbrev pub ServesAnswers : ℕ → ℕ → ℕ → List Answer → List (Receipt ScriptCredential) → Type 0
   ServesAnswers handle number before [] receipts = receipts ≡ []
   ServesAnswers handle number before (answer ∷ answers) receipts =
-      (own rest : List (Receipt ScriptCredential)) × (receipts ≡ own ++ rest) × IsAnswered handle number before own answer
+      (own rest : List (Receipt ScriptCredential)) × (receipts ≡ own ++ rest)
+      × IsAnswered handle number before own answer
       × ServesAnswers handle (suc number) (before + length own) answers rest
 
   -- each pass is that of the answers of its worker, whose handle is the next one from this on
@@ -44,7 +47,8 @@ module _ (gate : GateMeaning ScriptCredential) where
   ServesHandles handle _ _ = ⊥
 
   -- so many workers served so many jobs, and no allocation of these failed
-  pub record ServesQueue (workers jobs : ℕ) (passes : List (List (Receipt ScriptCredential))) (answers : List (List Answer)) : Type 0 where
+  pub record ServesQueue (workers jobs : ℕ) (passes : List (List (Receipt ScriptCredential)))
+      (answers : List (List Answer)) : Type 0 where
     pub workers_are : length passes ≡ workers
     pub serves : ServesHandles 0 answers passes
     pub answered : length (joined answers) ≡ jobs

@@ -68,17 +68,20 @@ module _ {Q A : Type 0} (queue : Slotted (Option PoolJob) (Doing PoolJob Hand) Q
       pub handle : after.worker.handle ≡ before.worker.handle
 
     module _ (workers jobs : ℕ) where
-      -- what a thread does in the slot of its place: where it did not stop, its share of the jobs was submitted
+      -- what a thread does in the slot of its place: where it did not stop, its
+      -- share of the jobs was submitted
       pub record IsRun (place : ℕ) (before after : Slot) : Type 0 where
         pub goes_on : GoesOn before after
         pub submitted : after.out_of_memory ≡ false
-            → length after.submitter.jobs.items ≡ length before.submitter.jobs.items + share workers jobs place
+            → length after.submitter.jobs.items ≡
+                length before.submitter.jobs.items + share workers jobs place
 
       -- the slot of this place when its thread has returned
       pub record IsRunSlot (place : ℕ) (slot : Slot) : Type 0 where
         pub state : IsSlot slot
         pub handle : slot.worker.handle ≡ place
-        pub submitted : slot.out_of_memory ≡ false → length slot.submitter.jobs.items ≡ share workers jobs place
+        pub submitted : slot.out_of_memory ≡ false
+            → length slot.submitter.jobs.items ≡ share workers jobs place
 
       -- the slots when all threads have returned
       pub record AreRunSlots (slots : List Slot) : Type 0 where
@@ -92,9 +95,12 @@ module _ {Q A : Type 0} (queue : Slotted (Option PoolJob) (Doing PoolJob Hand) Q
         pub answered : answered_in slots ≡ jobs
         pub none_ran_out : All NoAnswerRanOut slots
 
-      -- all seats, in the order of the slots: theirs is this queue, and they have what was submitted and served
-      pub record AreServedSeats (submitters : List Submitter) (seats : List (Worker ScriptCredential)) : Type 0 where
+      -- all seats, in the order of the slots: theirs is this queue, and they have
+      -- what was submitted and served
+      pub record AreServedSeats (submitters : List Submitter)
+          (seats : List (Worker ScriptCredential)) : Type 0 where
         pub submitter_seats : All (λ s. IsPassOf queue s.seat) submitters
         pub worker_seats : All (λ w. IsPassOf queue w.seat) seats
         pub submitted : AreSubmitted jobs (lists_of (map (λ s. s.jobs) submitters))
-        pub serves : ServesQueue gate workers jobs (map (λ w. w.pass) seats) (lists_of (map (λ w. w.answers) seats))
+        pub serves : ServesQueue gate workers jobs (map (λ w. w.pass) seats)
+            (lists_of (map (λ w. w.answers) seats))

@@ -25,7 +25,8 @@ pub(crate) fn work_on_rest<G: Gate<ScriptCredential>, R: Wait>(
     requires some { 0 < workers }
     requires slots { AreRunSlots pool.now.queue (G.meaning gate.now) workers jobs slots.old }
     requires stopped { All DidNotStop slots.old }
-    ensures slots { IfOk result (λ _. AreRunSlots pool.now.queue (G.meaning gate.now) workers jobs slots.new) }
+    ensures slots { IfOk result
+        (λ _. AreRunSlots pool.now.queue (G.meaning gate.now) workers jobs slots.new) }
     ensures stopped { IfOk result (λ _. All DidNotStop slots.new) }
     ensures answered { IfOk result (λ _. answered_in slots.new ≡ jobs) }
 {

@@ -42,8 +42,10 @@ pub(crate) fn served_pool<G: Gate<ScriptCredential> + Sync, R: Threads + Wait + 
     requires capacity { (0 < capacity) × (capacity ≤ 65536) }
     ensures setup { IfOk result (λ served. setup_of served.pool.shared ≡ pool_setup workers) }
     ensures capacity { IfOk result (λ served. ruled_capacity served.pool.queue ≡ capacity) }
-    ensures all { IfOk result (λ served. HasAllSeats served.pool.submitters served.pool.workers served.submitters.items served.workers.items) }
-    ensures seats { IfOk result (λ served. AreServedSeats served.pool.queue (G.meaning gate.now) workers jobs served.submitters.items served.workers.items) }
+    ensures all { IfOk result (λ served. HasAllSeats served.pool.submitters served.pool.workers
+        served.submitters.items served.workers.items) }
+    ensures seats { IfOk result (λ served. AreServedSeats served.pool.queue
+        (G.meaning gate.now) workers jobs served.submitters.items served.workers.items) }
 {
     let mut pool = queue_pool(alloc, workers, capacity)?;
     let mut slots = new_slots(alloc, &mut pool, workers)?;

@@ -26,7 +26,8 @@ pub(crate) fn submit_jobs<G: Gate<ScriptCredential>, R: Wait>(
 ) -> Result<(), NoMemory<()>>
     requires { IsSlot pool.now.queue (G.meaning gate.now) slot.old }
     ensures slot { GoesOn pool.now.queue (G.meaning gate.now) slot.old slot.new }
-    ensures count { IfOk result (λ _. length slot.new.submitter.jobs.items ≡ length slot.old.submitter.jobs.items + jobs) }
+    ensures count { IfOk result
+        (λ _. length slot.new.submitter.jobs.items ≡ length slot.old.submitter.jobs.items + jobs) }
 {
     for _job in 0..jobs {
         submit_job(rt, alloc, pool, gate, slot)?;
@@ -46,7 +47,8 @@ fn submit_job<G: Gate<ScriptCredential>, R: Wait>(
 ) -> Result<(), NoMemory<()>>
     requires { IsSlot pool.now.queue (G.meaning gate.now) slot.old }
     ensures slot { GoesOn pool.now.queue (G.meaning gate.now) slot.old slot.new }
-    ensures count { IfOk result (λ _. length slot.new.submitter.jobs.items ≡ length slot.old.submitter.jobs.items + 1) }
+    ensures count { IfOk result
+        (λ _. length slot.new.submitter.jobs.items ≡ length slot.old.submitter.jobs.items + 1) }
 {
     let mut head = pool_head(alloc)?;
     for _ in rt.forever() {

@@ -32,7 +32,8 @@ pub(crate) fn run_threads<G: Gate<ScriptCredential> + Sync, R: Threads + Wait + 
     let threads = slots.len();
     let thread = move |place: usize, slot: &mut Slot|
         requires { (0 < workers) × IsSlot pool.now.queue (G.meaning gate.now) slot.now }
-        ensures { IsRun pool.entry.now.queue (G.meaning gate.entry.now) workers jobs place slot.entry.now slot.exit.now }
+        ensures { IsRun pool.entry.now.queue (G.meaning gate.entry.now)
+            workers jobs place slot.entry.now slot.exit.now }
     { run_slot(rt, alloc, pool, gate, share(workers, jobs, place), slot) };
     thread::for_each_mut(rt, slots, threads, &thread);
 }
@@ -64,7 +65,8 @@ fn submit_and_work<G: Gate<ScriptCredential>, R: Wait>(
 ) -> Result<(), NoMemory<()>>
     requires { IsSlot pool.now.queue (G.meaning gate.now) slot.old }
     ensures slot { GoesOn pool.now.queue (G.meaning gate.now) slot.old slot.new }
-    ensures count { IfOk result (λ _. length slot.new.submitter.jobs.items ≡ length slot.old.submitter.jobs.items + jobs) }
+    ensures count { IfOk result
+        (λ _. length slot.new.submitter.jobs.items ≡ length slot.old.submitter.jobs.items + jobs) }
 {
     submit_jobs(rt, alloc, pool, gate, jobs, slot)?;
     work_until_empty(rt, pool, gate, &mut slot.worker)

@@ -39,17 +39,22 @@ grant_progress_reply (Some (Over (HandOut c) cache)) = Grant c
 grant_progress_reply (Some (Over (Refuse refusal) cache)) = Refused (grant_why refusal)
 
 -- how far an undisturbed call is by its look at this cache now
-abbrev pub look_at : {K D : Type 0} → Policy K D → Setup D → List (GrantEntry K) → ℕ → CallId → ℤ → Option (Progress K)
+abbrev pub look_at : {K D : Type 0} → Policy K D → Setup D → List (GrantEntry K) → ℕ → CallId → ℤ
+    → Option (Progress K)
 look_at policy setup entries i call now =
-    hold_progress policy (grant_source setup entries i) (slice_get setup.loaders i) (look_input setup (as_signer entries) call now)
+    hold_progress policy (grant_source setup entries i) (slice_get setup.loaders i)
+    (look_input setup (as_signer entries) call now)
 
 -- how far a load is by these answers, where its loader, its rule and its begin are known
-abbrev pub load_by : {K D : Type 0} → Policy K D → Option Loader → Option D → Option BeginInput → List (Answer K × ℤ) → Option (Progress K)
-load_by policy (Some loader) (Some rule) (Some begin) answers = Some (call_load policy None loader rule begin.duration answers)
+abbrev pub load_by : {K D : Type 0} → Policy K D → Option Loader → Option D → Option BeginInput
+    → List (Answer K × ℤ) → Option (Progress K)
+load_by policy (Some loader) (Some rule) (Some begin) answers =
+    Some (call_load policy None loader rule begin.duration answers)
 load_by policy _ _ _ answers = None
 
 -- how far the call's load at cache i is, with one more answer
-abbrev pub load_at : {K D : Type 0} → Policy K D → Setup D → List (GrantEntry K) → ℕ → CallId → Answer K × ℤ → Option (Progress K)
+abbrev pub load_at : {K D : Type 0} → Policy K D → Setup D → List (GrantEntry K) → ℕ → CallId → Answer K × ℤ
+    → Option (Progress K)
 load_at policy setup entries i call answer =
     load_by policy (slice_get setup.loaders i) (rule_of setup call) (begin_of (as_signer entries) call)
     (answers_of (as_signer entries) call ++ answer ∷ [])
@@ -59,10 +64,12 @@ abbrev pub check_granted : {K D : Type 0} → Policy K D → K → ℤ → Grant
 check_granted policy c now = if policy.valid_at c now now then Given c else Refused (cause.Stale now)
 
 -- the reply to an event that fits, at cache i
-abbrev pub fitting_grant_reply : {K D : Type 0} → Policy K D → Setup D → List (GrantEntry K) → ℕ → GrantEvent K → GrantReply K
+abbrev pub fitting_grant_reply : {K D : Type 0} → Policy K D → Setup D → List (GrantEntry K) → ℕ
+    → GrantEvent K → GrantReply K
 fitting_grant_reply policy setup entries i (Begin call expires_in) = Begun
 fitting_grant_reply policy setup entries i (Poll call now) =
-    if is_waiting (grant_phase_of entries call) then grant_progress_reply (look_at policy setup entries i call now) else Pending
+    if is_waiting (grant_phase_of entries call)
+    then grant_progress_reply (look_at policy setup entries i call now) else Pending
 fitting_grant_reply policy setup entries i (Provided call now answer) =
     grant_progress_reply (load_at policy setup entries i call (answer, now))
 fitting_grant_reply policy setup entries i (Granted call now (Made c)) = check_granted policy c now
@@ -70,12 +77,14 @@ fitting_grant_reply policy setup entries i (Granted call now (Failed e)) = Refus
 fitting_grant_reply policy setup entries i (Cancel call) = Cancelled
 
 -- the reply at the event's cache, where it has one
-abbrev pub grant_reply_at : {K D : Type 0} → Policy K D → Setup D → List (GrantEntry K) → GrantEvent K → Option ℕ → GrantReply K
+abbrev pub grant_reply_at : {K D : Type 0} → Policy K D → Setup D → List (GrantEntry K) → GrantEvent K
+    → Option ℕ → GrantReply K
 grant_reply_at policy setup entries event None = NotNow
 grant_reply_at policy setup entries event (Some i) =
     if grant_event_fits setup entries event then fitting_grant_reply policy setup entries i event else NotNow
 
 -- the expected reply to the event after these entries
-unfoldable pub expected_grant_reply : {K D : Type 0} → Policy K D → Setup D → List (GrantEntry K) → GrantEvent K → GrantReply K
+unfoldable pub expected_grant_reply : {K D : Type 0} → Policy K D → Setup D → List (GrantEntry K)
+    → GrantEvent K → GrantReply K
 expected_grant_reply policy setup entries event =
     grant_reply_at policy setup entries event (cache_of setup (grant_call_of event))

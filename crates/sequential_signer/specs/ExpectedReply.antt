@@ -40,17 +40,20 @@ waking setup entries i event reply =
     with_wake reply (call_to_wake setup entries i (record { event = event; reply = reply }))
 
 -- how far a hold is: an undisturbed call on this cache, where it has a loader and an input
-abbrev pub hold_progress : {K D : Type 0} → Policy K D → Option K → Option Loader → Option (HoldInput K D) → Option (Progress K)
+abbrev pub hold_progress : {K D : Type 0} → Policy K D → Option K → Option Loader → Option (HoldInput K D)
+    → Option (Progress K)
 hold_progress policy cache (Some loader) (Some input) = Some (sequential_call policy cache loader input)
 hold_progress policy cache _ _ = None
 
 -- how far a hold at cache i is with this input, on the sequential cache
-abbrev pub progress_at : {K D : Type 0} → Policy K D → Setup D → List (Entry K) → ℕ → Option (HoldInput K D) → Option (Progress K)
+abbrev pub progress_at : {K D : Type 0} → Policy K D → Setup D → List (Entry K) → ℕ → Option (HoldInput K D)
+    → Option (Progress K)
 progress_at policy setup entries i input =
     hold_progress policy (sequential_cache policy setup entries i) (slice_get setup.loaders i) input
 
 -- the reply by how far the hold is
-abbrev pub hold_reply : {K D : Type 0} → Setup D → List (Entry K) → ℕ → Event K → Option (Progress K) → Reply K
+abbrev pub hold_reply : {K D : Type 0} → Setup D → List (Entry K) → ℕ → Event K
+    → Option (Progress K) → Reply K
 hold_reply setup entries i event None = NotNow
 hold_reply setup entries i event (Some progress) = waking setup entries i event (progress_reply progress)
 
@@ -64,7 +67,8 @@ abbrev pub fitting_reply : {K D : Type 0} → Policy K D → Setup D → List (E
 fitting_reply policy setup entries i (Begin call head expires_in) = Begun
 fitting_reply policy setup entries i (Poll call now) =
     if is_waiting (phase_of entries call) && has_turn setup entries i call
-    then hold_reply setup entries i (Poll call now) (progress_at policy setup entries i (look_input setup entries call now))
+    then hold_reply setup entries i (Poll call now)
+        (progress_at policy setup entries i (look_input setup entries call now))
     else Pending
 fitting_reply policy setup entries i (Provided call now answer) =
     hold_reply setup entries i (Provided call now answer)

@@ -10,7 +10,8 @@ use Rattle.sequential_signer.specs.declared.grant_event.GrantEvent.TheVariants.{
 use Rattle.sequential_signer.specs.declared.grant_event.GrantReply.{GrantReply}
 use Rattle.sequential_signer.specs.declared.grant_event.GrantReply.TheVariants.{Grant}
 
--- the credential that an event with this reply stores: one that a provider found and that was handed to the granter
+-- the credential that an event with this reply stores: one that a provider found and
+-- that was handed to the granter
 abbrev pub stored_by : {K : Type 0} → GrantEvent K → GrantReply K → Option K
 stored_by (Provided call now (Found c)) (Grant source) = Some c
 stored_by _ _ = None
@@ -21,4 +22,5 @@ grants_at setup i entries = filter (λ e. is_of_cache setup i (grant_call_of e.e
 
 -- what cache i holds after these entries: the credential that was stored last
 unfoldable pub grant_source : {K D : Type 0} → Setup D → List (GrantEntry K) → ℕ → Option K
-grant_source setup entries i = last_of (filter_map (λ e. stored_by e.event e.reply) (grants_at setup i entries))
+grant_source setup entries i =
+    last_of (filter_map (λ e. stored_by e.event e.reply) (grants_at setup i entries))

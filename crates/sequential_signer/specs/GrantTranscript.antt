@@ -1,7 +1,7 @@
--- A granter's transcript, read as a signer's. Up to the credential that is handed out, a granter's call goes the way of a
--- signer's, and then the granter stands in the place of the service: `Grant` reads as `Sign`, and `Given` as `Done`, of no
--- head. How far a call is, which events fit, which numbers are new, how long an operation may take and what the providers
--- answered are those of the transcript that is read so.
+-- A granter's transcript, read as a signer's. Up to the credential that is handed out, a granter's call goes
+-- the way of a signer's, and then the granter stands in the place of the service: `Grant` reads as `Sign`,
+-- and `Given` as `Done`, of no head. How far a call is, which events fit, which numbers are new, how long an
+-- operation may take and what the providers answered are those of the transcript that is read so.
 use Rattle.std.specs.Prelude.{Bool, not, List, [], None, filter, map}
 use Rattle.sign_base.specs.declared.head.Head.{Head}
 use Rattle.sign_base.specs.declared.head.Version.TheVariants.{V11}
@@ -45,7 +45,8 @@ as_event (Provided call now answer) = signs.Provided call now answer
 as_event (Granted call now answer) = signs.Signed call (as_verdict answer)
 as_event (Cancel call) = signs.Cancel call
 
--- a granter's cause of refusal, as a signer's: a credential that is stale does not last to the moment of its check
+-- a granter's cause of refusal, as a signer's: a credential that is stale does not
+-- last to the moment of its check
 abbrev pub as_why : GrantWhy → Why
 as_why Missing = why.Missing
 as_why (Short deadline) = why.Short deadline
@@ -82,8 +83,8 @@ committed_grants entries = filter (λ e. not (is_out_of_memory (as_reply e.reply
 abbrev pub grant_call_of : {K : Type 0} → GrantEvent K → CallId
 grant_call_of event = call_of (as_event event)
 
--- how far the call is: `Unpolled` where it is begun, `Loading`, or `Signing` where the granter makes its credential. Nobody
--- waits for another, so no call is `Queued`.
+-- how far the call is: `Unpolled` where it is begun, `Loading`, or `Signing` where the granter makes its
+-- credential. Nobody waits for another, so no call is `Queued`.
 abbrev pub grant_phase_of : {K : Type 0} → List (GrantEntry K) → CallId → Phase
 grant_phase_of entries call = phase_of (as_signer entries) call
 

@@ -21,7 +21,8 @@ pub record BeginInput : Type 0 where
 
 -- what an event begins a call with
 abbrev pub begun_with : {K : Type 0} → Event K → Option BeginInput
-begun_with (Begin call head expires_in) = Some (record { head = head; duration = option_map as_nanos expires_in })
+begun_with (Begin call head expires_in) =
+    Some (record { head = head; duration = option_map as_nanos expires_in })
 begun_with _ = None
 
 -- what a call with these entries was begun with, by the begin that was accepted
@@ -60,7 +61,8 @@ abbrev pub answers_of : {K : Type 0} → List (Entry K) → CallId → List (Ans
 answers_of entries call = answers_in (entries_of entries call)
 
 -- the input of a hold, where each of its parts is known
-abbrev pub input_by : {K D : Type 0} → Option D → Option BeginInput → Option ℤ → List (Answer K × ℤ) → Option (HoldInput K D)
+abbrev pub input_by : {K D : Type 0} → Option D → Option BeginInput → Option ℤ → List (Answer K × ℤ)
+    → Option (HoldInput K D)
 input_by (Some rule) (Some begin) (Some now) answers =
     Some (record { rule = rule; duration = begin.duration; now = now; answers = answers })
 input_by _ _ _ answers = None
@@ -70,7 +72,8 @@ abbrev pub look_input : {K D : Type 0} → Setup D → List (Entry K) → CallId
 look_input setup entries call now = input_by (rule_of setup call) (begin_of entries call) (Some now) []
 
 -- the input of the call's hold at cache i, with one more answer
-abbrev pub answered_input : {K D : Type 0} → Setup D → List (Entry K) → ℕ → CallId → Answer K × ℤ → Option (HoldInput K D)
+abbrev pub answered_input : {K D : Type 0} → Setup D → List (Entry K) → ℕ → CallId → Answer K × ℤ
+    → Option (HoldInput K D)
 answered_input setup entries i call answer =
     input_by (rule_of setup call) (begin_of entries call) (turn_moment setup entries i call)
     (answers_of entries call ++ answer ∷ [])
@@ -78,4 +81,5 @@ answered_input setup entries i call answer =
 -- the input of the call's hold at cache i, once the call had its turn
 abbrev pub hold_input : {K D : Type 0} → Setup D → List (Entry K) → ℕ → CallId → Option (HoldInput K D)
 hold_input setup entries i call =
-    input_by (rule_of setup call) (begin_of entries call) (turn_moment setup entries i call) (answers_of entries call)
+    input_by (rule_of setup call) (begin_of entries call) (turn_moment setup entries i call)
+    (answers_of entries call)

@@ -1,5 +1,5 @@
--- Laws of legal transcripts: caches stand apart, a credential that lasts is loaded once, and a cache holds what was last
--- handed out.
+-- Laws of legal transcripts: caches stand apart, a credential that lasts is loaded once, and a cache
+-- holds what was last handed out.
 use Rattle.std.specs.Prelude.{◌≡◌, ℕ, ℤ, Bool, true, false, not, ◌&&◌, List, [], ◌∷◌, ◌++◌, Option, Some, None, IsTrue, filter, filter_map}
 use Rattle.std.specs.List.{list_all}
 use Rattle.wake_lock.specs.declared.CallId.{CallId}
@@ -36,11 +36,13 @@ lasts_to policy c now (Some deadline) = policy.valid_at c deadline now
 
 -- whether a credential is fresh, has a deadline, and lasts to it
 abbrev pub serves_at : {K D : Type 0} → Policy K D → K → D → Option ℕ → ℤ → Bool
-serves_at policy c rule duration now = policy.valid c now && lasts_to policy c now (policy.deadline rule c duration now)
+serves_at policy c rule duration now =
+    policy.valid c now && lasts_to policy c now (policy.deadline rule c duration now)
 
--- where the entry, after the committed entries, is a look at cache i, what serves by a rule, a duration and a moment
--- serves it
-abbrev pub ServesLook : {K D : Type 0} → (D → Option ℕ → ℤ → Bool) → Setup D → ℕ → List (Entry K) → Entry K → Type 0
+-- where the entry, after the committed entries, is a look at cache i, what serves by a rule, a
+-- duration and a moment serves it
+abbrev pub ServesLook : {K D : Type 0} → (D → Option ℕ → ℤ → Bool) → Setup D → ℕ → List (Entry K)
+    → Entry K → Type 0
 ServesLook {D = D} serves setup i entries entry =
     (call : CallId) (now : ℤ) (rule : D) (begin : BeginInput)
     → entry.event ≡ Poll call now → cache_of setup call ≡ Some i
@@ -49,10 +51,12 @@ ServesLook {D = D} serves setup i entries entry =
     → IsTrue (serves rule begin.duration now)
 
 -- it serves each look at cache i among these entries, the first of which comes after `before`
-abbrev pub ServesLooks : {K D : Type 0} → (D → Option ℕ → ℤ → Bool) → Setup D → ℕ → List (Entry K) → List (Entry K) → Type 0
+abbrev pub ServesLooks : {K D : Type 0} → (D → Option ℕ → ℤ → Bool) → Setup D → ℕ → List (Entry K)
+    → List (Entry K) → Type 0
 ServesLooks serves setup i before [] = Unit {0}
 ServesLooks serves setup i before (entry ∷ rest) =
-    ServesLook serves setup i (committed_entries before) entry × ServesLooks serves setup i (before ++ entry ∷ []) rest
+    ServesLook serves setup i (committed_entries before) entry
+    × ServesLooks serves setup i (before ++ entry ∷ []) rest
 
 -- whether the reply asks a provider
 abbrev pub is_ask : {K : Type 0} → Reply K → Bool
@@ -63,12 +67,16 @@ is_ask _ = false
 abbrev pub found_entry : {K : Type 0} → CallId → ℤ → K → Reply K → Entry K
 found_entry call now c reply = record { event = Provided call now (Found c); reply = reply }
 
--- once a credential was found and handed out at a cache, no provider of that cache is asked while it serves each look
+-- once a credential was found and handed out at a cache, no provider of that cache is
+-- asked while it serves each look
 abbrev pub OneLoadServesAll : Type 0 → Type 0 → Type 0
 OneLoadServesAll K D =
-    (policy : Policy K D) (setup : Setup D) (before after : List (Entry K)) (call : CallId) (now : ℤ) (c handed : K) (wake : Option CallId) (i : ℕ)
-    → IsLegal policy setup (before ++ found_entry call now c (Sign handed wake) ∷ after) → cache_of setup call ≡ Some i
-    → ServesLooks (serves_at policy c) setup i (before ++ found_entry call now c (Sign handed wake) ∷ []) after
+    (policy : Policy K D) (setup : Setup D) (before after : List (Entry K)) (call : CallId) (now : ℤ)
+    (c handed : K) (wake : Option CallId) (i : ℕ)
+    → IsLegal policy setup (before ++ found_entry call now c (Sign handed wake) ∷ after)
+    → cache_of setup call ≡ Some i
+    → ServesLooks (serves_at policy c) setup i
+        (before ++ found_entry call now c (Sign handed wake) ∷ []) after
     → IsTrue (list_all (λ e. not (is_of_cache setup i (call_of e.event) && is_ask e.reply)) after)
 
 -- the credential that a reply hands out
@@ -85,18 +93,23 @@ abbrev pub CacheHoldsTheLastHandedOut : Type 0 → Type 0 → Type 0
 CacheHoldsTheLastHandedOut K D =
     (policy : Policy K D) (setup : Setup D) (entries : List (Entry K)) (i : ℕ)
     → IsLegal policy setup entries
-    → sequential_cache policy setup (committed_entries entries) i ≡ last_handed_out (entries_at setup i entries)
+    → sequential_cache policy setup (committed_entries entries) i ≡
+        last_handed_out (entries_at setup i entries)
 
 -- a credential that is found and refused changes no cache
 abbrev pub RefusedRefreshIsNotCached : Type 0 → Type 0 → Type 0
 RefusedRefreshIsNotCached K D =
-    (policy : Policy K D) (setup : Setup D) (before : List (Entry K)) (call : CallId) (now : ℤ) (c : K) (cause : Why) (wake : Option CallId)
+    (policy : Policy K D) (setup : Setup D) (before : List (Entry K)) (call : CallId) (now : ℤ) (c : K)
+    (cause : Why) (wake : Option CallId)
     → IsLegal policy setup (before ++ found_entry call now c (Refused cause wake) ∷ [])
     → SameCaches policy setup (before ++ found_entry call now c (Refused cause wake) ∷ []) before
 
 -- a credential that is found and not refused is the one that is handed out, and its call's cache holds it
 abbrev pub FoundCredentialIsCached : Type 0 → Type 0 → Type 0
 FoundCredentialIsCached K D =
-    (policy : Policy K D) (setup : Setup D) (before : List (Entry K)) (call : CallId) (now : ℤ) (c handed : K) (wake : Option CallId) (i : ℕ)
-    → IsLegal policy setup (before ++ found_entry call now c (Sign handed wake) ∷ []) → cache_of setup call ≡ Some i
-    → (handed ≡ c) × (sequential_cache policy setup (committed_entries (before ++ found_entry call now c (Sign handed wake) ∷ [])) i ≡ Some c)
+    (policy : Policy K D) (setup : Setup D) (before : List (Entry K)) (call : CallId) (now : ℤ) (c handed : K)
+    (wake : Option CallId) (i : ℕ)
+    → IsLegal policy setup (before ++ found_entry call now c (Sign handed wake) ∷ [])
+    → cache_of setup call ≡ Some i
+    → (handed ≡ c) × (sequential_cache policy setup
+        (committed_entries (before ++ found_entry call now c (Sign handed wake) ∷ [])) i ≡ Some c)

@@ -25,15 +25,17 @@ without_answers call entries = filter (λ e. not (is_about call e && is_answer e
 -- the two transcripts leave the same in every cache
 abbrev pub SameCaches : {K D : Type 0} → Policy K D → Setup D → List (Entry K) → List (Entry K) → Type 0
 SameCaches policy setup a b =
-    (i : ℕ) → sequential_cache policy setup (committed_entries a) i ≡ sequential_cache policy setup (committed_entries b) i
+    (i : ℕ) → sequential_cache policy setup (committed_entries a) i ≡
+    sequential_cache policy setup (committed_entries b) i
 
--- where a call's hold ended by a cancel, and not by a credential or a refusal, the transcript without the providers'
--- answers to it is legal too, and leaves the same caches
+-- where a call's hold ended by a cancel, and not by a credential or a refusal, the transcript without the
+-- providers' answers to it is legal too, and leaves the same caches
 abbrev pub CancelledLoadLeavesNoTrace : Type 0 → Type 0 → Type 0
 CancelledLoadLeavesNoTrace K D =
     (policy : Policy K D) (setup : Setup D) (entries : List (Entry K)) (call : CallId)
     → IsLegal policy setup entries
-    → IsTrue (hold_is_finished (committed_entries entries) call) → IsFalse (is_served (committed_entries entries) call)
+    → IsTrue (hold_is_finished (committed_entries entries) call)
+    → IsFalse (is_served (committed_entries entries) call)
     → IsLegal policy setup (without_answers call entries)
     × SameCaches policy setup (without_answers call entries) entries
 
@@ -55,9 +57,11 @@ CancelChangesNoCache K D =
 -- where the cancelled call was loading, its cache is after the cancel what it was before the call's look
 abbrev pub CancelledLoadLeavesTheCache : Type 0 → Type 0 → Type 0
 CancelledLoadLeavesTheCache K D =
-    (policy : Policy K D) (setup : Setup D) (before between : List (Entry K)) (call : CallId) (now : ℤ) (wake : Option CallId) (i : ℕ)
+    (policy : Policy K D) (setup : Setup D) (before between : List (Entry K)) (call : CallId) (now : ℤ)
+    (wake : Option CallId) (i : ℕ)
     → IsLegal policy setup (before ++ look_entry call now ∷ (between ++ cancel_entry call wake ∷ []))
     → cache_of setup call ≡ Some i
     → IsTrue (is_loading (phase_of (committed_entries (before ++ look_entry call now ∷ between)) call))
-    → sequential_cache policy setup (committed_entries (before ++ look_entry call now ∷ (between ++ cancel_entry call wake ∷ []))) i
+    → sequential_cache policy setup
+        (committed_entries (before ++ look_entry call now ∷ (between ++ cancel_entry call wake ∷ []))) i
     ≡ sequential_cache policy setup (committed_entries before) i

@@ -1,5 +1,5 @@
--- Laws of a granter's transcripts: a cache holds a source that a provider found for it, nobody waits for another call, and
--- replies leave nothing to choose.
+-- Laws of a granter's transcripts: a cache holds a source that a provider found for it, nobody waits for
+-- another call, and replies leave nothing to choose.
 use Rattle.std.specs.Prelude.{◌≡◌, ℕ, ℤ, false, ◌||◌, List, [], ◌∷◌, ◌++◌, Some, Bool, map}
 use Rattle.wake_lock.specs.declared.CallId.{CallId}
 use Rattle.sequential_signer.specs.Policy.{Policy}
@@ -28,44 +28,55 @@ grant_entry event reply = record { event = event; reply = reply }
 abbrev pub SourceWasProvided : Type 0 → Type 0 → Type 0
 SourceWasProvided K D =
     (setup : Setup D) (entries : List (GrantEntry K)) (i : ℕ) (c : K) → grant_source setup entries i ≡ Some c
-    → (call : CallId) × (now : ℤ) × (source : K) × (before : List (GrantEntry K)) × (after : List (GrantEntry K))
-    × (cache_of setup call ≡ Some i) × (entries ≡ before ++ grant_entry (Provided call now (Found c)) (Grant source) ∷ after)
+    → (call : CallId) × (now : ℤ) × (source : K) × (before : List (GrantEntry K))
+    × (after : List (GrantEntry K))
+    × (cache_of setup call ≡ Some i)
+    × (entries ≡ before ++ grant_entry (Provided call now (Found c)) (Grant source) ∷ after)
 
 -- what the granter makes is never cached: its answer leaves every cache
 abbrev pub GrantedIsNotCached : Type 0 → Type 0 → Type 0
 GrantedIsNotCached K D =
-    (setup : Setup D) (entries : List (GrantEntry K)) (call : CallId) (now : ℤ) (answer : Made K) (reply : GrantReply K) (i : ℕ)
-    → grant_source setup (entries ++ grant_entry (Granted call now answer) reply ∷ []) i ≡ grant_source setup entries i
+    (setup : Setup D) (entries : List (GrantEntry K)) (call : CallId) (now : ℤ) (answer : Made K)
+    (reply : GrantReply K) (i : ℕ)
+    → grant_source setup (entries ++ grant_entry (Granted call now answer) reply ∷ []) i ≡
+        grant_source setup entries i
 
 -- a source that is refused is not cached
 abbrev pub RefusedSourceIsNotCached : Type 0 → Type 0 → Type 0
 RefusedSourceIsNotCached K D =
-    (setup : Setup D) (entries : List (GrantEntry K)) (call : CallId) (now : ℤ) (answer : Answer K) (cause : GrantWhy) (i : ℕ)
-    → grant_source setup (entries ++ grant_entry (Provided call now answer) (Refused cause) ∷ []) i ≡ grant_source setup entries i
+    (setup : Setup D) (entries : List (GrantEntry K)) (call : CallId) (now : ℤ) (answer : Answer K)
+    (cause : GrantWhy) (i : ℕ)
+    → grant_source setup (entries ++ grant_entry (Provided call now answer) (Refused cause) ∷ []) i ≡
+        grant_source setup entries i
 
 -- a source that is found and handed to the granter is what its call's cache holds, whatever it held before
 abbrev pub LastStoreStays : Type 0 → Type 0 → Type 0
 LastStoreStays K D =
-    (setup : Setup D) (entries : List (GrantEntry K)) (call : CallId) (now : ℤ) (c source : K) (i : ℕ) → cache_of setup call ≡ Some i
+    (setup : Setup D) (entries : List (GrantEntry K)) (call : CallId) (now : ℤ) (c source : K) (i : ℕ)
+    → cache_of setup call ≡ Some i
     → grant_source setup (entries ++ grant_entry (Provided call now (Found c)) (Grant source) ∷ []) i ≡ Some c
 
 -- an entry of one cache leaves the source of every other
 abbrev pub SourcesStandApart : Type 0 → Type 0 → Type 0
 SourcesStandApart K D =
-    (setup : Setup D) (entries : List (GrantEntry K)) (entry : GrantEntry K) (i : ℕ) → is_of_cache setup i (grant_call_of entry.event) ≡ false
+    (setup : Setup D) (entries : List (GrantEntry K)) (entry : GrantEntry K) (i : ℕ)
+    → is_of_cache setup i (grant_call_of entry.event) ≡ false
     → grant_source setup (entries ++ entry ∷ []) i ≡ grant_source setup entries i
 
 -- what the granter is handed is what its call's cache holds from then on
 abbrev pub GranterIsHandedTheSource : Type 0 → Type 0 → Type 0
 GranterIsHandedTheSource K D =
-    (policy : Policy K D) (setup : Setup D) (entries : List (GrantEntry K)) (event : GrantEvent K) (source : K) (i : ℕ) → cache_of setup (grant_call_of event) ≡ Some i
+    (policy : Policy K D) (setup : Setup D) (entries : List (GrantEntry K))
+    (event : GrantEvent K) (source : K) (i : ℕ)
+    → cache_of setup (grant_call_of event) ≡ Some i
     → expected_grant_reply policy setup entries event ≡ Grant source
     → grant_source setup (entries ++ grant_entry event (Grant source) ∷ []) i ≡ Some source
 
 -- a poll waits exactly where the call's own load, or the granter's credential for it, is awaited
 abbrev pub NobodyWaitsForAnother : Type 0 → Type 0 → Type 0
 NobodyWaitsForAnother K D =
-    (policy : Policy K D) (setup : Setup D) (entries : List (GrantEntry K)) (call : CallId) (now : ℤ) (i : ℕ) → cache_of setup call ≡ Some i
+    (policy : Policy K D) (setup : Setup D) (entries : List (GrantEntry K)) (call : CallId) (now : ℤ) (i : ℕ)
+    → cache_of setup call ≡ Some i
     → is_pending (as_reply (expected_grant_reply policy setup entries (Poll call now)))
     ≡ (is_loading (grant_phase_of entries call) || is_signing (grant_phase_of entries call))
 
@@ -85,11 +96,12 @@ OneLegalGrantTranscript K D =
     → grant_events_of a ≡ grant_events_of b → grant_allocation_failures a ≡ grant_allocation_failures b
     → a ≡ b
 
--- the events one after another, each with the expected reply, are a legal transcript of these events, and all its entries
--- are committed
+-- the events one after another, each with the expected reply, are a legal transcript of these events, and
+-- all its entries are committed
 abbrev pub ExpectedGrantRepliesAreLegal : Type 0 → Type 0 → Type 0
 ExpectedGrantRepliesAreLegal K D =
     (policy : Policy K D) (setup : Setup D) (events : List (GrantEvent K))
     → IsLegalGrant policy setup (expected_grant_entries policy setup events)
     × (grant_events_of (expected_grant_entries policy setup events) ≡ events)
-    × (committed_grants (expected_grant_entries policy setup events) ≡ expected_grant_entries policy setup events)
+    × (committed_grants (expected_grant_entries policy setup events) ≡
+        expected_grant_entries policy setup events)

@@ -40,7 +40,8 @@ abbrev pub QueuedAtTurnWasWokenOnce : Type 0 → Type 0 → Type 0
 QueuedAtTurnWasWokenOnce K D =
     (policy : Policy K D) (setup : Setup D) (entries : List (Entry K)) (call : CallId) (i : ℕ)
     → IsLegal policy setup entries → cache_of setup call ≡ Some i
-    → IsTrue (is_queued (phase_of (committed_entries entries) call)) → IsTrue (has_turn setup (committed_entries entries) i call)
+    → IsTrue (is_queued (phase_of (committed_entries entries) call))
+    → IsTrue (has_turn setup (committed_entries entries) i call)
     → times_woken entries call ≡ 1
 
 -- no call was named that was not queued then
@@ -55,20 +56,23 @@ abbrev pub OneCallLoads : Type 0 → Type 0 → Type 0
 OneCallLoads K D =
     (policy : Policy K D) (setup : Setup D) (entries : List (Entry K)) (a b : CallId) (i : ℕ)
     → IsLegal policy setup entries → cache_of setup a ≡ Some i → cache_of setup b ≡ Some i
-    → IsTrue (is_loading (phase_of (committed_entries entries) a)) → IsTrue (is_loading (phase_of (committed_entries entries) b))
+    → IsTrue (is_loading (phase_of (committed_entries entries) a))
+    → IsTrue (is_loading (phase_of (committed_entries entries) b))
     → a ≡ b
 
 -- the first call in the order of first polls whose hold is open
 abbrev pub first_open : {K D : Type 0} → Setup D → List (Entry K) → ℕ → Option CallId
 first_open setup entries i = first_of (open_calls setup entries i)
 
--- where a call of a cache is queued, the first one whose hold is open has its turn: so nobody waits while no hold is open
+-- where a call of a cache is queued, the first one whose hold is open has its turn: so
+-- nobody waits while no hold is open
 abbrev pub SomebodyHasTheTurn : Type 0 → Type 0 → Type 0
 SomebodyHasTheTurn K D =
     (policy : Policy K D) (setup : Setup D) (entries : List (Entry K)) (call : CallId) (i : ℕ)
     → IsLegal policy setup entries → cache_of setup call ≡ Some i
     → IsTrue (is_queued (phase_of (committed_entries entries) call))
-    → (first : CallId) × (first_open setup (committed_entries entries) i ≡ Some first) × IsTrue (has_turn setup (committed_entries entries) i first)
+    → (first : CallId) × (first_open setup (committed_entries entries) i ≡ Some first)
+        × IsTrue (has_turn setup (committed_entries entries) i first)
 
 -- a chain of no providers
 abbrev pub is_empty_chain : Loader → Bool
@@ -81,13 +85,17 @@ begins_load loader (Ask provider) = provider == 0 && not (is_empty_chain loader)
 begins_load loader (Refused why.Missing wake) = is_empty_chain loader
 begins_load loader _ = false
 
--- a poll of a waiting call at its turn begins a load exactly where the look at the cache finds nothing that serves
+-- a poll of a waiting call at its turn begins a load exactly where the look at the
+-- cache finds nothing that serves
 abbrev pub LoadsExactlyWhereTheLookFails : Type 0 → Type 0 → Type 0
 LoadsExactlyWhereTheLookFails K D =
-    (policy : Policy K D) (setup : Setup D) (entries : List (Entry K)) (call : CallId) (now : ℤ) (reply : Reply K)
-    (i : ℕ) (loader : Loader) (rule : D) (begin : BeginInput)
+    (policy : Policy K D) (setup : Setup D) (entries : List (Entry K)) (call : CallId) (now : ℤ)
+    (reply : Reply K) (i : ℕ) (loader : Loader) (rule : D) (begin : BeginInput)
     → IsLegal policy setup (entries ++ record { event = Poll call now; reply = reply } ∷ [])
     → cache_of setup call ≡ Some i → slice_get setup.loaders i ≡ Some loader → rule_of setup call ≡ Some rule
     → begin_of (committed_entries entries) call ≡ Some begin
-    → IsTrue (is_waiting (phase_of (committed_entries entries) call)) → IsTrue (has_turn setup (committed_entries entries) i call)
-    → begins_load loader reply ≡ is_none (cache_lookup policy (sequential_cache policy setup (committed_entries entries) i) rule begin.duration now)
+    → IsTrue (is_waiting (phase_of (committed_entries entries) call))
+    → IsTrue (has_turn setup (committed_entries entries) i call)
+    → begins_load loader reply ≡ is_none
+        (cache_lookup policy (sequential_cache policy setup (committed_entries entries) i) rule
+            begin.duration now)

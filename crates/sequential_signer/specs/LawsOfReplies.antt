@@ -23,8 +23,8 @@ OneLegalTranscript K D =
     → events_of a ≡ events_of b → allocation_failures a ≡ allocation_failures b
     → a ≡ b
 
--- the events one after another, each with the expected reply, are a legal transcript of these events, and all its entries
--- are committed
+-- the events one after another, each with the expected reply, are a legal transcript of these events, and
+-- all its entries are committed
 abbrev pub ExpectedRepliesAreLegal : Type 0 → Type 0 → Type 0
 ExpectedRepliesAreLegal K D =
     (policy : Policy K D) (setup : Setup D) (events : List (Event K))
@@ -37,4 +37,5 @@ abbrev pub LegalRepliesAreExpected : Type 0 → Type 0 → Type 0
 LegalRepliesAreExpected K D =
     (policy : Policy K D) (setup : Setup D) (entries : List (Entry K))
     → IsLegal policy setup entries
-    → map (λ e. e.reply) (committed_entries entries) ≡ expected_replies policy setup (events_of (committed_entries entries))
+    → map (λ e. e.reply) (committed_entries entries) ≡
+        expected_replies policy setup (events_of (committed_entries entries))

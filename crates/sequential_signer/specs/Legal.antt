@@ -21,7 +21,8 @@ is_sign _ = false
 -- whether a fitting event takes memory: a begin, a look that hands out, a credential found, a head accepted
 abbrev pub takes_memory : {K D : Type 0} → Policy K D → Setup D → List (Entry K) → Event K → Bool
 takes_memory policy setup entries (Begin call head expires_in) = true
-takes_memory policy setup entries (Poll call now) = is_sign (expected_reply policy setup entries (Poll call now))
+takes_memory policy setup entries (Poll call now) =
+    is_sign (expected_reply policy setup entries (Poll call now))
 takes_memory policy setup entries (Provided call now (Found c)) = true
 takes_memory policy setup entries (Provided call now _) = false
 takes_memory policy setup entries (Signed call (Accepted candidate)) = true
@@ -39,7 +40,8 @@ IsLegalEntry policy setup entries entry =
     (entry.reply ≡ expected_reply policy setup entries entry.event)
     ⊎ ((entry.reply ≡ OutOfMemory) × IsTrue (allocates policy setup entries entry.event))
 
--- each entry of any kind is legal after the committed ones of those before it; the first of them comes after `before`
+-- each entry of any kind is legal after the committed ones of those before it; the
+-- first of them comes after `before`
 abbrev pub AreLegalAfter : {E : Type 0} → (List E → List E) → (List E → E → Type 0) → List E → List E → Type 0
 AreLegalAfter committed legal before [] = Unit {0}
 AreLegalAfter committed legal before (entry ∷ rest) =
@@ -47,14 +49,16 @@ AreLegalAfter committed legal before (entry ∷ rest) =
 
 -- each of these entries is legal after those before it
 abbrev pub IsLegalAfter : {K D : Type 0} → Policy K D → Setup D → List (Entry K) → List (Entry K) → Type 0
-IsLegalAfter policy setup before entries = AreLegalAfter committed_entries (IsLegalEntry policy setup) before entries
+IsLegalAfter policy setup before entries =
+    AreLegalAfter committed_entries (IsLegalEntry policy setup) before entries
 
 -- each entry is legal after those before it
 unfoldable pub IsLegal : {K D : Type 0} → Policy K D → Setup D → List (Entry K) → Type 0
 IsLegal policy setup entries = IsLegalAfter policy setup [] entries
 
 -- one more event, with the expected reply
-abbrev pub with_expected_reply : {K D : Type 0} → Policy K D → Setup D → List (Entry K) → Event K → List (Entry K)
+abbrev pub with_expected_reply : {K D : Type 0} → Policy K D → Setup D → List (Entry K) → Event K
+    → List (Entry K)
 with_expected_reply policy setup entries event =
     entries ++ record { event = event; reply = expected_reply policy setup entries event } ∷ []
 

@@ -25,7 +25,8 @@ live_by phase count (Some begin) = live_in phase count begin
 
 -- what a transcript says of a call that is live
 abbrev pub live_call : {K : Type 0} → List (Entry K) → CallId → Option LiveCall
-live_call entries call = live_by (phase_of entries call) (length (answers_of entries call)) (begin_of entries call)
+live_call entries call =
+    live_by (phase_of entries call) (length (answers_of entries call)) (begin_of entries call)
 
 -- the greater of a number and another, if there is one
 abbrev pub greater : ℕ → Option ℕ → Option ℕ

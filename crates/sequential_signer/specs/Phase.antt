@@ -68,7 +68,8 @@ phase_at waited (Some mark) = phase_by waited mark.reply
 
 -- how far a call with these entries is
 unfoldable pub phase_in : {K : Type 0} → List (Entry K) → Phase
-phase_in entries = phase_at (list_any is_waiting_poll entries) (last_of (filter (λ e. is_mark e.reply) entries))
+phase_in entries =
+    phase_at (list_any is_waiting_poll entries) (last_of (filter (λ e. is_mark e.reply) entries))
 
 -- how far the call is
 unfoldable pub phase_of : {K : Type 0} → List (Entry K) → CallId → Phase

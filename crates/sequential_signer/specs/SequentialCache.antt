@@ -15,8 +15,10 @@ cache_left cache (Asking provider) = cache
 cache_left cache (Over outcome left) = left
 
 -- the cache after one more hold
-abbrev pub cache_after : {K D : Type 0} → Policy K D → Option Loader → Option (HoldInput K D) → Option K → Option K
-cache_after policy (Some loader) (Some input) cache = cache_left cache (sequential_call policy cache loader input)
+abbrev pub cache_after : {K D : Type 0} → Policy K D → Option Loader → Option (HoldInput K D)
+    → Option K → Option K
+cache_after policy (Some loader) (Some input) cache =
+    cache_left cache (sequential_call policy cache loader input)
 cache_after policy _ _ cache = cache
 
 -- the served calls of cache i, in the order of their first polls

@@ -9,7 +9,8 @@ use Rattle.sequential_signer.specs.declared.event.Loader.{Loader}
 use Rattle.sequential_signer.specs.declared.event.Loader.TheVariants.{Single, Chain}
 use Rattle.sequential_signer.specs.declared.event.Why.TheVariants as why
 
--- how far the call is: it asks the provider of this number, or it is over, with an outcome and the cache that it leaves
+-- how far the call is: it asks the provider of this number, or it is over, with an
+-- outcome and the cache that it leaves
 pub data Progress (K : Type 0) : Type 0 where
   Asking : ℕ → Progress K
   Over : Outcome K → Option K → Progress K
@@ -24,7 +25,8 @@ found_progress (HandOut c) cache = Over (HandOut c) (Some c)
 found_progress (Refuse cause) cache = Over (Refuse cause) cache
 
 -- the load, by the check of what is found, the number of answers and the last of them
-abbrev pub load_progress : {K : Type 0} → (K → ℤ → Outcome K) → Loader → Option K → ℕ → Option (Answer K × ℤ) → Progress K
+abbrev pub load_progress : {K : Type 0} → (K → ℤ → Outcome K) → Loader → Option K → ℕ
+    → Option (Answer K × ℤ) → Progress K
 load_progress check loader cache count (Some (Found c, now)) = found_progress (check c now) cache
 load_progress check Single cache count None = Asking 0
 load_progress check Single cache count (Some (Missing, now)) = Over (Refuse why.Missing) cache
@@ -39,12 +41,13 @@ after_lookup (Some outcome) cache load = Over outcome cache
 after_lookup None cache load = load
 
 -- the load of a call, by its rule, its duration and the answers so far
-abbrev pub call_load : {K D : Type 0} → Policy K D → Option K → Loader → D → Option ℕ → List (Answer K × ℤ) → Progress K
+abbrev pub call_load : {K D : Type 0} → Policy K D → Option K → Loader → D → Option ℕ
+    → List (Answer K × ℤ) → Progress K
 call_load policy cache loader rule duration answers =
     load_progress (check_refreshed policy rule duration) loader cache (length answers) (last_of answers)
 
--- what the call works with: its rule, its duration, the moment of its look, and the providers' answers so far, each with
--- its moment
+-- what the call works with: its rule, its duration, the moment of its look, and the providers'
+-- answers so far, each with its moment
 pub record HoldInput (K D : Type 0) : Type 0 where
   pub rule : D
   pub duration : Option ℕ

@@ -58,7 +58,8 @@ hold_is_finished entries call = list_any (λ e. ends_hold e.reply) (entries_of e
 unfoldable pub is_served : {K : Type 0} → List (Entry K) → CallId → Bool
 is_served entries call = list_any (λ e. serves e.reply) (entries_of entries call)
 
--- the calls of cache i whose holds are open, in the order of their first polls: the one that holds, then those that wait
+-- the calls of cache i whose holds are open, in the order of their first polls: the one
+-- that holds, then those that wait
 abbrev pub open_calls : {K D : Type 0} → Setup D → List (Entry K) → ℕ → List CallId
 open_calls setup entries i = filter (λ call. not (hold_is_finished entries call)) (poll_order setup entries i)
 

@@ -1,5 +1,5 @@
-//! What happens to the calls of a granter, and what it replies. A granter makes a credential from another, the
-//! source, which is loaded and cached as a signer's. Debug texts show a credential as its type does.
+//! What happens to the calls of a granter, and what it replies. A granter makes a credential from another,
+//! the source, which is loaded and cached as a signer's. Debug texts show a credential as its type does.
 use crate::event::Answer;
 use sign_base::Timestamp;
 use std::time::Duration;

@@ -1,5 +1,5 @@
-//! Laws of a granter's transcripts, over the definitions alone: each function's contract is the law, for every
-//! type of credentials and of rules, every setup and every transcript.
+//! Laws of a granter's transcripts, over the definitions alone: each function's contract is the law, for
+//! every type of credentials and of rules, every setup and every transcript.
 ghost use Rattle.sequential_signer.specs.LawsOfGrants.{SourceWasProvided, GrantedIsNotCached, RefusedSourceIsNotCached, LastStoreStays, SourcesStandApart, GranterIsHandedTheSource, NobodyWaitsForAnother, OneLegalGrantTranscript, ExpectedGrantRepliesAreLegal};
 
 /// What a cache holds was found by a provider for one of its calls, and handed to the granter.

@@ -7,9 +7,9 @@ use std::alloc::Global;
 use std::sync::Wait;
 use wake_lock::CallId;
 
-/// Begins of calls of the first handle: the signer of four that are set up alike, the pass of four, the call's
-/// number. Then the passes with which the first signer is closed, each by its place among those that are left.
-/// Then the length of the settled journal, or the cause.
+/// Begins of calls of the first handle: the signer of four that are set up alike, the pass of four, the
+/// call's number. Then the passes with which the first signer is closed, each by its place among those that
+/// are left. Then the length of the settled journal, or the cause.
 type Row = (
     &'static [(usize, usize, u64)],
     &'static [usize],

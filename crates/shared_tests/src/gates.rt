@@ -68,8 +68,8 @@ pub struct Meeting {
     pub steady: Steady,
 }
 
-/// Notes that one of two was asked, and waits until the other is. It is looked at so often that a thread has time
-/// to start.
+/// Notes that one of two was asked, and waits until the other is. It is looked at so often
+/// that a thread has time to start.
 pub fn meets(asked: &[AtomicU64; 2], mine: usize, other: usize) -> bool
     requires mine { mine < 2 }
     requires other { other < 2 }

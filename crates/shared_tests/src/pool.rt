@@ -95,8 +95,8 @@ fn pools_end_as_their_words_say(rt: HostRuntime) {
     }
 }
 
-/// A pool's gate whose verdicts on the first calls of handles 0 and 1 wait for each other. A verdict that waited
-/// in vain is a failure.
+/// A pool's gate whose verdicts on the first calls of handles 0 and 1 wait for each other. A verdict
+/// that waited in vain is a failure.
 #[derive(Drop)]
 pub struct MeetingVerdicts {
     pub asked: [AtomicU64; 2],

@@ -1,4 +1,5 @@
-//! The command `queue`: what it writes, by its words and its gate, and that its workers run beside each other.
+//! The command `queue`: what it writes, by its words and its gate, and that its
+//! workers run beside each other.
 ghost use Rattle.std.specs.Prelude.{⊤};
 
 use crate::gates::Answers;

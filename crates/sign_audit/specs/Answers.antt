@@ -22,33 +22,43 @@ module _ {K D : Type 0} (policy : Policy K D) (old : AuditState K D) (entries : 
   abbrev pub may_run_out : Event K → Bool
   may_run_out event = allocates policy (setup_of old.desk) (committed_entries entries) event
 
-  -- whether a claim fits: a missed one where the event may run out of memory, and any other where the test said so of the
-  -- expected reply
+  -- whether a claim fits: a missed one where the event may run out of memory, and any other where the test
+  -- said so of the expected reply
   abbrev pub ClaimFits : (Reply K → Bool → Type 0) → Bool → Event K → Bool → Type 0
   ClaimFits says true event fits = may_run_out event ≡ fits
   ClaimFits says false event fits = says (reply_due event) fits
 
   -- the entry that a claim stands for
   abbrev pub claimed_entry : Bool → Event K → Entry K
-  claimed_entry missed event = record { event = event; reply = (if missed then OutOfMemory else reply_due event) }
+  claimed_entry missed event =
+      record { event = event; reply = (if missed then OutOfMemory else reply_due event) }
 
-  -- the answer to a claim by a test: a legal one is appended, and nothing changes by any other answer; whoever claims
-  -- that an allocation failed is always told
+  -- the answer to a claim by a test: a legal one is appended, and nothing changes by any other answer;
+  -- whoever claims that an allocation failed is always told
   abbrev pub AnswersTest : (Reply K → Bool → Type 0) → Bool → Event K → Claim K → AuditState K D → Type 0
-  AnswersTest says missed event claim.Legal new = ClaimFits says missed event true × AuditRepresents policy new (entries ++ claimed_entry missed event ∷ [])
-  AnswersTest says missed event (claim.Due reply) new = ClaimFits says missed event false × (reply ≡ reply_due event) × (new ≡ old)
+  AnswersTest says missed event claim.Legal new =
+      ClaimFits says missed event true
+      × AuditRepresents policy new (entries ++ claimed_entry missed event ∷ [])
+  AnswersTest says missed event (claim.Due reply) new =
+      ClaimFits says missed event false × (reply ≡ reply_due event) × (new ≡ old)
   AnswersTest says missed event claim.OutOfMemory new = (missed ≡ false) × (new ≡ old)
 
   -- the answer to a claim that an allocation failed
   abbrev pub AnswersMissed : Event K → Claim K → AuditState K D → Type 0
-  AnswersMissed event claim.Legal new = (may_run_out event ≡ true) × AuditRepresents policy new (entries ++ claimed_entry true event ∷ [])
-  AnswersMissed event (claim.Due reply) new = (may_run_out event ≡ false) × (reply ≡ reply_due event) × (new ≡ old)
+  AnswersMissed event claim.Legal new =
+      (may_run_out event ≡ true) × AuditRepresents policy new (entries ++ claimed_entry true event ∷ [])
+  AnswersMissed event (claim.Due reply) new =
+      (may_run_out event ≡ false) × (reply ≡ reply_due event) × (new ≡ old)
   AnswersMissed event claim.OutOfMemory new = ⊥
 
   -- the answer to a claim by its reply
   abbrev pub AnswersEntry : Entry K → Claim K → AuditState K D → Type 0
-  AnswersEntry entry claim.Legal new = IsLegalEntry policy (setup_of old.desk) (committed_entries entries) entry × AuditRepresents policy new (entries ++ entry ∷ [])
-  AnswersEntry entry (claim.Due reply) new = (IsLegalEntry policy (setup_of old.desk) (committed_entries entries) entry → ⊥) × (reply ≡ reply_due entry.event) × (new ≡ old)
+  AnswersEntry entry claim.Legal new =
+      IsLegalEntry policy (setup_of old.desk) (committed_entries entries) entry
+      × AuditRepresents policy new (entries ++ entry ∷ [])
+  AnswersEntry entry (claim.Due reply) new =
+      (IsLegalEntry policy (setup_of old.desk) (committed_entries entries) entry → ⊥)
+      × (reply ≡ reply_due entry.event) × (new ≡ old)
   AnswersEntry entry claim.OutOfMemory new = (entry.reply ≢ OutOfMemory) × (new ≡ old)
 
   -- the entry happens; or an allocation fails, and nothing changes
@@ -58,18 +68,23 @@ module _ {K D : Type 0} (policy : Policy K D) (old : AuditState K D) (entries : 
   HappensOr entry claim.OutOfMemory new = new ≡ old
 
 -- all claims are accepted: after the entries before them they are a legal transcript
-abbrev pub AcceptsAll : {K D : Type 0} → Policy K D → AuditState K D → List (Entry K) → List (Entry K) → AuditState K D → Type 0
+abbrev pub AcceptsAll : {K D : Type 0} → Policy K D → AuditState K D → List (Entry K) → List (Entry K)
+    → AuditState K D → Type 0
 AcceptsAll policy old entries claims new =
     IsLegalAfter policy (setup_of old.desk) entries claims × AuditRepresents policy new (entries ++ claims)
 
 -- the claim is not accepted, so these are no legal transcript; or an allocation failed
-abbrev pub IsNoTranscript : {K D : Type 0} → Policy K D → AuditState K D → List (Entry K) → List (Entry K) → Claim K → Type 0
+abbrev pub IsNoTranscript : {K D : Type 0} → Policy K D → AuditState K D → List (Entry K) → List (Entry K)
+    → Claim K → Type 0
 IsNoTranscript policy old entries claims claim.Legal = ⊥
-IsNoTranscript policy old entries claims (claim.Due reply) = IsLegalAfter policy (setup_of old.desk) entries claims → ⊥
+IsNoTranscript policy old entries claims (claim.Due reply) =
+    IsLegalAfter policy (setup_of old.desk) entries claims → ⊥
 IsNoTranscript policy old entries claims claim.OutOfMemory = Unit {0}
 
--- the claim at a place is the first that is not accepted, and this is the answer to it; those before it are accepted
-pub record FailsAt {K D : Type 0} (policy : Policy K D) (old : AuditState K D) (entries claims : List (Entry K)) (place : ℕ) (answer : Claim K) (new : AuditState K D) : Type 0 where
+-- the claim at a place is the first that is not accepted, and this is the answer to
+-- it; those before it are accepted
+pub record FailsAt {K D : Type 0} (policy : Policy K D) (old : AuditState K D)
+    (entries claims : List (Entry K)) (place : ℕ) (answer : Claim K) (new : AuditState K D) : Type 0 where
   pub entry : Entry K
   pub at : slice_get claims place ≡ Some entry
   pub before : AcceptsAll policy old entries (take place claims) new

@@ -12,7 +12,10 @@ pub record AuditState (K D : Type 0) : Type 0 where
   pub desk : DeskState K D
   pub counts : List Counts
 
--- the auditor represents the claims that it accepted: its desk does, and its counts are theirs, up to the end of the type
-pub record AuditRepresents {K D : Type 0} (policy : Policy K D) (audit : AuditState K D) (entries : List (Entry K)) : Type 0 where
+-- the auditor represents the claims that it accepted: its desk does, and its counts are
+-- theirs, up to the end of the type
+pub record AuditRepresents {K D : Type 0} (policy : Policy K D) (audit : AuditState K D)
+    (entries : List (Entry K)) : Type 0 where
   pub desk : Represents policy audit.desk entries
-  pub counts : (i : ℕ) → slice_get audit.counts i ≡ option_map (λ _. counts_up_to_end (counts_of (setup_of audit.desk) entries i)) (slice_get audit.desk.loaders i)
+  pub counts : (i : ℕ) → slice_get audit.counts i ≡ option_map
+      (λ _. counts_up_to_end (counts_of (setup_of audit.desk) entries i)) (slice_get audit.desk.loaders i)

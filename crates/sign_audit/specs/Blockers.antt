@@ -12,7 +12,8 @@ use Rattle.sign_desk.specs.Records.{CallRecord}
 -- the calls ahead at cache i, where there is one, whose holds are open, in the order of their first polls
 abbrev pub open_ahead : {K D : Type 0} → Setup D → List (Entry K) → CallId → Option ℕ → List CallId
 open_ahead setup entries call None = []
-open_ahead setup entries call (Some i) = filter (λ other. not (hold_is_finished entries other)) (calls_ahead setup entries i call)
+open_ahead setup entries call (Some i) =
+    filter (λ other. not (hold_is_finished entries other)) (calls_ahead setup entries i call)
 
 -- the calls for which this one waits; none where it is unknown or over
 abbrev pub blockers_of : {K D : Type 0} → Setup D → List (Entry K) → CallId → List CallId

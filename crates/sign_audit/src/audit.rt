@@ -56,7 +56,8 @@ impl<K: SigningCredential, D: DeadlineRule<Credential = K>> Audit<K, D> {
     pub fn new(desk: Desk<K, D>) -> Result<Audit<K, D>, NoMemory<Desk<K, D>>>
         requires { Represents (policy_of K.valid K.valid_at D.deadline) desk [] }
         ensures desk { IfOk result (λ audit. audit.desk ≡ desk) }
-        ensures represents { IfOk result (λ audit. AuditRepresents (policy_of K.valid K.valid_at D.deadline) audit []) }
+        ensures represents { IfOk result
+            (λ audit. AuditRepresents (policy_of K.valid K.valid_at D.deadline) audit []) }
         ensures back { IfErr result (λ refused. refused.back ≡ desk) }
     {
         let caches = desk.caches();
@@ -75,8 +76,9 @@ impl<K: SigningCredential, D: DeadlineRule<Credential = K>> Audit<K, D> {
     }
 
     /// One claim: that the event was answered by a reply of which `fits` says true, or, where it is `missed`,
-    /// that an allocation failed. `Legal` where the event takes memory and the claim is missed, or where `fits`
-    /// says true of the expected reply; the event then counts as happened. Else `Due`, and nothing changes.
+    /// that an allocation failed. `Legal` where the event takes memory and the claim is
+    /// missed, or where `fits` says true of the expected reply; the event then counts as
+    /// happened. Else `Due`, and nothing changes.
     ///
     /// `OutOfMemory` is never the answer to a missed claim, and changes nothing.
     pub fn claim_by<F: Fn(&Reply<K>) -> bool>(
@@ -86,8 +88,10 @@ impl<K: SigningCredential, D: DeadlineRule<Credential = K>> Audit<K, D> {
         fits: F,
     ) -> Claim<K>
         requires { F.IsAlwaysCallable fits }
-        ensures answer { (entries : List (Entry K)) → AuditRepresents (policy_of K.valid K.valid_at D.deadline) self.old entries
-            → AnswersTest (policy_of K.valid K.valid_at D.deadline) self.old entries (FnReturnsAt F.Fn fits) missed event.now result self.new }
+        ensures answer { (entries : List (Entry K))
+            → AuditRepresents (policy_of K.valid K.valid_at D.deadline) self.old entries
+            → AnswersTest (policy_of K.valid K.valid_at D.deadline) self.old entries
+                (FnReturnsAt F.Fn fits) missed event.now result self.new }
         ensures setup { setup_of self.new.desk ≡ setup_of self.old.desk }
     {
         if missed {
@@ -107,9 +111,10 @@ impl<K: SigningCredential, D: DeadlineRule<Credential = K>> Audit<K, D> {
     ///
     /// `OutOfMemory` is answered only where a step could answer it.
     pub fn due(&self, event: &Event<K>) -> Reply<K>
-        ensures expected { (entries : List (Entry K)) → AuditRepresents (policy_of K.valid K.valid_at D.deadline) self.now entries
-            → IsLegalEntry (policy_of K.valid K.valid_at D.deadline) (setup_of self.now.desk) (committed_entries entries)
-            (record { event = event.now; reply = result }) }
+        ensures expected { (entries : List (Entry K))
+            → AuditRepresents (policy_of K.valid K.valid_at D.deadline) self.now entries
+            → IsLegalEntry (policy_of K.valid K.valid_at D.deadline) (setup_of self.now.desk)
+                (committed_entries entries) (record { event = event.now; reply = result }) }
         ensures kind { IsTrue (is_reply_to event.now result) }
     {
         self.desk.preview(event)
@@ -117,18 +122,21 @@ impl<K: SigningCredential, D: DeadlineRule<Credential = K>> Audit<K, D> {
 
     /// Whether the event may run out of memory now.
     pub fn may_run_out(&self, event: &Event<K>) -> bool
-        ensures { (entries : List (Entry K)) → AuditRepresents (policy_of K.valid K.valid_at D.deadline) self.now entries
-            → result ≡ allocates (policy_of K.valid K.valid_at D.deadline) (setup_of self.now.desk) (committed_entries entries) event.now }
+        ensures { (entries : List (Entry K))
+            → AuditRepresents (policy_of K.valid K.valid_at D.deadline) self.now entries
+            → result ≡ allocates (policy_of K.valid K.valid_at D.deadline) (setup_of self.now.desk)
+                (committed_entries entries) event.now }
     {
         allocates(&self.desk, event)
     }
 
-    /// The counts of the claims that were accepted, of calls of this cache. Each stands still at the end of its
-    /// type.
+    /// The counts of the claims that were accepted, of calls of this cache. Each stands
+    /// still at the end of its type.
     pub fn counts(&self, cache: u32) -> Counts
         requires { cache < length self.now.desk.loaders }
         ensures kept { Some result ≡ slice_get self.now.counts cache }
-        ensures counts { (entries : List (Entry K)) → AuditRepresents (policy_of K.valid K.valid_at D.deadline) self.now entries
+        ensures counts { (entries : List (Entry K))
+            → AuditRepresents (policy_of K.valid K.valid_at D.deadline) self.now entries
             → length entries < 2 ^ 64 → result ≡ counts_of (setup_of self.now.desk) entries cache }
     {
         self.counts[cache as usize]
@@ -143,8 +151,10 @@ impl<K: SigningCredential, D: DeadlineRule<Credential = K>> Audit<K, D> {
 
     /// A claim that an allocation failed.
     fn miss(&mut self, event: &Event<K>) -> Claim<K>
-        ensures answer { (entries : List (Entry K)) → AuditRepresents (policy_of K.valid K.valid_at D.deadline) self.old entries
-            → AnswersMissed (policy_of K.valid K.valid_at D.deadline) self.old entries event.now result self.new }
+        ensures answer { (entries : List (Entry K))
+            → AuditRepresents (policy_of K.valid K.valid_at D.deadline) self.old entries
+            → AnswersMissed (policy_of K.valid K.valid_at D.deadline)
+                self.old entries event.now result self.new }
         ensures setup { setup_of self.new.desk ≡ setup_of self.old.desk }
     {
         if !allocates(&self.desk, event) {
@@ -163,11 +173,14 @@ impl<K: SigningCredential, D: DeadlineRule<Credential = K>> Audit<K, D> {
 
     /// A claim that fits the expected reply: the event happens, unless an allocation fails.
     fn accept(&mut self, event: &Event<K>, expected: &Reply<K>) -> Claim<K>
-        requires expected { (entries : List (Entry K)) → AuditRepresents (policy_of K.valid K.valid_at D.deadline) self.old entries
+        requires expected { (entries : List (Entry K))
+            → AuditRepresents (policy_of K.valid K.valid_at D.deadline) self.old entries
             → expected.now ≡ reply_due (policy_of K.valid K.valid_at D.deadline) self.old entries event.now }
         requires kind { is_reply_to event.now expected.now ≡ true }
-        ensures answer { (entries : List (Entry K)) → AuditRepresents (policy_of K.valid K.valid_at D.deadline) self.old entries
-            → HappensOr (policy_of K.valid K.valid_at D.deadline) self.old entries (record { event = event.now; reply = expected.now }) result self.new }
+        ensures answer { (entries : List (Entry K))
+            → AuditRepresents (policy_of K.valid K.valid_at D.deadline) self.old entries
+            → HappensOr (policy_of K.valid K.valid_at D.deadline) self.old entries
+                (record { event = event.now; reply = expected.now }) result self.new }
         ensures setup { setup_of self.new.desk ≡ setup_of self.old.desk }
     {
         let call = call_of(event);
@@ -191,30 +204,35 @@ impl<K: SigningCredential, D: DeadlineRule<Credential = K>> Audit<K, D> {
 }
 
 impl<K: SigningCredential + EqualByValue, D: DeadlineRule<Credential = K>> Audit<K, D> {
-    /// One claim: that the event had this reply; `OutOfMemory` claims that an allocation failed. `Legal` where
-    /// the entry is legal after those before it, and the event then counts as happened. Else `Due`, and nothing
-    /// changes.
+    /// One claim: that the event had this reply; `OutOfMemory` claims that an allocation failed.
+    /// `Legal` where the entry is legal after those before it, and the event then counts as happened.
+    /// Else `Due`, and nothing changes.
     ///
     /// `OutOfMemory` is never the answer to a claim of that, and changes nothing.
     pub fn claim(&mut self, event: &Event<K>, claimed: &Reply<K>) -> Claim<K>
-        ensures answer { (entries : List (Entry K)) → AuditRepresents (policy_of K.valid K.valid_at D.deadline) self.old entries
-            → AnswersEntry (policy_of K.valid K.valid_at D.deadline) self.old entries (record { event = event.now; reply = claimed.now }) result self.new }
+        ensures answer { (entries : List (Entry K))
+            → AuditRepresents (policy_of K.valid K.valid_at D.deadline) self.old entries
+            → AnswersEntry (policy_of K.valid K.valid_at D.deadline) self.old entries
+                (record { event = event.now; reply = claimed.now }) result self.new }
         ensures setup { setup_of self.new.desk ≡ setup_of self.old.desk }
     {
         let missed = is_out_of_memory(claimed);
         self.claim_by(event, missed, |reply| same_reply(reply, claimed))
     }
 
-    /// The claims one after another, each as by `claim`, until one is not accepted. So from a new auditor on it is
-    /// Ok exactly where the claims are a legal transcript, unless an allocation of the auditor fails.
+    /// The claims one after another, each as by `claim`, until one is not accepted. So from a new auditor on
+    /// it is Ok exactly where the claims are a legal transcript, unless an allocation of the auditor fails.
     ///
     /// Errors: the place of the first claim that is not accepted, and the answer to it. Those before it are
     /// accepted.
     pub fn claim_all(&mut self, claims: &[Entry<K>]) -> Result<(), (usize, Claim<K>)>
-        ensures ok { OnOk result ((entries : List (Entry K)) → AuditRepresents (policy_of K.valid K.valid_at D.deadline) self.old entries
+        ensures ok { OnOk result ((entries : List (Entry K))
+            → AuditRepresents (policy_of K.valid K.valid_at D.deadline) self.old entries
             → AcceptsAll (policy_of K.valid K.valid_at D.deadline) self.old entries claims.now self.new) }
-        ensures err { IfErr result (λ failed. (entries : List (Entry K)) → AuditRepresents (policy_of K.valid K.valid_at D.deadline) self.old entries
-            → FailsAt (policy_of K.valid K.valid_at D.deadline) self.old entries claims.now failed.0 failed.1 self.new) }
+        ensures err { IfErr result (λ failed. (entries : List (Entry K))
+            → AuditRepresents (policy_of K.valid K.valid_at D.deadline) self.old entries
+            → FailsAt (policy_of K.valid K.valid_at D.deadline)
+                self.old entries claims.now failed.0 failed.1 self.new) }
         ensures setup { setup_of self.new.desk ≡ setup_of self.old.desk }
     {
         for (place, entry) in claims.iter().enumerate() {

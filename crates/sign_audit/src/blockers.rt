@@ -17,10 +17,11 @@ use wake_lock::CallId;
 
 impl<K: SigningCredential, D: DeadlineRule<Credential = K>> Audit<K, D> {
     /// The calls of the same cache that were polled before this one and whose holds are open, in the order of
-    /// their first polls. Of a call that was not polled yet these are all that were; of one that is unknown or
-    /// over, or is signing, there are none.
+    /// their first polls. Of a call that was not polled yet these are all that were; of one that is unknown
+    /// or over, or is signing, there are none.
     pub fn blockers(&self, call: CallId) -> Result<Vec<CallId>, NoMemory<()>>
-        ensures { IfOk result (λ calls. (entries : List (Entry K)) → AuditRepresents (policy_of K.valid K.valid_at D.deadline) self.now entries
+        ensures { IfOk result (λ calls. (entries : List (Entry K))
+            → AuditRepresents (policy_of K.valid K.valid_at D.deadline) self.now entries
             → calls.items ≡ blockers_of (setup_of self.now.desk) (committed_entries entries) call) }
     {
         match self.waits_at(call) {
@@ -31,7 +32,8 @@ impl<K: SigningCredential, D: DeadlineRule<Credential = K>> Audit<K, D> {
 
     /// The first of `blockers`. It takes no memory and no walk along the others.
     pub fn first_blocker(&self, call: CallId) -> Option<CallId>
-        ensures { (entries : List (Entry K)) → AuditRepresents (policy_of K.valid K.valid_at D.deadline) self.now entries
+        ensures { (entries : List (Entry K))
+            → AuditRepresents (policy_of K.valid K.valid_at D.deadline) self.now entries
             → result ≡ first_of (blockers_of (setup_of self.now.desk) (committed_entries entries) call) }
     {
         let cache = self.waits_at(call)?;
@@ -44,7 +46,8 @@ impl<K: SigningCredential, D: DeadlineRule<Credential = K>> Audit<K, D> {
 
     /// The cache at whose line the call stands, or will stand by its first poll.
     fn waits_at(&self, call: CallId) -> Option<u32>
-        ensures says { result ≡ waits_at (find_call call self.now.desk.calls) (cache_of (setup_of self.now.desk) call) }
+        ensures says { result ≡
+            waits_at (find_call call self.now.desk.calls) (cache_of (setup_of self.now.desk) call) }
         ensures there { IfSome result (λ cache. cache < length self.now.desk.queues) }
     {
         let stage = self.desk.stage_of(call)?;

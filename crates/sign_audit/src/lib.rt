@@ -1,5 +1,5 @@
-//! An auditor: it is given events, one after another, with the replies that somebody claims for them, and says
-//! of each whether it is what a signer replies that serves one call at a time.
+//! An auditor: it is given events, one after another, with the replies that somebody claims for them, and
+//! says of each whether it is what a signer replies that serves one call at a time.
 #![tactic(auto)]
 
 mod allocates;

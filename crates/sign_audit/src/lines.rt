@@ -36,8 +36,8 @@ impl Lines {
         Ok(Lines { lines })
     }
 
-    /// What is done at the line of a cache before a step: a call that comes takes its place. It fails where an
-    /// allocation does, and then nothing has changed.
+    /// What is done at the line of a cache before a step: a call that comes takes its place. It fails where
+    /// an allocation does, and then nothing has changed.
     pub(crate) fn before_step(
         &mut self,
         change: LineChange,

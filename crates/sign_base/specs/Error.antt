@@ -17,7 +17,8 @@ pub record ErrorParts : Type 0 where
 
 -- an error of this kind and message that nothing was added to
 abbrev pub new_error : ErrorKind → List ℕ → ErrorParts
-new_error kind message = record { kind = kind; message = message; context = []; retryable = is_retried kind; source = None }
+new_error kind message =
+    record { kind = kind; message = message; context = []; retryable = is_retried kind; source = None }
 
 -- a text that may be absent, which is then the empty text
 abbrev pub text_or_empty : Option (String Global) → List ℕ

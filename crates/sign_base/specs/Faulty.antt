@@ -15,7 +15,8 @@ fails_next plan = list_any (λ call. call == plan.calls) plan.fails
 
 -- the plan after one call more, which failed or not
 abbrev pub one_call : Bool → Plan → Plan
-one_call failed plan = record plan { calls = one_more plan.calls; faults = if failed then one_more plan.faults else plan.faults }
+one_call failed plan =
+    record plan { calls = one_more plan.calls; faults = if failed then one_more plan.faults else plan.faults }
 
 -- a source: what is still to come, the most that a read gives, and its plan
 pub record FaultyInput : Type 0 where

@@ -11,7 +11,8 @@ use Rattle.sign_base.specs.MomentRead.{days_before, whole_second, shown_moment}
 
 -- a new error is retryable where its kind is the limit on the rate, and nowhere else
 abbrev pub RetriesRateLimitsAlone : Type 0
-RetriesRateLimitsAlone = (kind : ErrorKind) (message : List ℕ) → ((new_error kind message).retryable ≡ true) ↔ (kind ≡ RateLimited)
+RetriesRateLimitsAlone =
+    (kind : ErrorKind) (message : List ℕ) → ((new_error kind message).retryable ≡ true) ↔ (kind ≡ RateLimited)
 
 -- the text of ISO 8601 begins with the date's
 abbrev pub BeginsWithDate : Type 0
@@ -20,7 +21,8 @@ BeginsWithDate = (c : Civil) → take (length (date_text c)) (iso8601_text c) �
 -- counting off the days before a date of the years from 0 to 9999 leads back to that date
 abbrev pub CountsBack : Type 0
 CountsBack = (year month day : ℕ) → IsCivilDate (pos year) month day
-    → (year ≡ (year_reached (days_before year month day)).0) × (month ≡ (month_reached (days_before year month day)).0)
+    → (year ≡ (year_reached (days_before year month day)).0)
+    × (month ≡ (month_reached (days_before year month day)).0)
     × (day ≡ (month_reached (days_before year month day)).1 + 1)
 
 -- the date that is counted off has as many days before it

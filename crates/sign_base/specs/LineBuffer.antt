@@ -25,7 +25,8 @@ IsReadOutcome input left Failed = NeedsRead input
 -- bytes were taken by need, and then reading stopped
 abbrev pub Fills : LineInput → Option (List ℕ) → Option (List ℕ) → ReadOutcome → LineInput → Type 0
 Fills old before after outcome new =
-    (bytes : List ℕ) × Consumes before after bytes × TakenByNeed old bytes × (new ≡ with_taken old bytes) × IsReadOutcome new after outcome
+    (bytes : List ℕ) × Consumes before after bytes × TakenByNeed old bytes × (new ≡ with_taken old bytes)
+    × IsReadOutcome new after outcome
 
 -- whether a read failed
 abbrev pub is_failed : ReadOutcome → Bool

@@ -3,7 +3,8 @@ use Rattle.std.specs.Prelude.{◌≡◌, ◌≤◌, ◌+◌, ◌-◌, ◌++◌, 
 use Rattle.sign_base.specs.declared.close.Close.{Close}
 use Rattle.sign_base.specs.Lines.{IsLine, input_limit}
 
--- an input: how many of its bytes were handed out, those that were taken and not handed out, and how it closed, if it did
+-- an input: how many of its bytes were handed out, those that were taken and not handed
+-- out, and how it closed, if it did
 pub record LineInput : Type 0 where
   pub handed : ℕ
   pub held : List ℕ
@@ -32,7 +33,8 @@ NeedsRead input = (input.closed ≡ None) × (taken input ≤ input_limit) × Is
 -- bytes were taken only where a read was needed, also before the last piece of them
 abbrev pub TakenByNeed : LineInput → List ℕ → Type 0
 TakenByNeed input bytes =
-    (bytes ≡ []) ⊎ ((earlier : List ℕ) × (piece : List ℕ) × (bytes ≡ earlier ++ piece) × NeedsRead (with_taken input earlier))
+    (bytes ≡ []) ⊎ ((earlier : List ℕ) × (piece : List ℕ) × (bytes ≡ earlier ++ piece)
+        × NeedsRead (with_taken input earlier))
 
 -- only the first `input_limit` bytes are handed out, and at most one byte more is taken
 abbrev pub IsWithinLimit : LineInput → Type 0

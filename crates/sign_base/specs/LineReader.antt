@@ -19,26 +19,30 @@ GivesLastLine input left line new =
     NeedsRead input × IsAtEnd left × (0 < length line) × (input.held ≡ line)
     × (new ≡ record { handed = input.handed + length line; held = []; closed = Some close.End })
 
--- why the input closes: it holds a line too long; no whole line and too many bytes; nothing at the end of the source; or the
--- beginning of a line where a read failed
+-- why the input closes: it holds a line too long; no whole line and too many bytes; nothing at the end of the
+-- source; or the beginning of a line where a read failed
 abbrev pub ClosesBy : LineInput → Option (List ℕ) → Close → Type 0
 ClosesBy input left close.TooLong = BeginsTooLong (looked_at input)
 ClosesBy input left close.TooMuch = IsLine (looked_at input) × (input_limit < taken input)
 ClosesBy input left close.End = NeedsRead input × IsAtEnd left × (input.held ≡ [])
 ClosesBy input left close.Fault = NeedsRead input
 
--- a line or a close, by what is held with the bytes taken for it and what is left of the source; and the input then
+-- a line or a close, by what is held with the bytes taken for it and what is left of
+-- the source; and the input then
 abbrev pub Answers : LineInput → Option (List ℕ) → Result (List ℕ) Close → LineInput → Type 0
 Answers input left (Ok line) new = GivesLine input line new ⊎ GivesLastLine input left line new
 Answers input left (Err why) new = ClosesBy input left why × (new ≡ closed_by input why)
 
 -- the next answer of an open input, by the source before and after it
-abbrev pub AnswersOpen : LineInput → Option (List ℕ) → Option (List ℕ) → Result (List ℕ) Close → LineInput → Type 0
+abbrev pub AnswersOpen : LineInput → Option (List ℕ) → Option (List ℕ) → Result (List ℕ) Close
+    → LineInput → Type 0
 AnswersOpen old before after answer new =
-    (bytes : List ℕ) × Consumes before after bytes × TakenByNeed old bytes × Answers (with_taken old bytes) after answer new × IsWithinLimit new
+    (bytes : List ℕ) × Consumes before after bytes × TakenByNeed old bytes
+    × Answers (with_taken old bytes) after answer new × IsWithinLimit new
 
 -- the next answer: one that closed answers the same again
-abbrev pub AnswersNext : LineInput → Option (List ℕ) → Option (List ℕ) → Result (List ℕ) Close → LineInput → Type 0
+abbrev pub AnswersNext : LineInput → Option (List ℕ) → Option (List ℕ) → Result (List ℕ) Close
+    → LineInput → Type 0
 AnswersNext old before after answer new =
     MatchOption old.closed (AnswersOpen old before after answer new) (λ why. (answer ≡ Err why) × (new ≡ old))
 

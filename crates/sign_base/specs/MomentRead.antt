@@ -32,4 +32,5 @@ shown_time text = number_at 9 2 text * 3600 + (number_at 11 2 text * 60 + number
 -- the moment
 abbrev pub shown_moment : List ℕ → ℤ
 shown_moment text =
-    moment_of_second (pos (shown_days text * 86400 + shown_time text) +ℤ neg_ℤ (pos (days_before_1970 * 86400)))
+    moment_of_second
+    (pos (shown_days text * 86400 + shown_time text) +ℤ neg_ℤ (pos (days_before_1970 * 86400)))

@@ -21,7 +21,8 @@ read_rfc2822 text = in_range (result_ok (timestamp false text))
 
 -- a date and time with no offset, taken as UTC
 abbrev pub read_civil : List ℕ → Option ℤ
-read_civil text = in_range (option_map (λ parts. parts_nanos parts.0 parts.1) (result_ok (parse_datetime text)))
+read_civil text =
+    in_range (option_map (λ parts. parts_nanos parts.0 parts.1) (result_ok (parse_datetime text)))
 
 -- the message of a text that does not read
 abbrev pub parse_message : List ℕ → List ℕ → List ℕ

@@ -12,4 +12,6 @@ IsErrorOf kind message e = (e ≡ new_error kind message) ⊎ (e ≡ new_error O
 
 -- the refusal of a number of seconds or milliseconds that is out of range
 abbrev pub IsNotConverted : ℤ → List ℕ → ErrorParts → Type 0
-IsNotConverted number unit = IsErrorOf Unexpected (codes "convert '" ++ (signed_decimal number ++ (codes "' " ++ (unit ++ codes " into timestamp failed"))))
+IsNotConverted number unit =
+    IsErrorOf Unexpected
+    (codes "convert '" ++ (signed_decimal number ++ (codes "' " ++ (unit ++ codes " into timestamp failed"))))

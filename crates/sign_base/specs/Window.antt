@@ -12,7 +12,9 @@ pub record HeldBytes : Type 0 where
   pub held : List ℕ
 
 -- a read added a piece to what is held, none only at the end of the source, or nothing where it failed
-abbrev pub ReadsPiece : {E : Type 0} → Option (List ℕ) → Option (List ℕ) → List ℕ → List ℕ → Result ℕ E → Type 0
+abbrev pub ReadsPiece : {E : Type 0} → Option (List ℕ) → Option (List ℕ) → List ℕ → List ℕ
+    → Result ℕ E → Type 0
 ReadsPiece before after old new result = MatchResult result
-    (λ n. (piece : List ℕ) × (new ≡ old ++ piece) × (length piece ≡ n) × Consumes before after piece × (n ≡ 0 → IsAtEnd after))
+    (λ n. (piece : List ℕ) × (new ≡ old ++ piece) × (length piece ≡ n) × Consumes before after piece
+        × (n ≡ 0 → IsAtEnd after))
     (λ _. (new ≡ old) × Keeps before after)

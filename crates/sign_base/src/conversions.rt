@@ -22,7 +22,8 @@ use std::{fmt, io};
 impl Error {
     /// `Unexpected`, over the error itself, which comes back where there is no memory for its text.
     pub fn from_anyhow(alloc: Global, err: anyhow::Error) -> Result<Error, NoMemory<anyhow::Error>>
-        ensures ok { IfOk result (λ e. e ≡ record (new_error Unexpected (error_message err)) { source = Some err }) }
+        ensures ok { IfOk result
+            (λ e. e ≡ record (new_error Unexpected (error_message err)) { source = Some err }) }
         ensures back { IfErr result (λ e. e.back ≡ err) }
     {
         match error_from_display(alloc, ErrorKind::Unexpected, &err) {
@@ -106,7 +107,8 @@ impl Error {
     /// `ConfigInvalid` where something was not found, `PermissionDenied` where that was the cause,
     /// else `Unexpected`; retryable where it timed out, was interrupted or was refused a connection.
     pub fn from_io(alloc: Global, err: &io::Error) -> Result<Error, NoMemory<()>>
-        ensures parts { IfOk result (λ e. e ≡ record (new_error (kind_of_io (error_kind err.now)) e.message) { retryable = is_retried_io (error_kind err.now) }) }
+        ensures parts { IfOk result (λ e. e ≡ record (new_error (kind_of_io (error_kind err.now)) e.message)
+            { retryable = is_retried_io (error_kind err.now) }) }
         ensures memory { error_kind err.now ≡ IoErrorKind.OutOfMemory → IsErr result }
     {
         let (kind, retryable) = match err.kind() {

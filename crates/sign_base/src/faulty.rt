@@ -77,7 +77,11 @@ impl FaultySource {
     /// and fails exactly at the reads whose numbers, from 0, stand in `fails`.
     pub fn new(bytes: Vec<u8>, piece: usize, fails: Vec<u64>) -> FaultySource
         requires { 0 < piece }
-        ensures { result ≡ record { left = bytes.items; piece = piece; plan = record { fails = fails.items; calls = 0; faults = 0 } } }
+        ensures { result ≡ record {
+          left = bytes.items;
+          piece = piece;
+          plan = record { fails = fails.items; calls = 0; faults = 0 }
+        } }
     {
         FaultySource {
             bytes: MemorySource::new(bytes),
@@ -95,7 +99,8 @@ impl Source for FaultySource {
     fn read(&mut self, buf: &mut [u8]) -> Result<usize, Failed>
         requires { 0 < length buf.old }
         ensures fails { is_err result ≡ fails_next self.old.plan }
-        ensures piece { IfOk result (λ n. n ≡ min self.old.piece (min (length self.old.left) (length buf.old))) }
+        ensures piece { IfOk result
+            (λ n. n ≡ min self.old.piece (min (length self.old.left) (length buf.old))) }
         ensures plan { self.new.plan ≡ one_call (is_err result) self.old.plan }
         ensures same { self.new.piece ≡ self.old.piece }
         ensures bound { ReadsAtMost result buf.new }
@@ -124,7 +129,8 @@ impl Model for FaultySink {
 
     ghost Value = { FaultyOutput };
 
-    ghost view = { λ s. record { holds = s.bytes.holds; room = s.bytes.room; piece = s.piece; plan = s.plan } };
+    ghost view = { λ s.
+        record { holds = s.bytes.holds; room = s.bytes.room; piece = s.piece; plan = s.plan } };
 
     ghost invariant = { λ s. 0 < s.piece };
 }
@@ -140,7 +146,12 @@ impl FaultySink {
         fails: Vec<u64>,
     ) -> Result<FaultySink, NoMemory<Vec<u64>>>
         requires { 0 < piece }
-        ensures ok { IfOk result (λ s. s ≡ record { holds = []; room = room; piece = piece; plan = record { fails = fails.items; calls = 0; faults = 0 } }) }
+        ensures ok { IfOk result (λ s. s ≡ record {
+          holds = [];
+          room = room;
+          piece = piece;
+          plan = record { fails = fails.items; calls = 0; faults = 0 }
+        }) }
         ensures back { IfErr result (λ e. e.back ≡ fails) }
     {
         let Ok(bytes) = MemorySink::new(alloc, room) else {

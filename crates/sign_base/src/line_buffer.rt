@@ -61,7 +61,8 @@ pub(crate) enum ReadOutcome {
 
 impl LineBuffer {
     pub(crate) fn new(alloc: Global) -> Result<LineBuffer, NoMemory<()>>
-        ensures { IfOk result (λ b. b ≡ record { line = []; input = record { handed = 0; held = []; closed = None } }) }
+        ensures { IfOk result
+            (λ b. b ≡ record { line = []; input = record { handed = 0; held = []; closed = None } }) }
     {
         Ok(LineBuffer {
             window: Window::new(alloc)?,
@@ -100,8 +101,11 @@ impl LineBuffer {
 
     /// Hands out the next line, which then stands in the window, or closes.
     pub(crate) fn advance<S: Source>(&mut self, source: &mut S) -> Result<(), Close>
-        ensures answer { AnswersNext self.old.input (S.left source.old) (S.left source.new) (step_answer result self.new.line) self.new.input }
-        ensures faults { self.old.input.closed ≡ None → CountsFault (is_fault (step_answer result self.new.line)) (S.faults source.old) (S.faults source.new) }
+        ensures answer { AnswersNext self.old.input (S.left source.old) (S.left source.new)
+            (step_answer result self.new.line) self.new.input }
+        ensures faults { self.old.input.closed ≡ None
+            → CountsFault (is_fault (step_answer result self.new.line)) (S.faults source.old)
+                (S.faults source.new) }
         ensures still { (NeedsRead self.old.input → ⊥) → source.new ≡ source.old }
     {
         if let Some(close) = self.closed {
@@ -134,7 +138,8 @@ impl LineBuffer {
     /// Reads a piece, with the room that the window and the limit leave for it.
     fn read<S: Source>(&mut self, source: &mut S) -> Result<usize, Failed>
         requires { NeedsRead self.old.input }
-        ensures piece { ReadsPiece (S.left source.old) (S.left source.new) self.old.input.held self.new.input.held result }
+        ensures piece { ReadsPiece (S.left source.old)
+            (S.left source.new) self.old.input.held self.new.input.held result }
         ensures same { self.new.input ≡ record self.old.input { held = self.new.input.held } }
         ensures faults { CountsFault (is_err result) (S.faults source.old) (S.faults source.new) }
     {
@@ -157,7 +162,8 @@ impl LineBuffer {
     fn hand_out(&mut self) -> Result<(), Close>
         requires unclosed { self.old.input.closed ≡ None }
         requires ready { NeedsRead self.old.input → ⊥ }
-        ensures answer { (left : Option (List ℕ)) → Answers self.old.input left (step_answer result self.new.line) self.new.input }
+        ensures answer { (left : Option (List ℕ))
+            → Answers self.old.input left (step_answer result self.new.line) self.new.input }
         ensures within { IsWithinLimit self.new.input }
         ensures no_fault { is_fault (step_answer result self.new.line) ≡ false }
     {
@@ -174,7 +180,8 @@ impl LineBuffer {
     /// Hands out the line that a newline ends.
     fn cut_line(&mut self)
         requires unclosed { self.old.input.closed ≡ None }
-        requires whole { position_or_len is_newline (looked_at self.old.input) < length (looked_at self.old.input) }
+        requires whole { position_or_len is_newline (looked_at self.old.input) <
+            length (looked_at self.old.input) }
         requires fits { position_or_len is_newline (looked_at self.old.input) ≤ line_limit }
         ensures line { GivesLine self.old.input self.new.line self.new.input }
         ensures within { IsWithinLimit self.new.input }
@@ -188,7 +195,8 @@ impl LineBuffer {
     /// Hands out all that is held as the last line, where there is some, and closes.
     fn finish(&mut self) -> Result<(), Close>
         requires { NeedsRead self.old.input }
-        ensures answer { (left : Option (List ℕ)) → IsAtEnd left → Answers self.old.input left (step_answer result self.new.line) self.new.input }
+        ensures answer { (left : Option (List ℕ)) → IsAtEnd left
+            → Answers self.old.input left (step_answer result self.new.line) self.new.input }
         ensures within { IsWithinLimit self.new.input }
         ensures no_fault { is_fault (step_answer result self.new.line) ≡ false }
     {

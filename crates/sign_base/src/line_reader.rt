@@ -90,9 +90,11 @@ impl LineReader {
     /// there is none. Any answer but a line closes the reader: it answers the same from then on, and
     /// reads no more.
     pub fn next<S: Source>(&mut self, source: &mut S) -> Next<'_>
-        ensures* answer { sem 𝓛 (Leaves self.entry (λ new. AnswersNext self.old (S.left source.old) (S.left source.new) (answer_of result) new)) }
+        ensures* answer { sem 𝓛 (Leaves self.entry (λ new.
+            AnswersNext self.old (S.left source.old) (S.left source.new) (answer_of result) new)) }
         // A failed read is one fault, and any other answer comes with none.
-        ensures faults { self.old.closed ≡ None → CountsFault (is_fault (answer_of result)) (S.faults source.old) (S.faults source.new) }
+        ensures faults { self.old.closed ≡ None
+            → CountsFault (is_fault (answer_of result)) (S.faults source.old) (S.faults source.new) }
         ensures still { (NeedsRead self.old → ⊥) → source.new ≡ source.old }
     {
         match self.lines.advance(source) {

@@ -96,7 +96,8 @@ impl Sink for MemorySink {
         ensures taken { IfOk result (λ n. n ≡ min self.old.room (length piece.now)) }
         ensures full { IsErr result ↔ (self.old.room ≡ 0) }
         ensures room { self.new.room ≡ self.old.room - length piece.now }
-        ensures counted { self.new.faults ≡ (if is_ok result then self.old.faults else one_more self.old.faults) }
+        ensures counted { self.new.faults ≡
+            (if is_ok result then self.old.faults else one_more self.old.faults) }
         ensures some { IfOk result (λ n. 0 < n) }
         ensures bound { IfOk result (λ n. n ≤ length piece.now) }
         ensures bytes { WriteAppends (Some self.old.holds) (Some self.new.holds) result piece.now }
@@ -116,10 +117,10 @@ impl Sink for MemorySink {
     }
 }
 
-/// A writer of the standard library. Contracts observe what its writer lets them, which is nothing for a file, a
-/// pipe or a terminal, and counts its faults up to the last number of a `u64`. Nothing is tried
-/// again, also where the writer was interrupted, and a writer that takes nothing has failed. `Debug`
-/// does not show the writer, which may hold bytes.
+/// A writer of the standard library. Contracts observe what its writer lets them, which is nothing for a
+/// file, a pipe or a terminal, and counts its faults up to the last number of a `u64`. Nothing is tried
+/// again, also where the writer was interrupted, and a writer that takes nothing has failed. `Debug` does not
+/// show the writer, which may hold bytes.
 #[derive(Drop)]
 pub struct StdSink<W> {
     writer: W,
@@ -157,10 +158,12 @@ impl<W: Write> Sink for StdSink<W> {
 
     fn write(&mut self, piece: &[u8]) -> Result<usize, Failed>
         requires { 0 < length piece.now }
-        ensures counted { self.new.faults ≡ (if is_ok result then self.old.faults else one_more self.old.faults) }
+        ensures counted { self.new.faults ≡
+            (if is_ok result then self.old.faults else one_more self.old.faults) }
         ensures some { IfOk result (λ n. 0 < n) }
         ensures bound { IfOk result (λ n. n ≤ length piece.now) }
-        ensures bytes { WriteAppends (W.contents self.old.stream) (W.contents self.new.stream) result piece.now }
+        ensures bytes { WriteAppends (W.contents self.old.stream)
+            (W.contents self.new.stream) result piece.now }
         ensures faults { CountsFault (is_err result) self.old.faults self.new.faults }
     {
         match self.writer.write(piece) {

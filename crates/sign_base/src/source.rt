@@ -92,8 +92,8 @@ impl Source for MemorySource {
     }
 }
 
-/// A reader of the standard library. Contracts observe what its reader lets them, which is nothing for a file, a
-/// pipe or a terminal, and counts its faults up to the last number of a `u64`. Nothing is tried
+/// A reader of the standard library. Contracts observe what its reader lets them, which is nothing for a
+/// file, a pipe or a terminal, and counts its faults up to the last number of a `u64`. Nothing is tried
 /// again, also where the reader was interrupted. `Debug` does not show the reader, which may hold bytes.
 #[derive(Drop)]
 pub struct StdSource<R> {
@@ -132,9 +132,11 @@ impl<R: Read> Source for StdSource<R> {
 
     fn read(&mut self, buf: &mut [u8]) -> Result<usize, Failed>
         requires { 0 < length buf.old }
-        ensures counted { self.new.faults ≡ (if is_ok result then self.old.faults else one_more self.old.faults) }
+        ensures counted { self.new.faults ≡
+            (if is_ok result then self.old.faults else one_more self.old.faults) }
         ensures bound { ReadsAtMost result buf.new }
-        ensures bytes { ReadConsumes (R.remaining self.old.stream) (R.remaining self.new.stream) result buf.new }
+        ensures bytes { ReadConsumes (R.remaining self.old.stream)
+            (R.remaining self.new.stream) result buf.new }
         ensures faults { CountsFault (is_err result) self.old.faults self.new.faults }
     {
         match self.reader.read(buf) {

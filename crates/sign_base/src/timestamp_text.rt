@@ -19,7 +19,8 @@ impl Timestamp {
 
     /// The date and time of ISO 8601 without separators, as `20220301T081234Z`.
     pub fn format_iso8601(self, alloc: Global) -> Result<String, NoMemory<()>>
-        ensures { IsFourDigitYear self → IfOk result (λ text. string_bytes text ≡ iso8601_text (civil_of self)) }
+        ensures { IsFourDigitYear self
+            → IfOk result (λ text. string_bytes text ≡ iso8601_text (civil_of self)) }
     {
         let c = CivilFields::of(self);
         Ok(format!(in alloc;
@@ -30,7 +31,8 @@ impl Timestamp {
 
     /// The date of HTTP (RFC 9110), as `Tue, 01 Mar 2022 08:12:34 GMT`.
     pub fn format_http_date(self, alloc: Global) -> Result<String, NoMemory<()>>
-        ensures { IsFourDigitYear self → IfOk result (λ text. string_bytes text ≡ http_date_text (civil_of self)) }
+        ensures { IsFourDigitYear self
+            → IfOk result (λ text. string_bytes text ≡ http_date_text (civil_of self)) }
     {
         let c = CivilFields::of(self);
         Ok(format!(in alloc;
@@ -41,7 +43,8 @@ impl Timestamp {
 
     /// The date and time of RFC 3339 in UTC, as `2022-03-01T08:12:34Z`.
     pub fn format_rfc3339_zulu(self, alloc: Global) -> Result<String, NoMemory<()>>
-        ensures { IsFourDigitYear self → IfOk result (λ text. string_bytes text ≡ rfc3339_text (civil_of self)) }
+        ensures { IsFourDigitYear self
+            → IfOk result (λ text. string_bytes text ≡ rfc3339_text (civil_of self)) }
     {
         let c = CivilFields::of(self);
         Ok(format!(in alloc;

@@ -88,7 +88,8 @@ impl Window {
         requires room { length self.old.held < buffer_size }
         requires most { 0 < most }
         ensures bound { IfOk result (λ n. n ≤ most) }
-        ensures piece { ReadsPiece (S.left source.old) (S.left source.new) self.old.held self.new.held result }
+        ensures piece { ReadsPiece (S.left source.old)
+            (S.left source.new) self.old.held self.new.held result }
         ensures faults { CountsFault (is_err result) (S.faults source.old) (S.faults source.new) }
     {
         self.line = 0;
@@ -118,7 +119,8 @@ fn with_room(bytes: &mut Vec<u8>, start: usize, end: usize) -> usize
     requires room { end - start < vec_len bytes.old }
     ensures room { result + (end - start) < vec_len bytes.new }
     ensures len { vec_len bytes.new ≡ vec_len bytes.old }
-    ensures part { slice_range bytes.new.items result (result + (end - start)) ≡ slice_range bytes.old.items start end }
+    ensures part { slice_range bytes.new.items result (result + (end - start)) ≡
+        slice_range bytes.old.items start end }
 {
     if start < end && end < bytes.len() {
         return start;

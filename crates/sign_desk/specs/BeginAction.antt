@@ -11,4 +11,6 @@ use Rattle.sign_desk.specs.Records.{CallRecord}
 -- a begin, which takes memory
 abbrev pub begin_action : {K D : Type 0} → DeskState K D → CallId → CallRecord → Action K D
 begin_action desk call live =
-    if can_begin desk call then Allocates (record { reply = Begun; desk = with_begin call desk; live = Some live }) else Leaves NotNow
+    if can_begin desk call
+    then Allocates (record { reply = Begun; desk = with_begin call desk; live = Some live })
+    else Leaves NotNow

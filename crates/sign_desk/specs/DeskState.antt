@@ -19,8 +19,8 @@ use Rattle.sign_desk.specs.Records.{CallRecord}
 abbrev pub live_view : CallRecord → LiveCall
 live_view r = live_with r.head r
 
--- what a desk keeps: its setup, the credential and the queue of each cache, the greatest number begun under each handle,
--- whether a begin was accepted, and the live calls, each with its head
+-- what a desk keeps: its setup, the credential and the queue of each cache, the greatest number begun under
+-- each handle, whether a begin was accepted, and the live calls, each with its head
 abbrev pub DeskState : Type 0 → Type 0 → Type 0
 DeskState K D = DeskTables K D Queue Head
 
@@ -29,11 +29,16 @@ abbrev pub with_cache : {K D : Type 0} → Loader → DeskState K D → DeskStat
 with_cache loader desk = with_row loader (record { line = []; unpolled = 0 }) desk
 
 -- the desk represents the transcript
-pub record Represents {K D : Type 0} (policy : Policy K D) (desk : DeskState K D) (entries : List (Entry K)) : Type 0 where
+pub record Represents {K D : Type 0} (policy : Policy K D) (desk : DeskState K D)
+    (entries : List (Entry K)) : Type 0 where
   pub legal : IsLegal policy (setup_of desk) entries
-  pub caches : (i : ℕ) → slice_get desk.caches i ≡ option_map (λ _. sequential_cache policy (setup_of desk) (committed_entries entries) i) (slice_get desk.loaders i)
-  pub queues : (i : ℕ) → slice_get desk.queues i ≡ option_map (λ _. queue_of (setup_of desk) (committed_entries entries) i) (slice_get desk.loaders i)
-  pub greatest : (h : ℕ) → slice_get desk.greatest h ≡ option_map (λ _. greatest_begun h (committed_entries entries)) (slice_get desk.handles h)
+  pub caches : (i : ℕ) → slice_get desk.caches i ≡ option_map
+      (λ _. sequential_cache policy (setup_of desk) (committed_entries entries) i) (slice_get desk.loaders i)
+  pub queues : (i : ℕ) → slice_get desk.queues i ≡ option_map
+      (λ _. queue_of (setup_of desk) (committed_entries entries) i) (slice_get desk.loaders i)
+  pub greatest : (h : ℕ) → slice_get desk.greatest h ≡ option_map
+      (λ _. greatest_begun h (committed_entries entries)) (slice_get desk.handles h)
   pub started : desk.started ≡ was_begun (committed_entries entries)
-  pub calls : (call : CallId) → option_map live_view (find_call call desk.calls) ≡ live_call (committed_entries entries) call
+  pub calls : (call : CallId)
+      → option_map live_view (find_call call desk.calls) ≡ live_call (committed_entries entries) call
   pub live : length desk.calls ≡ length (live_calls (committed_entries entries))

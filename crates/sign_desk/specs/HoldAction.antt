@@ -12,8 +12,8 @@ use Rattle.desk_parts.specs.Action.{Leaves, Does, Allocates, live_effect, end_ef
 use Rattle.desk_parts.specs.declared.call_record.Stage.TheVariants as stage
 use Rattle.desk_parts.specs.declared.tables.LiveCallView.{LiveCallView}
 
--- what becomes of the desk but for the call: where it asks a provider, where it is handed a credential, and where its hold
--- ends without one; and the call that is woken where the hold is over
+-- what becomes of the desk but for the call: where it asks a provider, where it is handed a credential, and
+-- where its hold ends without one; and the call that is woken where the hold is over
 pub record Hold (K D : Type 0) : Type 0 where
   pub asking_desk : DeskState K D
   pub signing_desk : K → DeskState K D
@@ -40,11 +40,17 @@ waited_hold desk view = record {
 
 -- the hold of a call that loads: as of one that waited, but a credential that is handed out is cached
 abbrev pub loading_hold : {K D : Type 0} → DeskState K D → LiveCallView → Hold K D
-loading_hold desk view = record (waited_hold desk view) { signing_desk = λ credential. with_cached credential view (waited_hold desk view).ended_desk }
+loading_hold desk view =
+    record (waited_hold desk view)
+    { signing_desk = λ credential. with_cached credential view (waited_hold desk view).ended_desk }
 
 -- what is done by how far the hold gets; only a credential that is handed out takes memory
 abbrev pub hold_action : {K D : Type 0} → Hold K D → LiveCallView → Option (Progress K) → Action K D
 hold_action hold view None = Leaves NotNow
-hold_action hold view (Some (Asking provider)) = Does (live_effect hold.asking_desk (record view { stage = stage.Loading }) (Ask provider))
-hold_action hold view (Some (Over (HandOut credential) cached)) = Allocates (live_effect (hold.signing_desk credential) (record view { stage = stage.Signing }) (Sign credential hold.wake))
-hold_action hold view (Some (Over (Refuse why) cached)) = Does (end_effect hold.ended_desk (Refused why hold.wake))
+hold_action hold view (Some (Asking provider)) =
+    Does (live_effect hold.asking_desk (record view { stage = stage.Loading }) (Ask provider))
+hold_action hold view (Some (Over (HandOut credential) cached)) =
+    Allocates (live_effect (hold.signing_desk credential) (record view { stage = stage.Signing })
+    (Sign credential hold.wake))
+hold_action hold view (Some (Over (Refuse why) cached)) =
+    Does (end_effect hold.ended_desk (Refused why hold.wake))

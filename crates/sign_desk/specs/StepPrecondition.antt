@@ -13,7 +13,8 @@ use Rattle.desk_parts.specs.declared.tables.LiveCallView.{LiveCallView}
 pub record IsPlaced {K D : Type 0} (desk : DeskState K D) (view : LiveCallView) : Type 0 where
   pub live : IsSome (find_call view.call desk.calls)
   pub places : HasPlaces desk view.cache view.rule
-  pub few : view.stage ≡ Loading → IfSome (slice_get desk.loaders view.cache) (λ loader. view.answers < provider_count loader)
+  pub few : view.stage ≡ Loading
+      → IfSome (slice_get desk.loaders view.cache) (λ loader. view.answers < provider_count loader)
   pub unpolled : view.stage ≡ Unpolled → IfSome (slice_get desk.queues view.cache) (MayEnter view.call)
 
 -- what a step relies on
@@ -24,4 +25,5 @@ pub record StepPrecondition {K D : Type 0} (desk : DeskState K D) : Type 0 where
 
 -- a greatest number is kept for each handle
 abbrev pub AreNumbered : {K D : Type 0} → DeskState K D → Type 0
-AreNumbered desk = (handle : ℕ) → IsSome (slice_get desk.handles handle) → IsSome (slice_get desk.greatest handle)
+AreNumbered desk =
+    (handle : ℕ) → IsSome (slice_get desk.handles handle) → IsSome (slice_get desk.greatest handle)

@@ -15,8 +15,10 @@ is_unpolled _ = false
 
 -- the calls of cache i that were begun and not polled
 abbrev pub unpolled_calls : {K D : Type 0} → Setup D → List (Entry K) → ℕ → List CallId
-unpolled_calls setup entries i = filter (λ call. is_of_cache setup i call && is_unpolled (phase_of entries call)) (begun_calls entries)
+unpolled_calls setup entries i =
+    filter (λ call. is_of_cache setup i call && is_unpolled (phase_of entries call)) (begun_calls entries)
 
 -- the queue that cache i has
 abbrev pub queue_of : {K D : Type 0} → Setup D → List (Entry K) → ℕ → Queue
-queue_of setup entries i = record { line = open_calls setup entries i; unpolled = length (unpolled_calls setup entries i) }
+queue_of setup entries i =
+    record { line = open_calls setup entries i; unpolled = length (unpolled_calls setup entries i) }

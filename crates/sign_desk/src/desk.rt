@@ -147,7 +147,8 @@ impl<K: SigningCredential, D: DeadlineRule<Credential = K>> Desk<K, D> {
         requires rules { length self.old.rules < 4294967295 }
         requires handles { length self.old.handles < 4294967295 }
         ensures answer { AddAnswerBack (late_refusal self.old) (length self.old.handles) result }
-        ensures added { OnOk result (self.new ≡ with_handle cache (length self.old.rules) (with_rule rule self.old)) }
+        ensures added { OnOk result
+            (self.new ≡ with_handle cache (length self.old.rules) (with_rule rule self.old)) }
         ensures fresh { OnOk result (Represents (policy_of K.valid K.valid_at D.deadline) self.new []) }
         ensures unchanged { IfErr result (λ refused. (refused.back ≡ rule) × (self.new ≡ self.old)) }
     {
@@ -176,7 +177,8 @@ impl<K: SigningCredential, D: DeadlineRule<Credential = K>> Desk<K, D> {
         requires caches { length self.old.loaders < 4294967295 }
         requires handles { length self.old.handles < 4294967295 }
         ensures answer { AddAnswer (late_refusal self.old) (length self.old.handles) result }
-        ensures added { OnOk result (self.new ≡ with_handle (length self.old.loaders) rule (with_cache loader self.old)) }
+        ensures added { OnOk result
+            (self.new ≡ with_handle (length self.old.loaders) rule (with_cache loader self.old)) }
         ensures fresh { OnOk result (Represents (policy_of K.valid K.valid_at D.deadline) self.new []) }
         ensures unchanged { OnErr result (self.new ≡ self.old) }
     {
@@ -265,7 +267,8 @@ impl<K: SigningCredential, D: DeadlineRule<Credential = K>> Desk<K, D> {
     pub fn is_fresh(&self) -> bool
         ensures flag { result ≡ not self.now.started }
         ensures empty { result ≡ true → Represents (policy_of K.valid K.valid_at D.deadline) self.now [] }
-        ensures begins { (entries : List (Entry K)) → Represents (policy_of K.valid K.valid_at D.deadline) self.now entries
+        ensures begins { (entries : List (Entry K))
+            → Represents (policy_of K.valid K.valid_at D.deadline) self.now entries
             → result ≡ not (was_begun (committed_entries entries)) }
     {
         !self.state.is_started()
@@ -280,7 +283,8 @@ impl<K: SigningCredential, D: DeadlineRule<Credential = K>> Desk<K, D> {
     /// none, and at an accepted head. Both change nothing.
     pub fn step(&mut self, event: &Event<K>) -> Reply<K>
         ensures step { IsStep (policy_of K.valid K.valid_at D.deadline) event.now self.old result self.new }
-        ensures transition { Transition (policy_of K.valid K.valid_at D.deadline) event.now self.old result self.new }
+        ensures transition { Transition (policy_of K.valid K.valid_at D.deadline)
+            event.now self.old result self.new }
         ensures live { LiveAfter result (length self.old.calls) (length self.new.calls) }
         ensures memory { ClonesAreFree K.clones_freely → RunsOutAtHeads event.now result }
         ensures sound { StepPrecondition self.old }
@@ -293,10 +297,12 @@ impl<K: SigningCredential, D: DeadlineRule<Credential = K>> Desk<K, D> {
     ///
     /// `OutOfMemory` is answered only where a step could answer it.
     pub fn preview(&self, event: &Event<K>) -> Reply<K>
-        ensures expected { (entries : List (Entry K)) → Represents (policy_of K.valid K.valid_at D.deadline) self.now entries
-            → IsLegalEntry (policy_of K.valid K.valid_at D.deadline) (setup_of self.now) (committed_entries entries)
-            (record { event = event.now; reply = result }) }
-        ensures causes { IsCaused (cause_of (policy_of K.valid K.valid_at D.deadline) self.now event.now) result }
+        ensures expected { (entries : List (Entry K))
+            → Represents (policy_of K.valid K.valid_at D.deadline) self.now entries
+            → IsLegalEntry (policy_of K.valid K.valid_at D.deadline) (setup_of self.now)
+                (committed_entries entries) (record { event = event.now; reply = result }) }
+        ensures causes { IsCaused
+            (cause_of (policy_of K.valid K.valid_at D.deadline) self.now event.now) result }
         ensures kind { IsTrue (is_reply_to event.now result) }
         ensures memory { ClonesAreFree K.clones_freely → RunsOutAtHeads event.now result }
     {
@@ -310,7 +316,8 @@ impl<K: SigningCredential, D: DeadlineRule<Credential = K>> Desk<K, D> {
     /// a credential is handed out. The event is gone then too; `step` leaves it with its caller.
     pub fn step_owned(&mut self, event: Event<K>) -> Reply<K>
         ensures step { IsStep (policy_of K.valid K.valid_at D.deadline) event self.old result self.new }
-        ensures transition { Transition (policy_of K.valid K.valid_at D.deadline) event self.old result self.new }
+        ensures transition { Transition (policy_of K.valid K.valid_at D.deadline)
+            event self.old result self.new }
         ensures live { LiveAfter result (length self.old.calls) (length self.new.calls) }
         ensures memory { ClonesAreFree K.clones_freely → RunsOutAtBegins event result }
         ensures sound { StepPrecondition self.old }
@@ -329,7 +336,8 @@ impl<K: SigningCredential, D: DeadlineRule<Credential = K>> Desk<K, D> {
             AreSteps (policy_of K.valid K.valid_at D.deadline) events.now replies.items self.old self.new) }
         ensures represents { IfOk result (λ replies. (entries : List (Entry K))
             → Represents (policy_of K.valid K.valid_at D.deadline) self.old entries
-            → Represents (policy_of K.valid K.valid_at D.deadline) self.new (entries ++ paired_entries events.now replies.items)) }
+            → Represents (policy_of K.valid K.valid_at D.deadline) self.new
+                (entries ++ paired_entries events.now replies.items)) }
         ensures setup { setup_of self.new ≡ setup_of self.old }
         ensures unchanged { OnErr result (self.new ≡ self.old) }
         ensures none { events.now ≡ [] → IsOk result }

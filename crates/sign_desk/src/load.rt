@@ -45,7 +45,8 @@ impl<K: SigningCredential, D: DeadlineRule<Credential = K>> State<K, D> {
     fn load(&mut self, view: LiveCallView, now: Timestamp, answer: &Answer<K>) -> Reply<K>
         requires placed { IsPlaced self.old view }
         requires loading { view.stage ≡ Loading }
-        ensures done { Performs (load_action (policy_of K.valid K.valid_at D.deadline) self.old now answer.now view)
+        ensures done { Performs
+            (load_action (policy_of K.valid K.valid_at D.deadline) self.old now answer.now view)
             view.call self.old result self.new }
         ensures memory { ClonesAreFree K.clones_freely → result ≢ OutOfMemory }
     {
@@ -62,7 +63,8 @@ impl<K: SigningCredential, D: DeadlineRule<Credential = K>> State<K, D> {
         requires live { IsSome (find_call view.call self.old.calls) }
         requires places { HasPlaces self.old view.cache view.rule }
         ensures done { Performs (hold_action (loading_hold self.old view) view
-            (desk_load (policy_of K.valid K.valid_at D.deadline) self.old now view (Found found.now))) view.call self.old result self.new }
+            (desk_load (policy_of K.valid K.valid_at D.deadline) self.old now view (Found found.now)))
+            view.call self.old result self.new }
         ensures memory { ClonesAreFree K.clones_freely → result ≢ OutOfMemory }
     {
         if let Err(why) = self.tables.check(view, now, found) {
@@ -83,7 +85,8 @@ impl<K: SigningCredential, D: DeadlineRule<Credential = K>> State<K, D> {
         requires live { IsSome (find_call view.call self.old.calls) }
         requires places { HasPlaces self.old view.cache view.rule }
         ensures done { Performs (hold_action (loading_hold self.old view) view
-            (next_load (slice_get self.old.loaders view.cache) view.answers single)) view.call self.old result self.new }
+            (next_load (slice_get self.old.loaders view.cache) view.answers single))
+            view.call self.old result self.new }
         ensures memory { ClonesAreFree K.clones_freely → result ≢ OutOfMemory }
     {
         match self.tables.loader_at(view.cache) {

@@ -24,7 +24,8 @@ impl<K: SigningCredential, D: DeadlineRule<Credential = K>> State<K, D> {
     /// A poll.
     pub fn poll(&mut self, call: CallId, now: Timestamp) -> Reply<K>
         requires { StepPrecondition self.old }
-        ensures done { Transition (policy_of K.valid K.valid_at D.deadline) (Poll call now) self.old result self.new }
+        ensures done { Transition (policy_of K.valid K.valid_at D.deadline)
+            (Poll call now) self.old result self.new }
         ensures memory { ClonesAreFree K.clones_freely → result ≢ OutOfMemory }
     {
         let Some(view) = self.find(call) else {
@@ -41,8 +42,10 @@ impl<K: SigningCredential, D: DeadlineRule<Credential = K>> State<K, D> {
     fn first_poll(&mut self, view: LiveCallView, now: Timestamp) -> Reply<K>
         requires placed { IsPlaced self.old view }
         requires unpolled { view.stage ≡ Unpolled }
-        ensures done { Performs (first_poll_action self.old view (is_held_line (line_at view.cache self.old.queues))
-            (desk_lookup (policy_of K.valid K.valid_at D.deadline) self.old now view)) view.call self.old result self.new }
+        ensures done { Performs
+            (first_poll_action self.old view (is_held_line (line_at view.cache self.old.queues))
+                (desk_lookup (policy_of K.valid K.valid_at D.deadline) self.old now view))
+            view.call self.old result self.new }
         ensures memory { ClonesAreFree K.clones_freely → result ≢ OutOfMemory }
     {
         if self.tables.is_held(view.cache) {
@@ -69,8 +72,10 @@ impl<K: SigningCredential, D: DeadlineRule<Credential = K>> State<K, D> {
     /// A later poll of a call that waited: it looks where it holds by now.
     fn later_poll(&mut self, view: LiveCallView, now: Timestamp) -> Reply<K>
         requires { IsPlaced self.old view }
-        ensures done { Performs (later_poll_action self.old view (is_first view.call (line_at view.cache self.old.queues))
-            (desk_lookup (policy_of K.valid K.valid_at D.deadline) self.old now view)) view.call self.old result self.new }
+        ensures done { Performs
+            (later_poll_action self.old view (is_first view.call (line_at view.cache self.old.queues))
+                (desk_lookup (policy_of K.valid K.valid_at D.deadline) self.old now view))
+            view.call self.old result self.new }
         ensures memory { ClonesAreFree K.clones_freely → result ≢ OutOfMemory }
     {
         if !self.tables.is_held_by(view.cache, view.call) {

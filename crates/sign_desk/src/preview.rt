@@ -30,7 +30,8 @@ impl<K: SigningCredential, D: DeadlineRule<Credential = K>> State<K, D> {
     /// The reply to one event.
     pub fn preview(&self, event: &Event<K>) -> Reply<K>
         requires { StepPrecondition self.now }
-        ensures done { Previews (action_of (policy_of K.valid K.valid_at D.deadline) self.now event.now) result }
+        ensures done { Previews
+            (action_of (policy_of K.valid K.valid_at D.deadline) self.now event.now) result }
         ensures memory { ClonesAreFree K.clones_freely → RunsOutAtHeads event.now result }
     {
         match event {
@@ -51,7 +52,8 @@ impl<K: SigningCredential, D: DeadlineRule<Credential = K>> State<K, D> {
     /// The reply to a poll.
     fn preview_poll(&self, call: CallId, now: Timestamp) -> Reply<K>
         requires { StepPrecondition self.now }
-        ensures done { Previews (action_of (policy_of K.valid K.valid_at D.deadline) self.now (Poll call now)) result }
+        ensures done { Previews
+            (action_of (policy_of K.valid K.valid_at D.deadline) self.now (Poll call now)) result }
         ensures memory { ClonesAreFree K.clones_freely → result ≢ OutOfMemory }
     {
         let Some(view) = self.find(call) else {
@@ -67,8 +69,10 @@ impl<K: SigningCredential, D: DeadlineRule<Credential = K>> State<K, D> {
     /// The reply to a first poll.
     fn preview_first_poll(&self, view: LiveCallView, now: Timestamp) -> Reply<K>
         requires { IsPlaced self.now view }
-        ensures done { Previews (first_poll_action self.now view (is_held_line (line_at view.cache self.now.queues))
-            (desk_lookup (policy_of K.valid K.valid_at D.deadline) self.now now view)) result }
+        ensures done { Previews
+            (first_poll_action self.now view (is_held_line (line_at view.cache self.now.queues))
+                (desk_lookup (policy_of K.valid K.valid_at D.deadline) self.now now view))
+            result }
         ensures memory { ClonesAreFree K.clones_freely → result ≢ OutOfMemory }
     {
         if self.tables.is_held(view.cache) {
@@ -88,8 +92,10 @@ impl<K: SigningCredential, D: DeadlineRule<Credential = K>> State<K, D> {
     /// The reply to a later poll of a call that waited.
     fn preview_later_poll(&self, view: LiveCallView, now: Timestamp) -> Reply<K>
         requires { IsPlaced self.now view }
-        ensures done { Previews (later_poll_action self.now view (is_first view.call (line_at view.cache self.now.queues))
-            (desk_lookup (policy_of K.valid K.valid_at D.deadline) self.now now view)) result }
+        ensures done { Previews
+            (later_poll_action self.now view (is_first view.call (line_at view.cache self.now.queues))
+                (desk_lookup (policy_of K.valid K.valid_at D.deadline) self.now now view))
+            result }
         ensures memory { ClonesAreFree K.clones_freely → result ≢ OutOfMemory }
     {
         if !self.tables.is_held_by(view.cache, view.call) {
@@ -107,7 +113,9 @@ impl<K: SigningCredential, D: DeadlineRule<Credential = K>> State<K, D> {
     /// The reply to a provider's answer.
     fn preview_provided(&self, call: CallId, now: Timestamp, answer: &Answer<K>) -> Reply<K>
         requires { StepPrecondition self.now }
-        ensures done { Previews (action_of (policy_of K.valid K.valid_at D.deadline) self.now (Provided call now answer.now)) result }
+        ensures done { Previews
+            (action_of (policy_of K.valid K.valid_at D.deadline) self.now (Provided call now answer.now))
+            result }
         ensures memory { ClonesAreFree K.clones_freely → result ≢ OutOfMemory }
     {
         let Some(view) = self.find(call) else {
@@ -123,7 +131,8 @@ impl<K: SigningCredential, D: DeadlineRule<Credential = K>> State<K, D> {
     fn preview_load(&self, view: LiveCallView, now: Timestamp, answer: &Answer<K>) -> Reply<K>
         requires placed { IsPlaced self.now view }
         requires loading { view.stage ≡ Loading }
-        ensures done { Previews (load_action (policy_of K.valid K.valid_at D.deadline) self.now now answer.now view) result }
+        ensures done { Previews
+            (load_action (policy_of K.valid K.valid_at D.deadline) self.now now answer.now view) result }
         ensures memory { ClonesAreFree K.clones_freely → result ≢ OutOfMemory }
     {
         let view = self.tables.with_answer(view);
@@ -138,7 +147,8 @@ impl<K: SigningCredential, D: DeadlineRule<Credential = K>> State<K, D> {
     fn preview_found(&self, view: LiveCallView, now: Timestamp, found: &K) -> Reply<K>
         requires { HasPlaces self.now view.cache view.rule }
         ensures done { Previews (hold_action (loading_hold self.now view) view
-            (desk_load (policy_of K.valid K.valid_at D.deadline) self.now now view (Found found.now))) result }
+            (desk_load (policy_of K.valid K.valid_at D.deadline) self.now now view (Found found.now)))
+            result }
         ensures memory { ClonesAreFree K.clones_freely → result ≢ OutOfMemory }
     {
         let wake = self.tables.next_after(view.cache, view.call);
@@ -174,7 +184,8 @@ impl<K: SigningCredential, D: DeadlineRule<Credential = K>> State<K, D> {
     /// The reply to a service's answer.
     fn preview_signed(&self, call: CallId, answer: &Verdict) -> Reply<K>
         requires { StepPrecondition self.now }
-        ensures done { Previews (action_of (policy_of K.valid K.valid_at D.deadline) self.now (Signed call answer.now)) result }
+        ensures done { Previews
+            (action_of (policy_of K.valid K.valid_at D.deadline) self.now (Signed call answer.now)) result }
         ensures memory { RunsOutAtHeads (Signed call answer.now) result }
     {
         let Some(view) = self.find(call) else {
@@ -205,7 +216,8 @@ impl<K: SigningCredential, D: DeadlineRule<Credential = K>> State<K, D> {
     /// The reply to a cancel.
     fn preview_cancel(&self, call: CallId) -> Reply<K>
         requires { StepPrecondition self.now }
-        ensures done { Previews (action_of (policy_of K.valid K.valid_at D.deadline) self.now (Cancel call)) result }
+        ensures done { Previews
+            (action_of (policy_of K.valid K.valid_at D.deadline) self.now (Cancel call)) result }
         ensures memory { result ≢ OutOfMemory }
     {
         let Some(view) = self.find(call) else {
@@ -221,7 +233,8 @@ impl<K: SigningCredential, D: DeadlineRule<Credential = K>> State<K, D> {
 
 /// The begun head with the URI and the headers of an accepted one.
 fn done_copy(alloc: Global, begun: &Head, candidate: &Head) -> Result<Head, NoMemory<()>>
-    ensures { IfOk result (λ h. h ≡ record begun.now { uri = candidate.now.uri; headers = candidate.now.headers }) }
+    ensures { IfOk result
+        (λ h. h ≡ record begun.now { uri = candidate.now.uri; headers = candidate.now.headers }) }
 {
     Ok(Head {
         method: begun.method.try_clone(alloc)?,

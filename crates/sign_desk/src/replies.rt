@@ -17,7 +17,8 @@ impl<K: SigningCredential, D: DeadlineRule<Credential = K>> State<K, D> {
     /// The call waits for its turn.
     pub fn wait(&mut self, view: LiveCallView) -> Reply<K>
         requires { IsSome (find_call view.call self.old.calls) }
-        ensures { TakesEffect (live_effect self.old (record view { stage = Queued }) Pending) view.call result self.new }
+        ensures { TakesEffect (live_effect self.old (record view { stage = Queued }) Pending)
+            view.call result self.new }
     {
         self.tables.note_progress(LiveCallView {
             stage: Stage::Queued,
@@ -29,7 +30,8 @@ impl<K: SigningCredential, D: DeadlineRule<Credential = K>> State<K, D> {
     /// The call loads, and waits for the answer of this provider.
     pub fn ask(&mut self, view: LiveCallView, provider: u32) -> Reply<K>
         requires { IsSome (find_call view.call self.old.calls) }
-        ensures { TakesEffect (live_effect self.old (record view { stage = Loading }) (Ask provider)) view.call result self.new }
+        ensures { TakesEffect (live_effect self.old (record view { stage = Loading }) (Ask provider))
+            view.call result self.new }
     {
         self.tables.note_progress(LiveCallView {
             stage: Stage::Loading,
@@ -41,7 +43,8 @@ impl<K: SigningCredential, D: DeadlineRule<Credential = K>> State<K, D> {
     /// The call signs with this credential. By this `wake` has its turn.
     pub fn sign(&mut self, view: LiveCallView, credential: K, wake: Option<CallId>) -> Reply<K>
         requires { IsSome (find_call view.call self.old.calls) }
-        ensures { TakesEffect (live_effect self.old (record view { stage = Signing }) (Sign credential wake)) view.call result self.new }
+        ensures { TakesEffect (live_effect self.old (record view { stage = Signing }) (Sign credential wake))
+            view.call result self.new }
     {
         self.tables.note_progress(LiveCallView {
             stage: Stage::Signing,
@@ -62,8 +65,10 @@ impl<K: SigningCredential, D: DeadlineRule<Credential = K>> State<K, D> {
     pub fn sign_and_leave(&mut self, view: LiveCallView, credential: K) -> Reply<K>
         requires live { IsSome (find_call view.call self.old.calls) }
         requires queue { view.cache < length self.old.queues }
-        ensures { TakesEffect (live_effect (waited_hold self.old view).ended_desk (record view { stage = Signing })
-            (Sign credential (waited_hold self.old view).wake)) view.call result self.new }
+        ensures { TakesEffect
+            (live_effect (waited_hold self.old view).ended_desk (record view { stage = Signing })
+                (Sign credential (waited_hold self.old view).wake))
+            view.call result self.new }
     {
         let wake = self.tables.leave(view.cache, view.call);
         self.sign(view, credential, wake)

@@ -11,7 +11,8 @@ use sign_base::{EqualByValue, are_same};
 impl<K: SigningCredential, D: DeadlineRule<Credential = K> + EqualByValue> Desk<K, D> {
     /// Whether both desks have the same loaders, rules and handles, in the same order. No memory is taken.
     pub fn same_setup(&self, other: &Desk<K, D>) -> bool
-        ensures { MatchBool result (setup_of self.now ≡ setup_of other.now) (setup_of self.now ≢ setup_of other.now) }
+        ensures { MatchBool result (setup_of self.now ≡ setup_of other.now)
+            (setup_of self.now ≢ setup_of other.now) }
     {
         let mine = &self.state.tables;
         let theirs = &other.state.tables;
@@ -22,7 +23,8 @@ impl<K: SigningCredential, D: DeadlineRule<Credential = K> + EqualByValue> Desk<
 }
 
 fn same_handles(a: &[HandleRecord], b: &[HandleRecord]) -> bool
-    ensures { MatchBool result (map handle_view a.now ≡ map handle_view b.now) (map handle_view a.now ≢ map handle_view b.now) }
+    ensures { MatchBool result (map handle_view a.now ≡ map handle_view b.now)
+        (map handle_view a.now ≢ map handle_view b.now) }
 {
     are_same(a, b)
 }

@@ -27,7 +27,8 @@ impl<K: SigningCredential, D: DeadlineRule<Credential = K>> State<K, D> {
     /// One event.
     pub fn step(&mut self, event: &Event<K>) -> Reply<K>
         requires { StepPrecondition self.old }
-        ensures done { Transition (policy_of K.valid K.valid_at D.deadline) event.now self.old result self.new }
+        ensures done { Transition (policy_of K.valid K.valid_at D.deadline)
+            event.now self.old result self.new }
         ensures memory { ClonesAreFree K.clones_freely → RunsOutAtHeads event.now result }
     {
         match event {
@@ -130,7 +131,8 @@ impl<K: SigningCredential, D: DeadlineRule<Credential = K>> State<K, D> {
     pub(crate) fn accept_with(&mut self, call: CallId, uri: Octets, headers: Fields) -> Reply<K>
         requires { IsSome (find_call call self.old.calls) }
         ensures done { (candidate : Head) → candidate.uri ≡ uri → candidate.headers ≡ headers
-            → Performs (accept_action self.old candidate (find_call call self.old.calls)) call self.old result self.new }
+            → Performs (accept_action self.old candidate (find_call call self.old.calls))
+                call self.old result self.new }
         ensures memory { result ≢ OutOfMemory }
     {
         let live = self.tables.take_record(call).unwrap();
@@ -146,7 +148,8 @@ impl<K: SigningCredential, D: DeadlineRule<Credential = K>> State<K, D> {
     /// A cancel.
     pub(crate) fn cancel(&mut self, call: CallId) -> Reply<K>
         requires { StepPrecondition self.old }
-        ensures done { Transition (policy_of K.valid K.valid_at D.deadline) (Cancel call) self.old result self.new }
+        ensures done { Transition (policy_of K.valid K.valid_at D.deadline)
+            (Cancel call) self.old result self.new }
         ensures memory { result ≢ OutOfMemory }
     {
         let Some(view) = self.find(call) else {

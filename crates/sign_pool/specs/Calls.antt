@@ -13,4 +13,5 @@ calls_of answers = map (λ answer. answer.call) answers
 
 -- whether each receipt is about a call of these answers
 abbrev pub has_only_calls_of : {K : Type 0} → List Answer → List (Receipt K) → Bool
-has_only_calls_of answers receipts = list_all (λ r. is_among (call_of r.entry.event) (calls_of answers)) receipts
+has_only_calls_of answers receipts =
+    list_all (λ r. is_among (call_of r.entry.event) (calls_of answers)) receipts

@@ -33,7 +33,8 @@ use Rattle.sign_pool.specs.declared.seats.Submitter.{Submitter}
 use Rattle.sign_pool.specs.declared.seats.Worker.{Worker}
 
 -- as many seats are handed in as were made
-pub record HasAllSeats {K : Type 0} (made_submitters made_workers : ℕ) (submitters : List Submitter) (workers : List (Worker K)) : Type 0 where
+pub record HasAllSeats {K : Type 0} (made_submitters made_workers : ℕ) (submitters : List Submitter)
+    (workers : List (Worker K)) : Type 0 where
   pub all_submitters : length submitters ≡ made_submitters
   pub all_workers : length workers ≡ made_workers
 
@@ -46,15 +47,18 @@ IsFinishError made_submitters made_workers submitters workers early.OutOfMemory 
     HasAllSeats made_submitters made_workers submitters workers
 
 -- one seat of the queue took these jobs out of it, and then found it empty
-pub record AreRest {Q A : Type 0} (queue : Slotted (Option PoolJob) (Doing PoolJob Hand) Q A) (left : List PoolJob) : Type 0 where
+pub record AreRest {Q A : Type 0} (queue : Slotted (Option PoolJob) (Doing PoolJob Hand) Q A)
+    (left : List PoolJob) : Type 0 where
   pub seat : Pass PoolJob Hand
   pub of_queue : IsPassOf queue seat
   pub taken : (view seat).taken ≡ left
   pub empty : HeldAtOnce 0
 
 -- what the seats had, in their order, and what was left in the queue
-pub record HandsOut {K Q A : Type 0} (queue : Slotted (Option PoolJob) (Doing PoolJob Hand) Q A) (submitters : List Submitter) (workers : List (Worker K))
-    (passes : List (List (Receipt K))) (answers : List (Vec Answer)) (left : List PoolJob) (submitted : List (Vec PoolJob)) : Type 0 where
+pub record HandsOut {K Q A : Type 0} (queue : Slotted (Option PoolJob) (Doing PoolJob Hand) Q A)
+    (submitters : List Submitter) (workers : List (Worker K))
+    (passes : List (List (Receipt K))) (answers : List (Vec Answer)) (left : List PoolJob)
+    (submitted : List (Vec PoolJob)) : Type 0 where
   pub passes_are : passes ≡ map (λ w. w.pass) workers
   pub answers_are : answers ≡ map (λ w. w.answers) workers
   pub left_are : AreRest queue left
@@ -63,11 +67,13 @@ pub record HandsOut {K Q A : Type 0} (queue : Slotted (Option PoolJob) (Doing Po
 -- each entry of the journal is about a call of these answers
 abbrev pub HasOnlyCallsOf : {K D : Type 0} → Finished K D → Type 0
 HasOnlyCallsOf finished =
-    All (λ e. IsTrue (is_among (call_of e.event) (calls_of (joined (lists_of finished.answers.items))))) finished.settled.journal.items
+    All (λ e. IsTrue (is_among (call_of e.event) (calls_of (joined (lists_of finished.answers.items)))))
+    finished.settled.journal.items
 
--- The signer is closed: its journal is the steps of the workers' passes and no others, it is a legal history of the plan's
--- setup, and it has the calls of answers alone.
-pub record IsClosed {K D : Type 0} (policy : Policy K D) (plan : DeskState K D) (finished : Finished K D) : Type 0 where
+-- The signer is closed: its journal is the steps of the workers' passes and no others, it is a legal history
+-- of the plan's setup, and it has the calls of answers alone.
+pub record IsClosed {K D : Type 0} (policy : Policy K D) (plan : DeskState K D)
+    (finished : Finished K D) : Type 0 where
   pub settled : IsSettled finished.settled.journal.items finished.settled.passes.items
   pub setup : setup_of finished.settled.desk ≡ setup_of plan
   pub represents : Represents policy finished.settled.desk finished.settled.journal.items
@@ -82,14 +88,16 @@ IsClearedPool finished =
 -- each answer is true, and none is `NotNow`
 abbrev pub HasGoodAnswers : {K D : Type 0} → Finished K D → Type 0
 HasGoodAnswers finished =
-    AreGoodAnswers finished.settled.journal.items finished.settled.passes.items (lists_of finished.answers.items)
+    AreGoodAnswers finished.settled.journal.items finished.settled.passes.items
+    (lists_of finished.answers.items)
 
 -- the cause for which a pool is not finished, and none of those before it
 abbrev pub IsFinishCause : {K D : Type 0} → Finished K D → FinishCause → Type 0
 IsFinishCause finished cause.Jobs = IsClearedPool finished → ⊥
 IsFinishCause finished (cause.Untrue worker at) =
     IsClearedPool finished
-    × IsFirstBad finished.settled.journal.items finished.settled.passes.items (lists_of finished.answers.items) worker at
+    × IsFirstBad finished.settled.journal.items finished.settled.passes.items
+        (lists_of finished.answers.items) worker at
 
 -- a fact of what is handed back where nothing was finished
 abbrev pub IfEarly : {K D : Type 0} {k : Ghosts K} {d : RuleGhosts D K} → FinishRefused K D k d

@@ -26,7 +26,8 @@ abbrev pub IsPlaceOf : List (List PoolJob) → Ticket × JobPlace → Type 0
 IsPlaceOf lists entry = IsSomeAnd (job_at lists entry.1) (λ job. job.ticket ≡ entry.0)
 
 -- each job has a ticket of its own, and the index has their tickets, each with its job's place
-pub record IsIndexOf {S : Type 0} (lists : List (List PoolJob)) (index : HashMap Ticket JobPlace S) : Type 0 where
+pub record IsIndexOf {S : Type 0} (lists : List (List PoolJob))
+    (index : HashMap Ticket JobPlace S) : Type 0 where
   pub apart : HaveOwnTickets (joined lists)
   pub tickets : IsPermutation (tickets_of (joined lists)) (keys index)
   pub places : All (IsPlaceOf lists) index.entries
@@ -38,4 +39,5 @@ pub record AreClaims (those tickets : List Ticket) : Type 0 where
 
 -- a submitted job has the answer's ticket, and the answer's call was begun as that job
 abbrev pub IsBegunJob : {K : Type 0} → List PoolJob → List (Entry K) → Answer → Type 0
-IsBegunJob submitted journal answer = Contains (tickets_of submitted) answer.ticket × AreBegunAs submitted journal answer
+IsBegunJob submitted journal answer =
+    Contains (tickets_of submitted) answer.ticket × AreBegunAs submitted journal answer

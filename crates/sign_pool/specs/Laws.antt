@@ -1,5 +1,5 @@
--- The law of finished pools: a head that an answer calls done is the one that the sequential signer makes at that point of
--- the journal, for the head and the duration that were submitted under the answer's ticket.
+-- The law of finished pools: a head that an answer calls done is the one that the sequential signer makes at
+-- that point of the journal, for the head and the duration that were submitted under the answer's ticket.
 use Rattle.std.specs.Prelude.{◌≡◌, List, Some, option_map, take, Contains}
 use Rattle.std.specs.Duration.{as_nanos}
 use Rattle.sign_base.specs.declared.head.Head.{Head}
@@ -18,12 +18,14 @@ use Rattle.sign_pool.specs.declared.answer.Answer.{Answer}
 use Rattle.sign_pool.specs.declared.answer.Outcome.TheVariants.{Done}
 use Rattle.sign_pool.specs.declared.job.PoolJob.{PoolJob}
 
--- the receipt has this head, which is the sequential signer's after the entries before it; and there the answer's call was
--- begun with the head and the duration of the submitted job with the answer's ticket
-pub record IsSignedAsSubmitted {K D : Type 0} (policy : Policy K D) (setup : Setup D) (journal : List (Entry K)) (submitted : List PoolJob)
-    (answer : Answer) (receipt : Receipt K) (head : Head) : Type 0 where
+-- the receipt has this head, which is the sequential signer's after the entries before it; and there the
+-- answer's call was begun with the head and the duration of the submitted job with the answer's ticket
+pub record IsSignedAsSubmitted {K D : Type 0} (policy : Policy K D) (setup : Setup D)
+    (journal : List (Entry K)) (submitted : List PoolJob) (answer : Answer) (receipt : Receipt K)
+    (head : Head) : Type 0 where
   pub replied : receipt.entry.reply ≡ reply.Done head
-  pub expected : expected_reply policy setup (committed_entries (take receipt.place journal)) receipt.entry.event ≡ reply.Done head
+  pub expected : expected_reply policy setup
+      (committed_entries (take receipt.place journal)) receipt.entry.event ≡ reply.Done head
   pub job : PoolJob
   pub among : Contains submitted job
   pub named : job.ticket ≡ answer.ticket
@@ -33,8 +35,9 @@ pub record IsSignedAsSubmitted {K D : Type 0} (policy : Policy K D) (setup : Set
 -- so it is for each true answer of a cleared pool that says `Done`, where the journal is legal
 abbrev pub DoneHeadsAreExpected : Type 0 → Type 0 → Type 0
 DoneHeadsAreExpected K D =
-    (policy : Policy K D) (setup : Setup D) (journal : List (Entry K)) (pass : List (Receipt K)) (answers : List Answer)
-    (left submitted : List PoolJob) (answer : Answer)
+    (policy : Policy K D) (setup : Setup D) (journal : List (Entry K)) (pass : List (Receipt K))
+    (answers : List Answer) (left submitted : List PoolJob) (answer : Answer)
     → IsLegal policy setup journal → IsCleared journal answers left submitted → Contains answers answer
     → IsTrueAnswer journal pass answer → answer.outcome ≡ Done
-    → (receipt : Receipt K) × (head : Head) × Contains pass receipt × IsSignedAsSubmitted policy setup journal submitted answer receipt head
+    → (receipt : Receipt K) × (head : Head) × Contains pass receipt
+        × IsSignedAsSubmitted policy setup journal submitted answer receipt head

@@ -28,7 +28,8 @@ IsBeginWith head expires_in _ = ⊥
 
 -- where the event begins the call, it is with this head and duration
 abbrev pub IfBegins : {K : Type 0} → CallId → Head → Option Duration → Event K → Type 0
-IfBegins call head expires_in (Begin other mine how_long) = other ≡ call → (mine ≡ head) × (how_long ≡ expires_in)
+IfBegins call head expires_in (Begin other mine how_long) =
+    other ≡ call → (mine ≡ head) × (how_long ≡ expires_in)
 IfBegins call head expires_in _ = Unit {0}
 
 -- each begin of the call is with this head and duration
@@ -37,10 +38,13 @@ AreBeginsWith call journal head expires_in = All (λ e. IfBegins call head expir
 
 -- these are all begins of the call: there is none; each is like the one at this place; or two differ
 abbrev pub AreBegins : {K : Type 0} → CallId → List (Entry K) → Begins → Type 0
-AreBegins call journal Never = (head : Head) (expires_in : Option Duration) → AreBeginsWith call journal head expires_in
+AreBegins call journal Never =
+    (head : Head) (expires_in : Option Duration) → AreBeginsWith call journal head expires_in
 AreBegins call journal (Like place) = IsSomeAnd (slice_get journal place) (λ e.
-    (head : Head) (expires_in : Option Duration) → AreBeginsWith call journal head expires_in ↔ IsBeginWith head expires_in e.event)
-AreBegins call journal Differ = (head : Head) (expires_in : Option Duration) → AreBeginsWith call journal head expires_in → ⊥
+    (head : Head) (expires_in : Option Duration)
+    → AreBeginsWith call journal head expires_in ↔ IsBeginWith head expires_in e.event)
+AreBegins call journal Differ =
+    (head : Head) (expires_in : Option Duration) → AreBeginsWith call journal head expires_in → ⊥
 
 -- the note says which entry of the call is the last, and how it was begun
 pub record IsNoteOf {K : Type 0} (journal : List (Entry K)) (call : CallId) (note : CallNote) : Type 0 where

@@ -11,12 +11,14 @@ use Rattle.sign_pool.specs.declared.seats.Worker.{Worker}
 abbrev pub IsRoomFor : {X : Type 0} → List X → ℕ → ℕ → Type 0
 IsRoomFor items capacity count = (items ≡ []) × (count ≤ capacity)
 
--- room for what the seats hand out and for as many jobs as are left in a queue of that capacity, an index of the
--- submitted jobs, if there can be one, and a blank note for each answer
-pub record HasRoom {K : Type 0} (capacity : ℕ) (submitters : List Submitter) (workers : List (Worker K)) (room : FinishRoom K) : Type 0 where
+-- room for what the seats hand out and for as many jobs as are left in a queue of that capacity, an index of
+-- the submitted jobs, if there can be one, and a blank note for each answer
+pub record HasRoom {K : Type 0} (capacity : ℕ) (submitters : List Submitter) (workers : List (Worker K))
+    (room : FinishRoom K) : Type 0 where
   pub passes : IsRoomFor room.passes.items (vec_capacity room.passes) (length workers)
   pub answers : IsRoomFor room.answers.items (vec_capacity room.answers) (length workers)
   pub left : IsRoomFor room.left.items (vec_capacity room.left) capacity
   pub submitted : IsRoomFor room.submitted.items (vec_capacity room.submitted) (length submitters)
-  pub index : MatchOption room.index (HaveOwnTickets (joined (jobs_of submitters)) → ⊥) (IsIndexOf (jobs_of submitters))
+  pub index : MatchOption room.index (HaveOwnTickets (joined (jobs_of submitters)) → ⊥)
+      (IsIndexOf (jobs_of submitters))
   pub notes : AreBlank room.notes × HaveNotes (answers_of workers) room.notes

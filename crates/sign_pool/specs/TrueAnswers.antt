@@ -30,7 +30,8 @@ pub record IsLastOf {K : Type 0} (call : CallId) (journal : List (Entry K)) (pla
   pub last : HasNoneOf call (drop (place + 1) journal)
 
 -- the receipt is the journal's last entry of the answer's call, and the outcome is read from its reply
-pub record IsReadOff {K : Type 0} (journal : List (Entry K)) (answer : Answer) (receipt : Receipt K) : Type 0 where
+pub record IsReadOff {K : Type 0} (journal : List (Entry K)) (answer : Answer)
+    (receipt : Receipt K) : Type 0 where
   pub entry : IsEntryOf journal receipt
   pub last : IsLastOf answer.call journal receipt.place
   pub outcome : IsReadFrom (Some receipt.entry.reply) answer.outcome
@@ -46,15 +47,20 @@ abbrev pub IsGoodAnswer : {K : Type 0} → List (Entry K) → List (Receipt K) �
 IsGoodAnswer journal pass answer = IsTrueAnswer journal pass answer × (answer.outcome ≢ NotNow)
 
 -- each answer of each worker is good, by the pass of its worker
-abbrev pub AreGoodAnswers : {K : Type 0} → List (Entry K) → List (List (Receipt K)) → List (List Answer) → Type 0
-AreGoodAnswers journal passes answers = AllZip (λ pass list. All (IsGoodAnswer journal pass) list) passes answers
+abbrev pub AreGoodAnswers : {K : Type 0} → List (Entry K) → List (List (Receipt K))
+    → List (List Answer) → Type 0
+AreGoodAnswers journal passes answers =
+    AllZip (λ pass list. All (IsGoodAnswer journal pass) list) passes answers
 
 -- the answer at this place of a worker's is not good, and those before it are
-pub record IsFirstBadOf {K : Type 0} (journal : List (Entry K)) (pass : List (Receipt K)) (answers : List Answer) (at : ℕ) : Type 0 where
+pub record IsFirstBadOf {K : Type 0} (journal : List (Entry K)) (pass : List (Receipt K))
+    (answers : List Answer) (at : ℕ) : Type 0 where
   pub bad : IsSomeAnd (slice_get answers at) (λ answer. IsGoodAnswer journal pass answer → ⊥)
   pub before : All (IsGoodAnswer journal pass) (take at answers)
 
 -- this answer of this worker is not good, and those of the workers before it and before it of its worker are
-pub record IsFirstBad {K : Type 0} (journal : List (Entry K)) (passes : List (List (Receipt K))) (answers : List (List Answer)) (worker at : ℕ) : Type 0 where
-  pub bad : IsSomeAnd (slice_get passes worker) (λ pass. IsSomeAnd (slice_get answers worker) (λ list. IsFirstBadOf journal pass list at))
+pub record IsFirstBad {K : Type 0} (journal : List (Entry K)) (passes : List (List (Receipt K)))
+    (answers : List (List Answer)) (worker at : ℕ) : Type 0 where
+  pub bad : IsSomeAnd (slice_get passes worker)
+      (λ pass. IsSomeAnd (slice_get answers worker) (λ list. IsFirstBadOf journal pass list at))
   pub before : AreGoodAnswers journal (take worker passes) (take worker answers)

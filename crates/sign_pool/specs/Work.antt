@@ -41,12 +41,14 @@ abbrev pub last_place : {K : Type 0} → ℕ → List (Receipt K) → Option ℕ
 last_place before added = option_map (λ _. before + (length added - 1)) (last_of added)
 
 -- The job was served as the next call of the worker's handle, and answered.
-pub record Serves {K : Type 0} (gate : GateMeaning K) (turns : ℕ) (before after : Worker K) (job : PoolJob) : Type 0 where
+pub record Serves {K : Type 0} (gate : GateMeaning K) (turns : ℕ) (before after : Worker K)
+    (job : PoolJob) : Type 0 where
   pub added : List (Receipt K)
   pub served : Served
   pub handle : after.handle ≡ before.handle
   pub pass : after.pass ≡ before.pass ++ added
-  pub serves : IsServing gate turns (job_of job before.handle (length before.answers.items + 1) ∷ []) added served
+  pub serves : IsServing gate turns
+      (job_of job before.handle (length before.answers.items + 1) ∷ []) added served
   pub answers : after.answers.items ≡ before.answers.items ++ record {
     ticket = job.ticket;
     call = record { handle = before.handle; number = length before.answers.items + 1 };
@@ -68,6 +70,7 @@ pub record IsSameWorker {K : Type 0} (before after : Worker K) : Type 0 where
 
 -- what a worker did, by what it says
 abbrev pub Works : {K : Type 0} → GateMeaning K → ℕ → Worker K → Worker K → Work → Type 0
-Works gate turns before after (work.Served ticket) = (job : PoolJob) × (job.ticket ≡ ticket) × Takes before after job × Serves gate turns before after job
+Works gate turns before after (work.Served ticket) =
+    (job : PoolJob) × (job.ticket ≡ ticket) × Takes before after job × Serves gate turns before after job
 Works gate turns before after work.Empty = HeldAtOnce 0 × IsSameWorker before after
 Works gate turns before after work.OutOfMemory = IsSameWorker before after

@@ -1,5 +1,5 @@
-//! Each answer, and each job that is left, claims the submitted job with its ticket: a job that is claimed leaves
-//! the index.
+//! Each answer, and each job that is left, claims the submitted job with its ticket: a job
+//! that is claimed leaves the index.
 ghost use Rattle.std.specs.Prelude.{◌++◌, ◌∷◌, Contains, IsPermutation, MatchBool};
 ghost use Rattle.std.specs.HashMap.{keys};
 ghost use Rattle.sign_pool.specs.Cleared.{joined, lists_of, tickets_of, answered_tickets};

@@ -1,5 +1,5 @@
-//! Whether the books of a pool balance, by an index of its submitted jobs and notes of its answers' calls. Each
-//! job and each answer is looked at once.
+//! Whether the books of a pool balance, by an index of its submitted jobs and notes of its answers' calls.
+//! Each job and each answer is looked at once.
 ghost use Rattle.std.specs.Prelude.{◌≡◌, ◌≢◌, ◌++◌, All, AllPairs, Contains, IsPermutation, MatchBool};
 ghost use Rattle.std.specs.HashMap.{keys};
 ghost use Rattle.sign_pool.specs.Cleared.{joined, lists_of, tickets_of, answered_tickets, IsCleared};
@@ -29,7 +29,8 @@ pub(crate) fn is_cleared<K>(
     requires noted { HaveNotes (joined (lists_of answers.now)) notes.now }
     ensures { MatchBool result
         (IsCleared journal.now (joined (lists_of answers.now)) left.now (joined (lists_of submitted.now)))
-        (IsCleared journal.now (joined (lists_of answers.now)) left.now (joined (lists_of submitted.now)) → ⊥) }
+        (IsCleared journal.now (joined (lists_of answers.now)) left.now (joined (lists_of submitted.now))
+            → ⊥) }
 {
     if !are_as_submitted(&index, submitted, left) {
         return false;
@@ -78,7 +79,8 @@ fn are_each_once(mut index: JobIndex, answers: &[Vec<Answer>], left: &[PoolJob])
     requires { AllPairs (λ a b. a ≢ b) (keys index) }
     ensures { MatchBool result
         (IsPermutation (keys index) (answered_tickets (joined (lists_of answers.now)) ++ tickets_of left.now))
-        (IsPermutation (keys index) (answered_tickets (joined (lists_of answers.now)) ++ tickets_of left.now) → ⊥) }
+        (IsPermutation (keys index) (answered_tickets (joined (lists_of answers.now)) ++ tickets_of left.now)
+            → ⊥) }
 {
     if !claim_answers(&mut index, answers) {
         return false;

@@ -13,8 +13,8 @@ use crate::notes::{CallNotes, note_journal};
 use crate::true_answers::first_bad;
 use credentials::{DeadlineRule, SigningCredential};
 
-/// Why the books do not balance, if they do not. `index` is that of the submitted jobs, or `None` where two have
-/// one ticket; `notes` are blank.
+/// Why the books do not balance, if they do not. `index` is that of the submitted jobs, or `None` where two
+/// have one ticket; `notes` are blank.
 pub(crate) fn finish_cause<K: SigningCredential, D: DeadlineRule<Credential = K>>(
     finished: &Finished<K, D>,
     index: Option<JobIndex>,
@@ -26,7 +26,8 @@ pub(crate) fn finish_cause<K: SigningCredential, D: DeadlineRule<Credential = K>
     requires index { MatchOption index (HaveOwnTickets (joined (lists_of finished.now.submitted.items)) → ⊥)
         (IsIndexOf (lists_of finished.now.submitted.items)) }
     requires notes { AreBlank notes × HaveNotes (joined (lists_of finished.now.answers.items)) notes }
-    ensures { MatchOption result (IsClearedPool finished.now × HasGoodAnswers finished.now) (IsFinishCause finished.now) }
+    ensures { MatchOption result (IsClearedPool finished.now × HasGoodAnswers finished.now)
+        (IsFinishCause finished.now) }
 {
     let journal = finished.settled.journal.as_slice();
     let answers = finished.answers.as_slice();

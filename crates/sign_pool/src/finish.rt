@@ -22,13 +22,13 @@ where
     K: SigningCredential + EqualByValue,
     D: DeadlineRule<Credential = K> + EqualByValue,
 {
-    /// Closes the signer with the workers' passes, takes what is left out of the queue, and compares: each job
-    /// that was submitted is answered or left, once, and each answer is what the journal says. It takes a time
-    /// linear in jobs, answers and receipts. It may wait for a step at the queue.
+    /// Closes the signer with the workers' passes, takes what is left out of the queue, and compares: each
+    /// job that was submitted is answered or left, once, and each answer is what the journal says. It takes a
+    /// time linear in jobs, answers and receipts. It may wait for a step at the queue.
     ///
-    /// Errors, the first that holds: `Early`, before anything is done, where seats are missing or an allocation
-    /// failed, with everything handed back; `Close`, where the signer is not closed; `Uncleared`, with the first
-    /// cause for which the books do not balance.
+    /// Errors, the first that holds: `Early`, before anything is done, where seats are missing or an
+    /// allocation failed, with everything handed back; `Close`, where the signer is not closed; `Uncleared`,
+    /// with the first cause for which the books do not balance.
     pub fn finish<R: Wait>(
         self,
         rt: &R,
@@ -37,23 +37,29 @@ where
     ) -> Result<Finished<K, D>, FinishRefused<K, D>>
         requires submitters { All (λ s. IsPassOf self.queue s.seat) submitters.items }
         requires workers { All (λ w. IsPassOf self.queue w.seat) workers.items }
-        ensures seats { IfOk result (λ f. HasAllSeats self.submitters self.workers submitters.items workers.items) }
+        ensures seats { IfOk result
+            (λ f. HasAllSeats self.submitters self.workers submitters.items workers.items) }
         ensures cleared { IfOk result IsClearedPool }
         ensures answers { IfOk result HasGoodAnswers }
         ensures closed { IfOk result (IsClosed (policy_of K.valid K.valid_at D.deadline) self.shared) }
-        ensures values { IfOk result (λ f. HandsOut self.queue submitters.items workers.items f.settled.passes.items f.answers.items f.left.items f.submitted.items) }
+        ensures values { IfOk result (λ f. HandsOut self.queue submitters.items workers.items
+            f.settled.passes.items f.answers.items f.left.items f.submitted.items) }
 
         ensures back { IfErr result (λ r. IfEarly r (λ pool ss ws why.
-            (pool ≡ self) × (ss ≡ submitters) × (ws ≡ workers) × IsFinishError self.submitters self.workers submitters.items workers.items why)) }
+            (pool ≡ self) × (ss ≡ submitters) × (ws ≡ workers)
+            × IsFinishError self.submitters self.workers submitters.items workers.items why)) }
         ensures close { IfErr result (λ r. IfNotClosed r (λ close answers left submitted.
             HasAllSeats self.submitters self.workers submitters.items workers.items
-            × (close.plan ≡ self.shared) × Represents (policy_of K.valid K.valid_at D.deadline) close.book.desk close.book.journal
+            × (close.plan ≡ self.shared)
+            × Represents (policy_of K.valid K.valid_at D.deadline) close.book.desk close.book.journal
             × IsCloseCause self.shared close.book close.passes.items close.why
-            × HandsOut self.queue submitters.items workers.items close.passes.items answers.items left.items submitted.items)) }
+            × HandsOut self.queue submitters.items workers.items close.passes.items answers.items left.items
+                submitted.items)) }
         ensures uncleared { IfErr result (λ r. IfUncleared r (λ f why.
             HasAllSeats self.submitters self.workers submitters.items workers.items
             × IsClosed (policy_of K.valid K.valid_at D.deadline) self.shared f × IsFinishCause f why
-            × HandsOut self.queue submitters.items workers.items f.settled.passes.items f.answers.items f.left.items f.submitted.items)) }
+            × HandsOut self.queue submitters.items workers.items f.settled.passes.items f.answers.items
+                f.left.items f.submitted.items)) }
     {
         match self.take_room(submitters.as_slice(), workers.as_slice()) {
             Ok(room) => self.finish_in(rt, submitters, workers, room),
@@ -102,15 +108,19 @@ where
         ensures cleared { IfOk result IsClearedPool }
         ensures answers { IfOk result HasGoodAnswers }
         ensures closed { IfOk result (IsClosed (policy_of K.valid K.valid_at D.deadline) self.shared) }
-        ensures values { IfOk result (λ f. HandsOut self.queue submitters.items workers.items f.settled.passes.items f.answers.items f.left.items f.submitted.items) }
+        ensures values { IfOk result (λ f. HandsOut self.queue submitters.items workers.items
+            f.settled.passes.items f.answers.items f.left.items f.submitted.items) }
         ensures back { IfErr result (λ r. IfEarly r (λ pool ss ws why. ⊥)) }
         ensures close { IfErr result (λ r. IfNotClosed r (λ close answers left submitted.
-            (close.plan ≡ self.shared) × Represents (policy_of K.valid K.valid_at D.deadline) close.book.desk close.book.journal
+            (close.plan ≡ self.shared)
+            × Represents (policy_of K.valid K.valid_at D.deadline) close.book.desk close.book.journal
             × IsCloseCause self.shared close.book close.passes.items close.why
-            × HandsOut self.queue submitters.items workers.items close.passes.items answers.items left.items submitted.items)) }
+            × HandsOut self.queue submitters.items workers.items close.passes.items answers.items left.items
+                submitted.items)) }
         ensures uncleared { IfErr result (λ r. IfUncleared r (λ f why.
             IsClosed (policy_of K.valid K.valid_at D.deadline) self.shared f × IsFinishCause f why
-            × HandsOut self.queue submitters.items workers.items f.settled.passes.items f.answers.items f.left.items f.submitted.items)) }
+            × HandsOut self.queue submitters.items workers.items f.settled.passes.items f.answers.items
+                f.left.items f.submitted.items)) }
     {
         let Pool { shared, queue, .. } = self;
         let (passes, answers) = hand_out_workers(workers, room.passes, room.answers);

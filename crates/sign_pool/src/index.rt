@@ -25,7 +25,8 @@ pub(crate) fn index_jobs(
     alloc: Global,
     submitters: &[Submitter],
 ) -> Result<Option<JobIndex>, NoMemory<()>>
-    ensures { IfOk result (λ index. MatchOption index (HaveOwnTickets (joined (jobs_of submitters.now)) → ⊥) (IsIndexOf (jobs_of submitters.now))) }
+    ensures { IfOk result (λ index. MatchOption index (HaveOwnTickets (joined (jobs_of submitters.now)) → ⊥)
+        (IsIndexOf (jobs_of submitters.now))) }
 {
     let mut index = HashMap::new(alloc);
     for (submitter, seat) in submitters.iter().enumerate() {
@@ -47,8 +48,10 @@ fn index_list(
     ensures keys { IfOk result (λ own. MatchBool own
         (IsPermutation (keys index.old ++ tickets_of jobs.now) (keys index.new))
         (AllPairs (λ a b. a ≢ b) (keys index.old ++ tickets_of jobs.now) → ⊥)) }
-    ensures places { (lists : List (List PoolJob)) → IsSomeAnd (slice_get lists submitter) (λ list. list ≡ jobs.now)
-        → All (IsPlaceOf lists) index.old.entries → IfOk result (λ own. IsTrue own → All (IsPlaceOf lists) index.new.entries) }
+    ensures places { (lists : List (List PoolJob))
+        → IsSomeAnd (slice_get lists submitter) (λ list. list ≡ jobs.now)
+        → All (IsPlaceOf lists) index.old.entries
+        → IfOk result (λ own. IsTrue own → All (IsPlaceOf lists) index.new.entries) }
 {
     for (at, job) in jobs.iter().enumerate() {
         let place = JobPlace { submitter, at };

@@ -115,7 +115,8 @@ fn begins_after<K>(begins: Begins, call: CallId, journal: &[Entry<K>], place: us
 
 /// Whether the event is a begin with this head and duration.
 pub(crate) fn is_begin_with<K>(event: &Event<K>, head: &Head, expires_in: Option<Duration>) -> bool
-    ensures { MatchBool result (IsBeginWith head.now expires_in event.now) (IsBeginWith head.now expires_in event.now → ⊥) }
+    ensures { MatchBool result (IsBeginWith head.now expires_in event.now)
+        (IsBeginWith head.now expires_in event.now → ⊥) }
 {
     match event {
         Event::Begin {

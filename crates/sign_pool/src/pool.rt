@@ -81,8 +81,10 @@ impl<K: SigningCredential, D: DeadlineRule<Credential = K>> Pool<K, D> {
 
     /// The next submitter. They are numbered from 0.
     pub fn submitter(&mut self) -> Result<Submitter, NoMemory<()>>
-        ensures seat { IfOk result (λ s. IsPassOf self.new.queue s.seat × (s.number ≡ self.old.submitters) × (s.jobs.items ≡ [])) }
-        ensures pool { IfOk result (λ s. (self.new.shared ≡ self.old.shared) × (self.new.queue ≡ self.old.queue)) }
+        ensures seat { IfOk result
+            (λ s. IsPassOf self.new.queue s.seat × (s.number ≡ self.old.submitters) × (s.jobs.items ≡ [])) }
+        ensures pool { IfOk result
+            (λ s. (self.new.shared ≡ self.old.shared) × (self.new.queue ≡ self.old.queue)) }
         ensures made { IfOk result (λ s. (self.new.submitters ≡ self.old.submitters + 1)
             × (self.new.workers ≡ self.old.workers) × (self.new.taken.items ≡ self.old.taken.items)) }
         ensures unchanged { OnErr result (self.new ≡ self.old) }
@@ -103,13 +105,17 @@ impl<K: SigningCredential, D: DeadlineRule<Credential = K>> Pool<K, D> {
     ///
     /// Errors, the first that holds: `NoHandle`, `HandleTaken`, `OutOfMemory`. An error changes nothing.
     pub fn worker(&mut self, handle: u32) -> Result<Worker<K>, WorkerRefused>
-        ensures seat { IfOk result (λ w. IsPassOf self.new.queue w.seat × (w.handle ≡ handle) × (w.pass ≡ []) × (w.answers.items ≡ [])) }
-        ensures free { IfOk result (λ w. (handle < length self.old.shared.handles) × (slice_get self.old.taken.items handle ≡ Some false)) }
-        ensures pool { IfOk result (λ w. (self.new.shared ≡ self.old.shared) × (self.new.queue ≡ self.old.queue)) }
+        ensures seat { IfOk result (λ w. IsPassOf self.new.queue w.seat × (w.handle ≡ handle) × (w.pass ≡ [])
+            × (w.answers.items ≡ [])) }
+        ensures free { IfOk result (λ w. (handle < length self.old.shared.handles)
+            × (slice_get self.old.taken.items handle ≡ Some false)) }
+        ensures pool { IfOk result
+            (λ w. (self.new.shared ≡ self.old.shared) × (self.new.queue ≡ self.old.queue)) }
         ensures made { IfOk result (λ w. (self.new.submitters ≡ self.old.submitters)
             × (self.new.workers ≡ self.old.workers + 1)
             × (self.new.taken.items ≡ slice_set self.old.taken.items handle true)) }
-        ensures refused { IfErr result (λ why. IsWorkerRefusal (length self.old.taken.items) self.old.taken.items handle why) }
+        ensures refused { IfErr result
+            (λ why. IsWorkerRefusal (length self.old.taken.items) self.old.taken.items handle why) }
         ensures unchanged { OnErr result (self.new ≡ self.old) }
     {
         if let Some(why) = self.refusal(handle) {

@@ -43,10 +43,13 @@ impl<K: SigningCredential, D: DeadlineRule<Credential = K>> Pool<K, D> {
     ) -> Result<Ticket, SubmitRefused>
         requires { IsPassOf self.now.queue seat.old.seat }
         ensures seat { IsPassOf self.now.queue seat.new.seat }
-        ensures ticket { IfOk result (λ ticket. ticket ≡ record { submitter = seat.old.number; number = length seat.old.jobs.items }) }
-        ensures submits { IfOk result (λ ticket. Submits seat.old seat.new (record { ticket = ticket; head = head; expires_in = expires_in })) }
+        ensures ticket { IfOk result
+            (λ ticket. ticket ≡ record { submitter = seat.old.number; number = length seat.old.jobs.items }) }
+        ensures submits { IfOk result (λ ticket. Submits seat.old seat.new
+            (record { ticket = ticket; head = head; expires_in = expires_in })) }
         ensures back { IfErr result (λ refused. (refused.head ≡ head) × (refused.expires_in ≡ expires_in)) }
-        ensures full { IfErr result (λ refused. refused.why ≡ Full → HeldAtOnce (ruled_capacity self.now.queue)) }
+        ensures full { IfErr result
+            (λ refused. refused.why ≡ Full → HeldAtOnce (ruled_capacity self.now.queue)) }
         ensures unchanged { OnErr result (IsSameSubmitter seat.old seat.new) }
     {
         let Ok(copy) = head.try_clone(self.alloc) else {

@@ -99,7 +99,8 @@ fn is_noted_at(last: Option<u64>, place: u64) -> bool
 
 /// Whether the outcome is read from this reply.
 fn is_read_from<K>(reply: &Reply<K>, outcome: Outcome) -> bool
-    ensures { MatchBool result (IsReadFrom (Some reply.now) outcome) (IsReadFrom (Some reply.now) outcome → ⊥) }
+    ensures { MatchBool result (IsReadFrom (Some reply.now) outcome)
+        (IsReadFrom (Some reply.now) outcome → ⊥) }
 {
     match reply {
         Reply::Done { .. } => outcome == Outcome::Done,

@@ -32,7 +32,8 @@ has_room headers name =
 
 -- the map takes the field
 unfoldable pub takes_field : Entries FieldValue → Field → Bool
-takes_field headers f = is_field_name f.name && (is_field_value f.value && has_room headers (lowercase f.name))
+takes_field headers f =
+    is_field_name f.name && (is_field_value f.value && has_room headers (lowercase f.name))
 
 -- each field is taken by the map with those before it
 abbrev pub takes_fields : Entries FieldValue → List Field → Bool

@@ -13,7 +13,8 @@ pub record AnswersParts (head : Head) (answer : Result Parts ErrorParts) : Type 
   pub err : IfErr answer (λ e. IsOutOfMemory e ⊎ RefusedAs (RefusesHead head) e)
 
 -- its URI and headers in a head of `http`, or why they are not, and then the head is as it was
-pub record AnswersCommit (head : Head) (old : Parts) (answer : Result (Unit {0}) ErrorParts) (new : Parts) : Type 0 where
+pub record AnswersCommit (head : Head) (old : Parts) (answer : Result (Unit {0}) ErrorParts)
+    (new : Parts) : Type 0 where
   pub ok : OnOk answer (Commits head old new)
   pub accepted : OnOk answer (¬ (RefusesTarget head))
   pub unchanged : OnErr answer (new ≡ old)

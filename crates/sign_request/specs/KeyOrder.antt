@@ -18,4 +18,6 @@ key_cmp p q = text_cmp p.0 q.0
 
 -- the first n pairs have one key, which is below those of the others
 abbrev pub BeginsWithKey : ℕ → List Pair → Type 0
-BeginsWithKey n pairs = (key : List ℕ) × AllByRecursion (λ p. p.0 ≡ key) (take n pairs) × AllByRecursion (λ p. text_cmp key p.0 ≡ Less) (drop n pairs)
+BeginsWithKey n pairs =
+    (key : List ℕ) × AllByRecursion (λ p. p.0 ≡ key) (take n pairs)
+    × AllByRecursion (λ p. text_cmp key p.0 ≡ Less) (drop n pairs)

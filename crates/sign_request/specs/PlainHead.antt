@@ -48,7 +48,8 @@ header_map fields = append_all [] (map header_of fields)
 
 -- a map refuses a field: its name is none, its value is none, or the map is full
 abbrev pub RefusesField : Entries FieldValue → Field → Type 0
-RefusesField headers f = ¬ (IsFieldName f.name) ⊎ (¬ (IsFieldValue f.value) ⊎ RefusesAppend headers (lowercase f.name))
+RefusesField headers f =
+    ¬ (IsFieldName f.name) ⊎ (¬ (IsFieldValue f.value) ⊎ RefusesAppend headers (lowercase f.name))
 
 -- some field is refused by the map of those before it
 pub record RefusesFields (fields : List Field) : Type 0 where

@@ -14,16 +14,19 @@ pub record PlainTarget : Type 0 where
 
 -- the parts that a URI of `http` has
 abbrev pub plain_target : Uri → PlainTarget
-plain_target uri = record { scheme = uri_scheme uri; authority = uri_authority uri; path_and_query = uri_data uri }
+plain_target uri =
+    record { scheme = uri_scheme uri; authority = uri_authority uri; path_and_query = uri_data uri }
 
 -- the origin form, `/path?query`, or the asterisk form, `*`; a fragment is not kept
 abbrev pub origin_form : List ℕ → Option PlainTarget
 origin_form text =
-    then_some (is_path_input text) (record { scheme = None; authority = None; path_and_query = without_fragment text })
+    then_some (is_path_input text)
+    (record { scheme = None; authority = None; path_and_query = without_fragment text })
 
 -- the authority form, `example.com:443`
 abbrev pub authority_form : List ℕ → Option PlainTarget
-authority_form text = then_some (is_authority text) (record { scheme = None; authority = Some text; path_and_query = [] })
+authority_form text =
+    then_some (is_authority text) (record { scheme = None; authority = Some text; path_and_query = [] })
 
 -- what is kept of a path and query after an authority: `/` where there are none
 abbrev pub kept_tail : List ℕ → List ℕ
@@ -37,11 +40,14 @@ absolute_form text =
     let authority = take (authority_len rest) rest in
     let tail = drop (authority_len rest) rest in
     then_some (is_scheme name && (is_authority authority && ((length tail == 0) || is_path_input tail)))
-    (record { scheme = Some (normal_scheme name); authority = Some authority; path_and_query = kept_tail tail })
+    (record { scheme = Some (normal_scheme name); authority = Some authority;
+        path_and_query = kept_tail tail })
 
 -- a text in its form
 unfoldable pub form_of : List ℕ → Option PlainTarget
-form_of text = if starts_origin text then origin_form text else (if has_scheme text then absolute_form text else authority_form text)
+form_of text =
+    if starts_origin text then origin_form text
+    else (if has_scheme text then absolute_form text else authority_form text)
 
 -- the target that a text spells, if it spells one
 unfoldable pub target_of : List ℕ → Option PlainTarget

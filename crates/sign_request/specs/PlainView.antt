@@ -54,7 +54,8 @@ view_at head target authority = record {
 
 -- the view of a head, if its URI names an authority
 unfoldable pub head_view : Head → Option PlainView
-head_view head = option_and_then (λ target. option_map (view_at head target) target.authority) (target_of head.uri)
+head_view head =
+    option_and_then (λ target. option_map (view_at head target) target.authority) (target_of head.uri)
 
 -- what a plain head is viewed as: a refusal where `http` does not accept it, or where it names no authority
 unfoldable pub view_of : Head → Result PlainView ViewRefusal

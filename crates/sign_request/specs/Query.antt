@@ -18,7 +18,8 @@ text_pair p = (string_bytes p.0, string_bytes p.1)
 abbrev pub text_pairs : {Z : Type 0} → List (String Z × String Z) → List Pair
 text_pairs pairs = map text_pair pairs
 
--- the text with each percent escape replaced by its byte, once, and then U+FFFD for each sequence that is not UTF-8
+-- the text with each percent escape replaced by its byte, once, and then U+FFFD for
+-- each sequence that is not UTF-8
 unfoldable pub decoded_text : List ℕ → List ℕ
 decoded_text text = utf8_lossy (percent_decode text)
 
@@ -40,7 +41,8 @@ query_pieces query = filter (λ piece. not (length piece == 0)) (slice_split is_
 
 -- a piece cut at its first `=`; where it has none, all of it is the key. `+` stays
 abbrev pub read_pair : List ℕ → Pair
-read_pair piece = (decoded_text (before_first is_equals_sign piece), decoded_text (after_first is_equals_sign piece))
+read_pair piece =
+    (decoded_text (before_first is_equals_sign piece), decoded_text (after_first is_equals_sign piece))
 
 -- the pairs of a query, in order
 unfoldable pub query_pairs : List ℕ → List Pair

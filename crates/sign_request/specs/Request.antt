@@ -16,7 +16,8 @@ pub record IsViewOf (parts : Parts) (request : SigningRequest) : Type 0 where
   pub query : text_pairs request.query.items ≡ target_pairs parts.uri
   pub headers : request.headers ≡ parts.headers
 
--- method and target of the view are still those of the head. Case does not count in the scheme and the authority
+-- method and target of the view are still those of the head. Case does not count
+-- in the scheme and the authority
 pub record StillFits (parts : Parts) (request : SigningRequest) : Type 0 where
   pub method : request.method ≡ parts.method
   pub scheme : lowercase request.scheme ≡ lowercase (target_scheme parts.uri)

@@ -10,14 +10,16 @@ use Rattle.http_uri.specs.Uri.{Spells, uri_eq, uri_scheme, uri_authority, uri_pa
 abbrev pub plain_entry : Entry FieldValue → Entry FieldValue
 plain_entry e = (e.0, map (λ value. plain_value value.bytes) e.1)
 
--- what holds of every head of `http` that was parsed: its URI has a text, and each name of its headers is a header name
+-- what holds of every head of `http` that was parsed: its URI has a text, and each name
+-- of its headers is a header name
 pub record IsParsed (parts : Parts) : Type 0 where
   pub text : List ℕ
   pub spelled : Spells text parts.uri
   pub headers : IsHeaderMap parts.headers
   pub names : All (λ e. IsHeaderName e.0) parts.headers
 
--- the head is the same as `http` compares heads: its URI may be spelled otherwise, and no value is kept out of logs any more
+-- the head is the same as `http` compares heads: its URI may be spelled otherwise, and no
+-- value is kept out of logs any more
 pub record ComesBack (parts again : Parts) : Type 0 where
   pub method : again.method ≡ parts.method
   pub version : again.version ≡ parts.version

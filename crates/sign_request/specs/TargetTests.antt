@@ -1,4 +1,5 @@
--- The pieces of a request target as tests: which bytes `http` takes for a scheme, an authority, a path and query.
+-- The pieces of a request target as tests: which bytes `http` takes for a scheme,
+-- an authority, a path and query.
 use Rattle.std.specs.Prelude.{ℕ, ◌-◌, Bool, true, not, ◌&&◌, ◌||◌, List, length, take, drop, slice_index, codes, bytes_eq, ◌==◌, nat_lt, nat_le}
 use Rattle.std.specs.List.{list_all, range_with_len}
 use Rattle.std.specs.Option.{option_map_or}
@@ -43,7 +44,8 @@ may_follow front b =
 
 -- each byte may follow those before it
 unfoldable pub each_may_follow : List ℕ → Bool
-each_may_follow text = list_all (λ i. may_follow (take i text) (slice_index text i)) (range_with_len 0 (length text))
+each_may_follow text =
+    list_all (λ i. may_follow (take i text) (slice_index text i)) (range_with_len 0 (length text))
 
 -- userinfo, host and port, of which a host is needed
 unfoldable pub is_authority : List ℕ → Bool
@@ -62,7 +64,8 @@ is_asterisk text = bytes_eq text (codes "*")
 -- empty, `*`, or a first byte `/` or `?`
 unfoldable pub may_start_path : List ℕ → Bool
 may_start_path text =
-    (length text == 0) || (is_asterisk text || ((slice_index text 0 == slash) || (slice_index text 0 == question_mark)))
+    (length text == 0)
+    || (is_asterisk text || ((slice_index text 0 == slash) || (slice_index text 0 == question_mark)))
 
 -- a path, and a query after the first `?`
 unfoldable pub is_path_and_query : List ℕ → Bool

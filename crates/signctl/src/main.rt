@@ -1,5 +1,5 @@
-//! The program: real streams round `signctl_core::run_program`, and round `signctl_threads::run_threads` for the
-//! commands that threads serve.
+//! The program: real streams round `signctl_core::run_program`, and round `signctl_threads::run_threads` for
+//! the commands that threads serve.
 #![tactic(auto)]
 
 use sign_base::{Sink, StdSink, StdSource};

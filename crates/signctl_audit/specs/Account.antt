@@ -21,8 +21,8 @@ use Rattle.signctl_audit.specs.declared.audit_line.Unclaimed.{Unclaimed}
 use Rattle.signctl_audit.specs.declared.claimed_reply.ClaimedReply.{ClaimedReply}
 use Rattle.signctl_audit.specs.declared.claimed_reply.ClaimedReply.TheVariants.{OutOfMemory}
 
--- what some lines come to: how many they are, the version that they make the input, what they say as lines of a script, the
--- entries that were claimed, and the line that still wants its claim
+-- what some lines come to: how many they are, the version that they make the input, what they say as lines of
+-- a script, the entries that were claimed, and the line that still wants its claim
 pub record Account : Type 0 where
   pub lines : ℕ
   pub version : Option ScriptVersion
@@ -40,7 +40,8 @@ version_in so_far = unwrap_or so_far.version One
 
 -- the expected reply to an event, after the entries that were claimed
 abbrev pub reply_due : Account → Event ScriptCredential → Reply ScriptCredential
-reply_due so_far event = expected_reply script_policy (setup_in so_far.items) (committed_entries so_far.entries) event
+reply_due so_far event =
+    expected_reply script_policy (setup_in so_far.items) (committed_entries so_far.entries) event
 
 -- what a line of a script makes that wants a claim, after the items of the lines before it
 abbrev pub subject_of : List ScriptItem → ScriptItem → Option Subject
@@ -65,7 +66,8 @@ claimed_entry so_far event _ = record { event = event; reply = reply_due so_far 
 
 -- the entries with one more claim, which is about this
 abbrev pub entries_with : Account → ClaimedReply → Option Subject → List (Entry ScriptCredential)
-entries_with so_far claimed (Some (Happened event)) = so_far.entries ++ claimed_entry so_far event claimed ∷ []
+entries_with so_far claimed (Some (Happened event)) =
+    so_far.entries ++ claimed_entry so_far event claimed ∷ []
 entries_with so_far claimed _ = so_far.entries
 
 -- one more line of a script
@@ -77,7 +79,8 @@ with_item so_far item = record so_far {
 
 -- one more claim, which is about the line that wanted one
 abbrev pub with_claim : Account → ClaimedReply → Account
-with_claim so_far claimed = record so_far { entries = entries_with so_far claimed (subject_in so_far); unclaimed = None }
+with_claim so_far claimed =
+    record so_far { entries = entries_with so_far claimed (subject_in so_far); unclaimed = None }
 
 -- the line counts, and the first one makes the version
 abbrev pub counted : ScriptVersion → Account → Account

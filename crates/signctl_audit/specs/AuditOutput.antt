@@ -28,19 +28,22 @@ count_words name count = name ∷ decimal count ∷ []
 -- the line that says how often a cache was answered what
 abbrev pub count_line : ℕ → Counts → List ℕ
 count_line cache counts = line_of (
-    codes "cache" ∷ decimal cache ∷ count_words (codes "asks") counts.asks ++ (count_words (codes "signs") counts.signs
+    codes "cache" ∷ decimal cache ∷ count_words (codes "asks") counts.asks
+    ++ (count_words (codes "signs") counts.signs
     ++ (count_words (codes "refused") counts.refused ++ (count_words (codes "cancelled") counts.cancelled
     ++ count_words (codes "missed") counts.missed))))
 
 -- those of the first caches, in order
 unfoldable pub count_lines : Account → ℕ → List ℕ
 count_lines so_far zero = []
-count_lines so_far (suc n) = count_lines so_far n ++ with_newline (count_line n (counts_of (setup_in so_far.items) so_far.entries n))
+count_lines so_far (suc n) =
+    count_lines so_far n ++ with_newline (count_line n (counts_of (setup_in so_far.items) so_far.entries n))
 
 -- what closes the output to lines that come to this
 abbrev pub closing_lines : Account → List ℕ
 closing_lines so_far =
-    with_newline (legal_line (length (events_in so_far.items))) ++ count_lines so_far (length (setup_in so_far.items).loaders)
+    with_newline (legal_line (length (events_in so_far.items)))
+    ++ count_lines so_far (length (setup_in so_far.items).loaders)
 
 -- the same, unless a line still wants its claim
 abbrev pub closing_by : Account → Option Unclaimed → Result (List ℕ) AuditError

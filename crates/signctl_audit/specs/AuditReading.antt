@@ -49,7 +49,8 @@ script_error None missing = missing
 -- why an item is bad after these lines, where it is
 abbrev pub audit_item_error : Account → ScriptItem → Option AuditError
 audit_item_error so_far item =
-    script_error (item_error so_far.items item) (missing_claim (subject_of so_far.items item) so_far.unclaimed)
+    script_error (item_error so_far.items item)
+    (missing_claim (subject_of so_far.items item) so_far.unclaimed)
 
 -- a line that says this, or this error
 abbrev pub line_or : AuditLine → Option AuditError → Result AuditLine AuditError
@@ -76,11 +77,12 @@ is_missed _ = false
 
 -- whether an allocation may have failed
 abbrev pub may_miss : Account → Subject → Bool
-may_miss so_far (Happened event) = allocates script_policy (setup_in so_far.items) (committed_entries so_far.entries) event
+may_miss so_far (Happened event) =
+    allocates script_policy (setup_in so_far.items) (committed_entries so_far.entries) event
 may_miss so_far _ = false
 
--- a claim in these words is right: it says that an allocation failed, which may be; or they are the line of the answer that
--- is due
+-- a claim in these words is right: it says that an allocation failed, which may be; or they are the
+-- line of the answer that is due
 abbrev pub is_right : Account → Subject → ClaimedReply → List ℕ → Bool
 is_right so_far subject claimed text =
     (is_missed claimed && may_miss so_far subject) || bytes_eq text (due_line (due_of so_far subject))
@@ -100,7 +102,8 @@ due_error due behind text = if bytes_eq text (due_line due) then None else Some 
 -- why a claim about this, in these words, is bad, where it is
 abbrev pub subject_error : Account → Subject → ClaimedReply → List ℕ → Option AuditError
 subject_error so_far subject claimed text =
-    if is_right so_far subject claimed text then None else Some (Differs (due_of so_far subject) (behind_of so_far subject))
+    if is_right so_far subject claimed text then None
+    else Some (Differs (due_of so_far subject) (behind_of so_far subject))
 
 -- why a claim in these words is bad, where it is
 abbrev pub claim_error : Account → Option Subject → ClaimedReply → List ℕ → Option AuditError
@@ -110,7 +113,8 @@ claim_error so_far (Some subject) claimed text = subject_error so_far subject cl
 -- a claim line with this text, which spells this claim, or none
 abbrev pub claim_reading : Account → List ℕ → Option ClaimedReply → Result AuditLine AuditError
 claim_reading so_far text None = Err (Line NotUnderstood)
-claim_reading so_far text (Some claimed) = line_or (Claims claimed) (claim_error so_far (subject_in so_far) claimed text)
+claim_reading so_far text (Some claimed) =
+    line_or (Claims claimed) (claim_error so_far (subject_in so_far) claimed text)
 
 -- ---- every line
 

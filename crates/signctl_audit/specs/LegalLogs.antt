@@ -18,12 +18,13 @@ abbrev pub waiting_event : Option Subject → List (Event ScriptCredential)
 waiting_event (Some (Happened event)) = event ∷ []
 waiting_event _ = []
 
--- the claims are a legal transcript for the setup that the lines make; and it is one of their events, in order, but for the
--- last where that still wants its claim
+-- the claims are a legal transcript for the setup that the lines make; and it is one of their events, in
+-- order, but for the last where that still wants its claim
 pub record IsLegalLog (so_far : Account) : Type 0 where
   pub legal : IsLegal script_policy (setup_in so_far.items) so_far.entries
   pub events : events_of so_far.entries ++ waiting_event (subject_in so_far) ≡ events_in so_far.items
 
 -- whatever the bytes, so it is with the lines before the first bad one
 abbrev pub AcceptedClaimsAreLegal : Type 0
-AcceptedClaimsAreLegal = (bytes : List ℕ) (ending : Ending) → IsLegalLog (account_of (lines_read audit_command bytes ending).items)
+AcceptedClaimsAreLegal =
+    (bytes : List ℕ) (ending : Ending) → IsLegalLog (account_of (lines_read audit_command bytes ending).items)

@@ -17,8 +17,8 @@ use Rattle.signctl_audit.specs.declared.audit_line.Subject.{Subject}
 use Rattle.signctl_audit.specs.declared.audit_line.Subject.TheVariants.{Event as Happened}
 use Rattle.signctl_audit.specs.declared.audit_line.Unclaimed.{Unclaimed}
 
--- a desk until the first event comes, and an audit over it from then on; how many lines, caches and events there were; the
--- version of the input, once it has a line; and the line that still wants its claim
+-- a desk until the first event comes, and an audit over it from then on; how many lines, caches and events
+-- there were; the version of the input, once it has a line; and the line that still wants its claim
 pub record SessionState : Type 0 where
   pub desk : Option (DeskState ScriptCredential ScriptRule)
   pub audit : Option (AuditState ScriptCredential ScriptRule)
@@ -54,7 +54,8 @@ pub record IsAudited (audit : AuditState ScriptCredential ScriptRule) (so_far : 
   pub represents : AuditRepresents script_policy audit stepped
 
 -- the first event hands the desk to the audit
-abbrev pub HasSigner : Option (DeskState ScriptCredential ScriptRule) → Option (AuditState ScriptCredential ScriptRule) → Account → Type 0
+abbrev pub HasSigner : Option (DeskState ScriptCredential ScriptRule)
+    → Option (AuditState ScriptCredential ScriptRule) → Account → Type 0
 HasSigner (Some desk) None so_far = IsSetUp desk so_far
 HasSigner None (Some audit) so_far = IsAudited audit so_far
 HasSigner _ _ so_far = ⊥

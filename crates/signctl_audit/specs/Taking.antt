@@ -21,26 +21,31 @@ pub record HasRoom (so_far : Account) : Type 0 where
 -- the session represents some lines, after which this item is good, and there is room for it
 abbrev pub CanTake : SessionState → ScriptItem → Type 0
 CanTake session item =
-    (so_far : Account) × RepresentsAccount session so_far × (audit_item_error so_far item ≡ None) × HasRoom so_far
+    (so_far : Account) × RepresentsAccount session so_far × (audit_item_error so_far item ≡ None)
+    × HasRoom so_far
 
 -- the item is taken into account
 abbrev pub TakesItem : ScriptItem → SessionState → SessionState → Type 0
 TakesItem item old new =
-    (so_far : Account) → RepresentsAccount old so_far → audit_item_error so_far item ≡ None → RepresentsAccount new (with_item so_far item)
+    (so_far : Account) → RepresentsAccount old so_far → audit_item_error so_far item ≡ None
+    → RepresentsAccount new (with_item so_far item)
 
 -- some words read as the claim, and are right after lines that come to this
 abbrev pub IsRightClaim : Account → ClaimedReply → Type 0
 IsRightClaim so_far claimed =
-    (text : List ℕ) × (claim_of text ≡ Some claimed) × (claim_error so_far (subject_in so_far) claimed text ≡ None)
+    (text : List ℕ) × (claim_of text ≡ Some claimed)
+    × (claim_error so_far (subject_in so_far) claimed text ≡ None)
 
 -- the session represents some lines, after which the claim is right
 abbrev pub CanTakeClaim : SessionState → ClaimedReply → Type 0
-CanTakeClaim session claimed = (so_far : Account) × RepresentsAccount session so_far × IsRightClaim so_far claimed
+CanTakeClaim session claimed =
+    (so_far : Account) × RepresentsAccount session so_far × IsRightClaim so_far claimed
 
 -- the claim is about this event, and is right
 abbrev pub CanHappen : SessionState → Event ScriptCredential → ClaimedReply → Type 0
 CanHappen session event claimed =
-    (so_far : Account) × HasSigner session.desk session.audit so_far × (subject_in so_far ≡ Some (Happened event)) × IsRightClaim so_far claimed
+    (so_far : Account) × HasSigner session.desk session.audit so_far
+    × (subject_in so_far ≡ Some (Happened event)) × IsRightClaim so_far claimed
 
 -- what the audit may answer to a right claim: not that another reply was due
 abbrev pub IsLegalOrNoMemory : Claim ScriptCredential → Type 0
@@ -51,4 +56,5 @@ IsLegalOrNoMemory Claim.OutOfMemory = Unit {0}
 -- the claim is taken into account
 abbrev pub TakesClaim : ClaimedReply → SessionState → SessionState → Type 0
 TakesClaim claimed old new =
-    (so_far : Account) → RepresentsAccount old so_far → IsRightClaim so_far claimed → RepresentsAccount new (with_claim so_far claimed)
+    (so_far : Account) → RepresentsAccount old so_far → IsRightClaim so_far claimed
+    → RepresentsAccount new (with_claim so_far claimed)

@@ -115,7 +115,8 @@ impl AuditSession {
 
     /// Why an item is bad after the lines so far, where it is.
     fn item_error(&self, item: &Item<ScriptEvent>) -> Option<AuditError>
-        ensures { (so_far : Account) → RepresentsAccount self.now so_far → result ≡ audit_item_error so_far item.now }
+        ensures { (so_far : Account) → RepresentsAccount self.now so_far
+            → result ≡ audit_item_error so_far item.now }
     {
         match item {
             Item::Silent => None,
@@ -128,7 +129,8 @@ impl AuditSession {
     /// Why a line that sets the signer up is bad, where it is.
     fn setup_error(&self, there: bool) -> Option<AuditError>
         ensures { (so_far : Account) → RepresentsAccount self.now so_far
-            → result ≡ script_error (setup_error (not (is_empty (events_in so_far.items))) there) (overdue so_far.unclaimed) }
+            → result ≡ script_error (setup_error (not (is_empty (events_in so_far.items))) there)
+                (overdue so_far.unclaimed) }
     {
         match setup_error(self.events > 0, there) {
             Some(why) => Some(AuditError::Line(why)),
@@ -260,7 +262,8 @@ impl AuditSession {
     fn begin_audit(&mut self) -> Result<(), NoMemory<()>>
         requires { (so_far : Account) × HasSigner self.old.desk self.old.audit so_far }
         ensures begun { OnOk result (self.new ≡ record self.old { desk = None; audit = self.new.audit }) }
-        ensures signer { OnOk result ((so_far : Account) (event : Event ScriptCredential) → HasSigner self.old.desk self.old.audit so_far
+        ensures signer { OnOk result ((so_far : Account) (event : Event ScriptCredential)
+            → HasSigner self.old.desk self.old.audit so_far
             → HasSigner None self.new.audit (with_item so_far (item.Event event))) }
         ensures lines { self.new.lines ≡ self.old.lines }
         ensures version { self.new.version ≡ self.old.version }
@@ -303,7 +306,8 @@ impl AuditSession {
     ) -> Result<(), NoMemory<()>>
         requires { CanHappen self.old event.now claimed.now }
         ensures signer { OnOk result ((so_far : Account) → HasSigner self.old.desk self.old.audit so_far
-            → subject_in so_far ≡ Some (Happened event.now) → HasSigner self.new.desk self.new.audit (with_claim so_far claimed.now)) }
+            → subject_in so_far ≡ Some (Happened event.now)
+            → HasSigner self.new.desk self.new.audit (with_claim so_far claimed.now)) }
         ensures rest { self.new ≡ record self.old { audit = self.new.audit } }
     {
         let Some(audit) = &mut self.audit else {

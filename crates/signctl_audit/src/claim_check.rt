@@ -76,7 +76,8 @@ fn due_reply(
     audit: &Audit<ScriptCredential, ScriptRule>,
     event: &ScriptEvent,
 ) -> Result<Reply<ScriptCredential>, NoMemory<()>>
-    ensures { IfOk result (λ reply. (so_far : Account) → IsAudited audit.now so_far → reply ≡ reply_due so_far event.now) }
+    ensures { IfOk result
+        (λ reply. (so_far : Account) → IsAudited audit.now so_far → reply ≡ reply_due so_far event.now) }
 {
     let reply = audit.due(event.as_event());
     if is_out_of_memory(&reply) {

@@ -11,7 +11,8 @@ ghost use Rattle.signctl_audit.specs.LegalLogs.{AcceptedClaimsAreLegal};
 /// A text reads as a claim exactly where it spells it.
 #[tactic(auto, using(crate::proofs::ClaimGrammar::decided))]
 pub fn claims_are_decided()
-    ensures { (text : List ℕ) (claimed : ClaimedReply) → SpellsReply text claimed ↔ (claim_of text ≡ Some claimed) }
+    ensures { (text : List ℕ) (claimed : ClaimedReply)
+        → SpellsReply text claimed ↔ (claim_of text ≡ Some claimed) }
 {}
 
 /// A text spells at most one claim.
@@ -23,7 +24,8 @@ pub fn a_text_spells_one_claim()
 /// A claim has at most one spelling.
 #[tactic(auto, using(crate::proofs::ClaimGrammar::one_spelling))]
 pub fn a_claim_has_one_spelling()
-    ensures { (claimed : ClaimedReply) (a b : List ℕ) → SpellsReply a claimed → SpellsReply b claimed → a ≡ b }
+    ensures { (claimed : ClaimedReply) (a b : List ℕ) → SpellsReply a claimed
+        → SpellsReply b claimed → a ≡ b }
 {}
 
 /// What `script` prints of a reply is the line of the claim that the reply shows.
@@ -32,8 +34,8 @@ pub fn a_printed_reply_is_claimed_by_its_line()
     ensures { (reply : Reply ScriptCredential) → reply_line reply ≡ claimed_line (shown reply) }
 {}
 
-/// Whatever the input of `audit`, the claims before its first bad line are a legal transcript for the setup that
-/// the lines make. It is one of their events, but for the last where that still wants its claim.
+/// Whatever the input of `audit`, the claims before its first bad line are a legal transcript for the setup
+/// that the lines make. It is one of their events, but for the last where that still wants its claim.
 pub fn accepted_claims_are_legal()
     ensures { AcceptedClaimsAreLegal }
 {}

@@ -46,7 +46,8 @@ command_named _ = None
 
 -- ---- what a run does
 
--- a source or a sink, before and after a run: the bytes that it still holds, or all that it holds, and how often it failed
+-- a source or a sink, before and after a run: the bytes that it still holds, or all that it
+-- holds, and how often it failed
 pub record Stream (A : Type 0) : Type 0 where
   pub holds : A → Option (List ℕ)
   pub faults : A → ℕ
@@ -57,7 +58,8 @@ pub record Stream (A : Type 0) : Type 0 where
 abbrev pub Adds : {D : Type 0} → Stream D → (List ℕ → Type 0) → Type 0
 Adds sink Fits = (added : List ℕ) × Appends (sink.holds sink.old) (sink.holds sink.new) added × Fits added
 
--- a command over lines took some bytes, at most one more than are looked at, and added the output that belongs to them
+-- a command over lines took some bytes, at most one more than are looked at, and added
+-- the output that belongs to them
 abbrev pub RunsOver : {Item Cause S D : Type 0} → Command Item Cause → Status → Stream S → Stream D → Type 0
 RunsOver command status source sink =
     (taken : List ℕ) × (added : List ℕ)

@@ -19,12 +19,14 @@ line_outcome_by (Ok item) = Good item
 line_outcome_by (Err bad) = Ends Refused (bad_line bad)
 
 -- the outcome of the end by what closes the output
-abbrev pub end_outcome : {Item Cause : Type 0} → Command Item Cause → List Item → Result (List ℕ) Cause → LineOutcome Item
+abbrev pub end_outcome : {Item Cause : Type 0} → Command Item Cause → List Item → Result (List ℕ) Cause
+    → LineOutcome Item
 end_outcome command items (Ok closing) = Ends Done closing
 end_outcome command items (Err cause) = Ends Refused (bad_line (blamed command (length items + 1) cause))
 
 -- the outcome of the next line, or of the close, after the items of the lines before it
-abbrev pub line_outcome : {Item Cause : Type 0} → Command Item Cause → List Item → Result (List ℕ) Close → LineOutcome Item
+abbrev pub line_outcome : {Item Cause : Type 0} → Command Item Cause → List Item → Result (List ℕ) Close
+    → LineOutcome Item
 line_outcome command items (Ok line) = line_outcome_by (reading_of command items line)
 line_outcome command items (Err close.TooLong) = Ends Refused (bad_line (too_long_line (length items + 1)))
 line_outcome command items (Err close.TooMuch) = Ends Refused too_much_line

@@ -12,8 +12,8 @@ pub data Ending : Type 0 where
 abbrev pub is_too_long : List ℕ → Bool
 is_too_long line = nat_lt line_limit (length line)
 
--- whether what stands after the last newline is a line: where all was read, unless it is empty; where a read failed
--- only if it has too many bytes
+-- whether what stands after the last newline is a line: where all was read, unless it is empty; where a read
+-- failed only if it has too many bytes
 abbrev pub is_last_line : Ending → List ℕ → Bool
 is_last_line End [] = false
 is_last_line End (b ∷ rest) = true

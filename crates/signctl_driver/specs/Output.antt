@@ -22,12 +22,14 @@ last_lines closing None = closing
 last_lines closing (Some bad) = bad_line bad
 
 -- the answers to the lines before the first bad one, and what comes after them
-abbrev pub output_of : {Item Cause : Type 0} → Command Item Cause → (List Item → List ℕ) → LinesRead Item → List ℕ
+abbrev pub output_of : {Item Cause : Type 0} → Command Item Cause → (List Item → List ℕ)
+    → LinesRead Item → List ℕ
 output_of command closing lines =
     answers_to command lines.items ++ last_lines (closing lines.items) lines.bad
 
 -- what closes the output where all was read: the closing, or the line that names what is bad at the end
-abbrev pub closing_by : {Item Cause : Type 0} → Command Item Cause → List Item → Result (List ℕ) Cause → List ℕ
+abbrev pub closing_by : {Item Cause : Type 0} → Command Item Cause → List Item
+    → Result (List ℕ) Cause → List ℕ
 closing_by command items (Ok closing) = closing
 closing_by command items (Err cause) = bad_line (blamed command (length items + 1) cause)
 

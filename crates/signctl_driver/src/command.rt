@@ -2,8 +2,8 @@
 //!
 //! A new command is an item type, a step and a printer. Its meaning is the record `Command`, of five
 //! functions of lists: what a line reads as after the items of the lines before it, the text of a
-//! cause and the line that it blames, the answer to an item, and the closing. Reading, the numbers of lines, the limits, faults
-//! and the order of reads and writes are the driver's, and so are the proofs about them.
+//! cause and the line that it blames, the answer to an item, and the closing. Reading, the numbers of lines,
+//! the limits, faults and the order of reads and writes are the driver's, and so are the proofs about them.
 ghost use Rattle.std.specs.Prelude.{◌≡◌, ◌++◌, ◌∷◌, ◌<◌, [], List, length, OnOk, IfOk};
 ghost use Rattle.sign_base.specs.Lines.{input_limit};
 ghost use Rattle.signctl_driver.specs.Command.{Command, ClosesBy, MayFollow};
@@ -46,7 +46,8 @@ pub trait LineCommand: Drop {
     ) -> Result<(), NoMemory<()>>
         requires { (items : List Self.Item) × represents self.old items × MayFollow command items item
             × (length items < input_limit) }
-        ensures { OnOk result ((items : List Self.Item) → represents self.old items → MayFollow command items item
+        ensures { OnOk result
+            ((items : List Self.Item) → represents self.old items → MayFollow command items item
             → represents self.new (items ++ item ∷ [])
             × (text.new.items ≡ text.old.items ++ command.answer items item)) };
 

@@ -9,7 +9,8 @@ use sign_base::NoMemory;
 
 /// Begins the line that names a bad line by its number, up to its cause.
 pub(crate) fn begin_bad_line(text: &mut Vec<u8>, number: u64) -> Result<(), NoMemory<()>>
-    ensures { OnOk result (text.new.items ≡ text.old.items ++ (codes "line " ++ (decimal number ++ codes ": "))) }
+    ensures { OnOk result
+        (text.new.items ≡ text.old.items ++ (codes "line " ++ (decimal number ++ codes ": "))) }
 {
     text.extend_from_slice(b"line ")?;
     text.extend_from_slice(Buffer::new().format(number).as_bytes())?;

@@ -48,12 +48,16 @@ impl<C: LineCommand> Service<C> {
     /// Takes what the reader gave: adds the answer to a line, or what closes the output. Answers how
     /// the run ends there, if it does.
     pub fn take(&mut self, alloc: Global, next: Next<'_>) -> Result<Option<Status>, NoMemory<()>>
-        requires served { (items : List C.Item) × HasServed C.represents self.old items × (length items ≤ input_limit) }
-        requires line { IfOk (answer_of next) (λ line. (length line ≤ line_limit) × (self.old.lines < input_limit)) }
+        requires served { (items : List C.Item) × HasServed C.represents self.old items
+            × (length items ≤ input_limit) }
+        requires line { IfOk (answer_of next)
+            (λ line. (length line ≤ line_limit) × (self.old.lines < input_limit)) }
         ensures goes_on { result ≡ Ok None → (items : List C.Item) → HasServed C.represents self.old items
-            → (item : C.Item) × (line_outcome C.command items (answer_of next.entry) ≡ Good item) × HasServed C.represents self.new (items ++ item ∷ [])
+            → (item : C.Item) × (line_outcome C.command items (answer_of next.entry) ≡ Good item)
+            × HasServed C.represents self.new (items ++ item ∷ [])
             × (self.new.text.items ≡ self.old.text.items ++ C.command.answer items item) }
-        ensures ends { IfOk result (λ how. IfSome how (λ status. (items : List C.Item) → HasServed C.represents self.old items
+        ensures ends { IfOk result
+            (λ how. IfSome how (λ status. (items : List C.Item) → HasServed C.represents self.old items
             → (closing : List ℕ) × (line_outcome C.command items (answer_of next.entry) ≡ Ends status closing)
             × (self.new.text.items ≡ self.old.text.items ++ closing))) }
         ensures fault { is_fault (answer_of next.entry) ≡ true → IsOk result }
@@ -75,12 +79,15 @@ impl<C: LineCommand> Service<C> {
 
     /// Serves a line: adds its answer, or the line that names it, which ends the run.
     fn serve(&mut self, alloc: Global, line: &[u8]) -> Result<Option<Status>, NoMemory<()>>
-        requires served { (items : List C.Item) × HasServed C.represents self.old items × (length items < input_limit) }
+        requires served { (items : List C.Item) × HasServed C.represents self.old items
+            × (length items < input_limit) }
         requires fits { length line.now ≤ line_limit }
         ensures good { result ≡ Ok None → (items : List C.Item) → HasServed C.represents self.old items
-            → (item : C.Item) × (reading_of C.command items line.now ≡ Ok item) × HasServed C.represents self.new (items ++ item ∷ [])
+            → (item : C.Item) × (reading_of C.command items line.now ≡ Ok item)
+            × HasServed C.represents self.new (items ++ item ∷ [])
             × (self.new.text.items ≡ self.old.text.items ++ C.command.answer items item) }
-        ensures bad { IfOk result (λ how. IfSome how (λ status. (items : List C.Item) → HasServed C.represents self.old items
+        ensures bad { IfOk result
+            (λ how. IfSome how (λ status. (items : List C.Item) → HasServed C.represents self.old items
             → (bad : BadLine) × (status ≡ Status.Refused) × (reading_of C.command items line.now ≡ Err bad)
             × (self.new.text.items ≡ self.old.text.items ++ bad_line bad))) }
     {
@@ -97,9 +104,12 @@ impl<C: LineCommand> Service<C> {
     /// Adds the line that says which line is bad, and why: the next one, or the one that the cause blames.
     /// It ends the run.
     fn refuse(&mut self, cause: C::Cause) -> Result<Option<Status>, NoMemory<()>>
-        requires { (items : List C.Item) × HasServed C.represents self.old items × (length items ≤ input_limit) }
-        ensures { IfOk result (λ how. (how ≡ Some Status.Refused) × ((items : List C.Item) → HasServed C.represents self.old items
-            → self.new.text.items ≡ self.old.text.items ++ bad_line (blamed C.command (length items + 1) cause))) }
+        requires { (items : List C.Item) × HasServed C.represents self.old items
+            × (length items ≤ input_limit) }
+        ensures { IfOk result (λ how. (how ≡ Some Status.Refused)
+            × ((items : List C.Item) → HasServed C.represents self.old items
+            → self.new.text.items ≡
+                self.old.text.items ++ bad_line (blamed C.command (length items + 1) cause))) }
     {
         let number = C::cause_line(&cause).unwrap_or(self.lines + 1);
         begin_bad_line(&mut self.text, number)?;
@@ -110,8 +120,10 @@ impl<C: LineCommand> Service<C> {
 
     /// Adds the line that says that the next line is too long, which ends the run.
     fn refuse_too_long(&mut self) -> Result<Option<Status>, NoMemory<()>>
-        requires { (items : List C.Item) × HasServed C.represents self.old items × (length items ≤ input_limit) }
-        ensures { IfOk result (λ how. (how ≡ Some Status.Refused) × ((items : List C.Item) → HasServed C.represents self.old items
+        requires { (items : List C.Item) × HasServed C.represents self.old items
+            × (length items ≤ input_limit) }
+        ensures { IfOk result (λ how. (how ≡ Some Status.Refused)
+            × ((items : List C.Item) → HasServed C.represents self.old items
             → self.new.text.items ≡ self.old.text.items ++ bad_line (too_long_line (length items + 1)))) }
     {
         begin_bad_line(&mut self.text, self.lines + 1)?;

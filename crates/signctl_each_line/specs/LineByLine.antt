@@ -21,7 +21,8 @@ answer_said answer_to None = []
 answer_said answer_to (Some item) = answer_to item
 
 -- the command that reads a line so and answers its item so, whatever came before, and closes with nothing
-abbrev pub line_by_line : {Item : Type 0} → (List ℕ → Option Item) → (Item → List ℕ) → Command (Option Item) LineError
+abbrev pub line_by_line : {Item : Type 0} → (List ℕ → Option Item) → (Item → List ℕ)
+    → Command (Option Item) LineError
 line_by_line item_of answer_to = record {
   read = λ before line. said_by item_of line;
   cause_text = line_error_text;

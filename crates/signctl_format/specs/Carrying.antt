@@ -9,4 +9,5 @@ names_head name = bytes_eq name (codes "begin") || bytes_eq name (codes "accept"
 
 -- the first word of the line is `begin` or `accept`
 abbrev pub CarriesHead : List ℕ → Type 0
-CarriesHead line = (name : List ℕ) × (rest : List (List ℕ)) × (words line ≡ name ∷ rest) × IsTrue (names_head name)
+CarriesHead line =
+    (name : List ℕ) × (rest : List (List ℕ)) × (words line ≡ name ∷ rest) × IsTrue (names_head name)

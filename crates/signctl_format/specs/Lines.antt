@@ -27,7 +27,8 @@ call_words call = decimal call.handle ∷ decimal call.number ∷ []
 -- a credential by its number and its moments
 abbrev pub credential_words : ScriptVersion → ScriptCredential → List (List ℕ)
 credential_words version c =
-    decimal c.generation ∷ moment_word version c.fresh ∷ moment_word version c.expires ∷ moment_word version c.required ∷ []
+    decimal c.generation ∷ moment_word version c.fresh ∷ moment_word version c.expires
+    ∷ moment_word version c.required ∷ []
 
 -- the call that has its turn now
 abbrev pub wake_words : Option CallId → List (List ℕ)

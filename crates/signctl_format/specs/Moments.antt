@@ -39,7 +39,8 @@ fraction_of zero (digit ∷ rest) = None
 fraction_of (suc places) (digit ∷ []) =
     if is_digit digit && not (digit == zero_digit) then Some ((digit - zero_digit) * 10 ^ places) else None
 fraction_of (suc places) (digit ∷ next ∷ rest) =
-    if is_digit digit then option_map (λ n. (digit - zero_digit) * 10 ^ places + n) (fraction_of places (next ∷ rest))
+    if is_digit digit
+    then option_map (λ n. (digit - zero_digit) * 10 ^ places + n) (fraction_of places (next ∷ rest))
     else None
 
 -- ---- seconds

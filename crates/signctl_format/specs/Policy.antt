@@ -14,7 +14,8 @@ script_valid c now = int_lt now c.fresh
 abbrev pub script_valid_at : ScriptCredential → ℤ → ℤ → Bool
 script_valid_at c moment now = int_lt moment c.expires
 
--- rule `now` requires it to last to the end of the operation, where that is a moment; rule `cred` to its moment `required`
+-- rule `now` requires it to last to the end of the operation, where that is a moment; rule
+-- `cred` to its moment `required`
 abbrev pub script_deadline : ScriptRule → ScriptCredential → Option ℕ → ℤ → Option ℤ
 script_deadline Now c None now = Some now
 script_deadline Now c (Some duration) now = add_moment now duration

@@ -1,4 +1,5 @@
--- How the cache and handle lines of a script, or of `grant`, set caches and handles up, whatever their events are.
+-- How the cache and handle lines of a script, or of `grant`, set caches and handles
+-- up, whatever their events are.
 use Rattle.std.specs.Prelude.{ℕ, Bool, true, false, not, List, [], ◌∷◌, Option, Some, None, if◌then◌else◌, nat_lt, length, filter_map}
 use Rattle.sequential_signer.specs.Setup.{Setup, Handle}
 use Rattle.sequential_signer.specs.declared.event.Loader.{Loader}
@@ -59,5 +60,6 @@ setup_error had_event there =
 abbrev pub item_error : {E : Type 0} → List (Item E) → Item E → Option LineError
 item_error before item.Silent = None
 item_error before (item.Cache loader) = setup_error (not (is_empty (events_in before))) true
-item_error before (item.Handle cache rule) = setup_error (not (is_empty (events_in before))) (nat_lt cache (length (setup_in before).loaders))
+item_error before (item.Handle cache rule) =
+    setup_error (not (is_empty (events_in before))) (nat_lt cache (length (setup_in before).loaders))
 item_error before (item.Event event) = None

@@ -137,7 +137,8 @@ fn name_and_value(word: &[u8]) -> Result<(&[u8], &[u8]), NotUnderstood>
 /// What stands after a colon that begins these bytes.
 #[inline(always)]
 fn after_colon(rest: &[u8]) -> Option<&[u8]>
-    ensures { MatchOption result (begins_with is_colon rest.now ≡ false) (λ value. rest.now ≡ colon ∷ value.now) }
+    ensures { MatchOption result (begins_with is_colon rest.now ≡ false)
+        (λ value. rest.now ≡ colon ∷ value.now) }
 {
     match rest {
         [b':', value @ ..] => Some(value),
@@ -181,7 +182,8 @@ fn unescaped(alloc: Global, word: &[u8]) -> Result<Octets, ReadError>
 fn next_byte(rest: &[u8]) -> Result<Option<(u8, &[u8])>, NotUnderstood>
     ensures { MatchResult result
         (λ o. MatchOption o (value_of rest.now ≡ Some [])
-        (λ x. (value_of rest.now ≡ with_first_byte x.0 (value_of x.1.now)) × (length x.1.now < length rest.now)))
+        (λ x. (value_of rest.now ≡ with_first_byte x.0 (value_of x.1.now))
+            × (length x.1.now < length rest.now)))
         (λ e. value_of rest.now ≡ None) }
 {
     match rest {

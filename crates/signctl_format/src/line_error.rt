@@ -40,7 +40,8 @@ impl fmt::Display for LineError {
     }
 }
 
-/// Why a cache or a handle line is bad, where it is, by whether an event came before it and whether its cache is there.
+/// Why a cache or a handle line is bad, where it is, by whether an event came before it
+/// and whether its cache is there.
 pub fn setup_error(had_event: bool, there: bool) -> Option<LineError>
     ensures { result ≡ setup_error had_event there }
 {

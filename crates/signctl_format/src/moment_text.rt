@@ -33,7 +33,8 @@ pub fn push_moment(
 }
 
 fn push_exact_moment(text: &mut Vec<u8>, moment: Timestamp) -> Result<(), NoMemory<()>>
-    ensures ok { OnOk result (text.new.items ≡ text.old.items ++ space ∷ moment_word ScriptVersion.Two moment) }
+    ensures ok { OnOk result
+        (text.new.items ≡ text.old.items ++ space ∷ moment_word ScriptVersion.Two moment) }
     ensures err { OnErr result (RunsShort text.old text.new (space ∷ moment_word ScriptVersion.Two moment)) }
     ensures capacity { vec_capacity text.old ≤ vec_capacity text.new }
     ensures grows { Grows text.old.items text.new.items }

@@ -1,8 +1,8 @@
 //! Reading a line: one function for each form, by the name that begins it.
 //!
-//! The forms that most lines have are inlined: each call would copy the item, which has room for the largest event.
-//! What stands in many forms, and the forms that few lines have, are calls, since the compiler drops the hint from a
-//! function that has grown large, and says nothing.
+//! The forms that most lines have are inlined: each call would copy the item, which has room for the largest
+//! event. What stands in many forms, and the forms that few lines have, are calls, since the compiler drops
+//! the hint from a function that has grown large, and says nothing.
 ghost use Rattle.std.specs.Prelude.{◌≡◌, IsTrue, false};
 ghost use Rattle.signctl_format.specs.declared.item.Item.TheVariants as item;
 ghost use Rattle.signctl_format.specs.Steps.{first_word};

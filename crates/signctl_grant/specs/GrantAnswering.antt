@@ -9,7 +9,8 @@ use Rattle.signctl_grant.specs.GrantSessionState.{GrantSessionState, GrantSessio
 -- the session represents some items, after which this one is good, and their numbers are small
 abbrev pub CanAnswer : GrantSessionState → GrantItem → Type 0
 CanAnswer session item =
-    (items : List GrantItem) × GrantSessionRepresents session items × (item_error items item ≡ None) × (length items < input_limit)
+    (items : List GrantItem) × GrantSessionRepresents session items × (item_error items item ≡ None)
+    × (length items < input_limit)
 
 -- a session and the text that it adds to
 pub record SessionText : Type 0 where

@@ -1,4 +1,5 @@
--- The grammar of the lines of `grant`: three forms of a granter's own, and those that it shares with scripts of version 1.
+-- The grammar of the lines of `grant`: three forms of a granter's own, and those that it
+-- shares with scripts of version 1.
 use Rattle.std.specs.Prelude.{◌≡◌, ◌≤◌, ℕ, ℤ, pos, List, [], ◌∷◌, ◌++◌, Option, Some, None, codes}
 use Rattle.std.specs.Fmt.{decimal}
 use Rattle.sequential_signer.specs.declared.event.Event.TheVariants as signs
@@ -28,7 +29,8 @@ as_grant (Event (signs.Provided call now answer)) = Some (Event (Provided call n
 as_grant (Event (signs.Signed call answer)) = None
 as_grant (Event (signs.Cancel call)) = Some (Event (Cancel call))
 
--- the line spells this item: as `begin H N D`, as `made H N T CREDENTIAL`, as `fail H N E`, or as a script spells it
+-- the line spells this item: as `begin H N D`, as `made H N T CREDENTIAL`, as
+-- `fail H N E`, or as a script spells it
 abbrev pub SpellsGrant : List ℕ → GrantItem → Type 0
 SpellsGrant line (Event (Begin call expires_in)) =
     IsLineCall call × IsLineDuration One expires_in

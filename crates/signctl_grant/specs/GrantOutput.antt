@@ -20,18 +20,20 @@ use Rattle.signctl_grant.specs.GrantScript.{grant_reading}
 abbrev pub transcript_of : List GrantItem → List (GrantEntry ScriptCredential)
 transcript_of items = expected_grant_entries script_policy (setup_in items) (events_in items)
 
--- the answer to an item, after these: the new number of a cache or a handle, the expected reply to an event, nothing to a
--- silent line
+-- the answer to an item, after these: the new number of a cache or a handle, the expected reply to an
+-- event, nothing to a silent line
 abbrev pub answer_to : List GrantItem → GrantItem → List ℕ
 answer_to before item.Silent = []
 answer_to before (item.Cache loader) = with_newline (cache_line (length (setup_in before).loaders))
 answer_to before (item.Handle cache rule) = with_newline (handle_line (length (setup_in before).handles))
 answer_to before (item.Event event) =
-    with_newline (grant_reply_line (expected_grant_reply script_policy (setup_in before) (transcript_of before) event))
+    with_newline
+    (grant_reply_line (expected_grant_reply script_policy (setup_in before) (transcript_of before) event))
 
 -- the line that says what source a cache holds in the end
 abbrev pub final_line_of : List GrantItem → ℕ → List ℕ
-final_line_of items i = with_newline (final_line One i (grant_source (setup_in items) (transcript_of items) i))
+final_line_of items i =
+    with_newline (final_line One i (grant_source (setup_in items) (transcript_of items) i))
 
 -- those of the first caches, in order
 unfoldable pub final_lines_of : List GrantItem → ℕ → List ℕ

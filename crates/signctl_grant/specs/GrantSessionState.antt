@@ -15,11 +15,12 @@ pub record GrantSessionState : Type 0 where
   pub desk : GrantState ScriptCredential ScriptRule
   pub had_event : Bool
 
--- the session represents the items so far. The events that the desk was stepped with are those of the lines, but for how their
--- durations are stored
+-- the session represents the items so far. The events that the desk was stepped with are those of the lines,
+-- but for how their durations are stored
 pub record GrantSessionRepresents (session : GrantSessionState) (items : List GrantItem) : Type 0 where
   pub setup : setup_of session.desk ≡ setup_in items
   pub stepped : List (GrantEvent ScriptCredential)
   pub events : map plain_grant_event stepped ≡ events_in items
-  pub represents : GrantRepresents script_policy session.desk (expected_grant_entries script_policy (setup_in items) stepped)
+  pub represents : GrantRepresents script_policy session.desk
+      (expected_grant_entries script_policy (setup_in items) stepped)
   pub note : session.had_event ≡ not (is_empty (events_in items))

@@ -58,7 +58,8 @@ impl GrantSession {
 
     /// Why an item is bad after the items so far, where it is.
     fn item_error(&self, item: &Item<GrantScriptEvent>) -> Option<LineError>
-        ensures { (items : List GrantItem) → GrantSessionRepresents self.now items → result ≡ item_error items item.now }
+        ensures { (items : List GrantItem) → GrantSessionRepresents self.now items
+            → result ≡ item_error items item.now }
     {
         match item {
             Item::Silent | Item::Event(_) => None,
@@ -69,7 +70,8 @@ impl GrantSession {
 
     /// Why a line that sets the granter up is bad, where it is.
     fn setup_error(&self, there: bool) -> Option<LineError>
-        ensures { (items : List GrantItem) → GrantSessionRepresents self.now items → result ≡ setup_error (not (is_empty (events_in items))) there }
+        ensures { (items : List GrantItem) → GrantSessionRepresents self.now items
+            → result ≡ setup_error (not (is_empty (events_in items))) there }
     {
         setup_error(self.had_event, there)
     }
@@ -78,7 +80,8 @@ impl GrantSession {
     fn answer_cache(&mut self, loader: Loader, text: &mut Vec<u8>) -> Result<(), NoMemory<()>>
         requires { CanAnswer self.old (item.Cache loader) }
         ensures { OnOk result (AnswersItem (item.Cache loader)
-            (record { session = self.old; text = text.old.items }) (record { session = self.new; text = text.new.items })) }
+            (record { session = self.old; text = text.old.items })
+            (record { session = self.new; text = text.new.items })) }
     {
         match self.desk.add_cache(loader) {
             Ok(number) => push_cache(text, u64::from(number))?,
@@ -97,7 +100,8 @@ impl GrantSession {
     ) -> Result<(), NoMemory<()>>
         requires { CanAnswer self.old (item.Handle cache rule) }
         ensures { OnOk result (AnswersItem (item.Handle cache rule)
-            (record { session = self.old; text = text.old.items }) (record { session = self.new; text = text.new.items })) }
+            (record { session = self.old; text = text.old.items })
+            (record { session = self.new; text = text.new.items })) }
     {
         match self.desk.add_handle(cache, rule.place()) {
             Ok(number) => push_handle(text, u64::from(number))?,
@@ -114,7 +118,8 @@ impl GrantSession {
         text: &mut Vec<u8>,
     ) -> Result<(), NoMemory<()>>
         ensures { OnOk result (AnswersItem (item.Event event.now)
-            (record { session = self.old; text = text.old.items }) (record { session = self.new; text = text.new.items })) }
+            (record { session = self.old; text = text.old.items })
+            (record { session = self.new; text = text.new.items })) }
     {
         let reply = self.desk.step(event.as_event());
         if is_out_of_memory(&reply) {

@@ -20,5 +20,6 @@ pub fn a_grant_line_spells_one_item()
 /// An item has at most one spelling, but for the empty lines and those that begin with `#`.
 #[tactic(auto, using(crate::proofs::GrantGrammars::one_spelling))]
 pub fn a_grant_item_has_one_spelling()
-    ensures { (item : GrantItem) (a b : List ℕ) → item ≢ Silent → SpellsGrant a item → SpellsGrant b item → a ≡ b }
+    ensures { (item : GrantItem) (a b : List ℕ) → item ≢ Silent → SpellsGrant a item
+        → SpellsGrant b item → a ≡ b }
 {}

@@ -29,7 +29,8 @@ call_named name =
 
 -- the first word of the line names a call
 abbrev pub NamesCall : List ℕ → Type 0
-NamesCall line = (name : List ℕ) × (rest : List (List ℕ)) × (words line ≡ name ∷ rest) × IsSome (call_named name)
+NamesCall line =
+    (name : List ℕ) × (rest : List (List ℕ)) × (words line ≡ name ∷ rest) × IsSome (call_named name)
 
 -- `NAME CONTENT`
 unfoldable pub unkeyed_form : UnkeyedCall → List (List ℕ) → Option HmacItem

@@ -75,7 +75,8 @@ fn keyed_text(
 /// Adds the line of the bytes of a text in Base64.
 fn push_decoded(alloc: Global, content: &[u8], text: &mut Vec<u8>) -> Result<(), NoMemory<()>>
     requires { IsTrue (list_all is_visible content.now) }
-    ensures { OnOk result (text.new.items ≡ text.old.items ++ with_newline (decoded_word (decode_of standard content.now))) }
+    ensures { OnOk result
+        (text.new.items ≡ text.old.items ++ with_newline (decoded_word (decode_of standard content.now))) }
 {
     let Ok(content) = str::from_utf8(content) else {
         unreachable!()

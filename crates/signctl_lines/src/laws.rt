@@ -31,7 +31,8 @@ pub fn an_hmac_item_has_one_spelling()
 
 /// An item of `hmac` whose parts a line may name has a spelling.
 pub fn an_hmac_item_has_a_spelling()
-    ensures { (item : HmacItem) → IsHmacItem item → SpellsLine SpellsHmac (line_of (hmac_words item)) (Some item) }
+    ensures { (item : HmacItem) → IsHmacItem item
+        → SpellsLine SpellsHmac (line_of (hmac_words item)) (Some item) }
 {}
 
 /// A line of `view` reads as what it says exactly where it says that: nothing, or a head that it spells.
@@ -55,5 +56,6 @@ pub fn a_view_item_has_one_spelling()
 
 /// A head that a line of `view` may name has a spelling.
 pub fn a_view_item_has_a_spelling()
-    ensures { (head : Head) → IsViewHead head → SpellsLine SpellsView (line_of (head_words head)) (Some head) }
+    ensures { (head : Head) → IsViewHead head
+        → SpellsLine SpellsView (line_of (head_words head)) (Some head) }
 {}

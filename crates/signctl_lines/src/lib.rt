@@ -1,5 +1,5 @@
-//! Two commands that answer each line by itself: `hmac` digests bytes, and `view` shows what a service signs of
-//! a request head.
+//! Two commands that answer each line by itself: `hmac` digests bytes, and `view` shows what a
+//! service signs of a request head.
 #![tactic(auto)]
 
 mod bytes_word;

@@ -65,7 +65,8 @@ fn push_part(text: &mut Vec<u8>, name: &[u8], part: &str) -> Result<(), NoMemory
 }
 
 fn push_pairs(text: &mut Vec<u8>, pairs: &[(String, String)]) -> Result<(), NoMemory<()>>
-    ensures { OnOk result (text.new.items ≡ text.old.items ++ flat_map with_newline (map pair_line (text_pairs pairs.now))) }
+    ensures { OnOk result
+        (text.new.items ≡ text.old.items ++ flat_map with_newline (map pair_line (text_pairs pairs.now))) }
 {
     for pair in pairs {
         push_pair(text, pair)?;
@@ -93,7 +94,8 @@ fn push_summary(alloc: Global, view: HeadView, text: &mut Vec<u8>) -> Result<(),
 }
 
 fn push_size(text: &mut Vec<u8>, size: usize) -> Result<(), NoMemory<()>>
-    ensures { OnOk result (text.new.items ≡ text.old.items ++ with_newline (named_line (codes "size") (decimal size))) }
+    ensures { OnOk result
+        (text.new.items ≡ text.old.items ++ with_newline (named_line (codes "size") (decimal size))) }
 {
     push(text, b"size")?;
     push_number(text, size as u64)?;
@@ -101,7 +103,8 @@ fn push_size(text: &mut Vec<u8>, size: usize) -> Result<(), NoMemory<()>>
 }
 
 fn push_names(text: &mut Vec<u8>, names: &[&str]) -> Result<(), NoMemory<()>>
-    ensures { OnOk result (text.new.items ≡ text.old.items ++ with_newline (line_of (codes "names" ∷ map (λ name. name.now) names.now))) }
+    ensures { OnOk result (text.new.items ≡ text.old.items
+        ++ with_newline (line_of (codes "names" ∷ map (λ name. name.now) names.now))) }
 {
     push(text, b"names")?;
     push_words(text, names)?;
@@ -110,7 +113,8 @@ fn push_names(text: &mut Vec<u8>, names: &[&str]) -> Result<(), NoMemory<()>>
 
 /// Adds each word after one space.
 fn push_words(text: &mut Vec<u8>, words: &[&str]) -> Result<(), NoMemory<()>>
-    ensures { OnOk result (text.new.items ≡ text.old.items ++ spaced_words (map (λ word. word.now) words.now)) }
+    ensures { OnOk result
+        (text.new.items ≡ text.old.items ++ spaced_words (map (λ word. word.now) words.now)) }
 {
     for word in words {
         push_word(text, word.as_bytes())?;
@@ -119,7 +123,8 @@ fn push_words(text: &mut Vec<u8>, words: &[&str]) -> Result<(), NoMemory<()>>
 }
 
 fn push_query(text: &mut Vec<u8>, query: &[u8]) -> Result<(), NoMemory<()>>
-    ensures { OnOk result (text.new.items ≡ text.old.items ++ with_newline (line_of (codes "query" ∷ query_words query.now))) }
+    ensures { OnOk result
+        (text.new.items ≡ text.old.items ++ with_newline (line_of (codes "query" ∷ query_words query.now))) }
 {
     push(text, b"query")?;
     push_query_words(text, query)?;

@@ -16,8 +16,8 @@ pool_line jobs journal =
 -- so many jobs were submitted, answered and left, with so many loads
 abbrev pub books_line : ℕ → ℕ → ℕ → ℕ → List ℕ
 books_line calls answered left loads =
-    with_newline (line_of (codes "calls" ∷ decimal calls ∷ codes "answered" ∷ decimal answered ∷ codes "left" ∷ decimal left
-    ∷ codes "loads" ∷ decimal loads ∷ codes "settled" ∷ []))
+    with_newline (line_of (codes "calls" ∷ decimal calls ∷ codes "answered" ∷ decimal answered
+    ∷ codes "left" ∷ decimal left ∷ codes "loads" ∷ decimal loads ∷ codes "settled" ∷ []))
 
 -- all jobs were answered, and none is left
 abbrev pub queue_line : ℕ → List (Entry ScriptCredential) → List ℕ

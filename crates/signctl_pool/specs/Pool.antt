@@ -31,7 +31,8 @@ module _ (gate : GateMeaning ScriptCredential) (workers jobs : ℕ) where
   pub record IsSettledPool (settled : Settled ScriptCredential ScriptRule) : Type 0 where
     pub setup : setup_of settled.desk ≡ pool_setup workers
     pub represents : Represents script_policy settled.desk settled.journal.items
-    pub run : (served : List Served) × IsPoolRun gate workers jobs settled.journal.items settled.passes.items served
+    pub run : (served : List Served)
+        × IsPoolRun gate workers jobs settled.journal.items settled.passes.items served
 
   -- a signer that was not closed behind a pool: the passes serve its jobs, and there is a cause
   pub record IsRefusedPool (refused : CloseRefused ScriptCredential ScriptRule) : Type 0 where
@@ -46,11 +47,12 @@ module _ (gate : GateMeaning ScriptCredential) (workers jobs : ℕ) where
   EndsEarly (end.Ended status.OutOfMemory) = Unit {0}
   EndsEarly _ = ⊥
 
-  -- What a run gives, by how it ended. Done: the sink has the whole line of the settled journal more. A failed write: it
-  -- has a prefix of the line of such a journal. Any other end leaves it as it was
+  -- What a run gives, by how it ended. Done: the sink has the whole line of the settled journal more. A
+  -- failed write: it has a prefix of the line of such a journal. Any other end leaves it as it was
   abbrev pub EndsPool : {D : Type 0} → PoolEnd → Written D → Type 0
   EndsPool (end.Done settled) sink =
-      IsSettledPool settled × Appends (sink.holds sink.old) (sink.holds sink.new) (pool_line jobs settled.journal.items)
+      IsSettledPool settled
+      × Appends (sink.holds sink.old) (sink.holds sink.new) (pool_line jobs settled.journal.items)
   EndsPool (end.Disagreed refused) sink = IsRefusedPool refused × (sink.new ≡ sink.old)
   EndsPool (end.Ended status.WriteFault) sink =
       (settled : Settled ScriptCredential ScriptRule) × IsSettledPool settled
@@ -59,13 +61,14 @@ module _ (gate : GateMeaning ScriptCredential) (workers jobs : ℕ) where
   EndsPool _ sink = ⊥
 
 -- what a run of a command gives
-abbrev pub EndsCommand : {D : Type 0} → GateMeaning ScriptCredential → PoolCommand → PoolEnd → Written D → Type 0
+abbrev pub EndsCommand : {D : Type 0} → GateMeaning ScriptCredential → PoolCommand → PoolEnd
+    → Written D → Type 0
 EndsCommand gate (Pool workers jobs) ended sink = EndsPool gate workers jobs ended sink
 EndsCommand gate (Queue workers jobs capacity) ended sink = EndsQueue gate workers jobs ended sink
 
 -- a run did what its words ask for
-pub record IsThreadsRun {D : Type 0} (gate : GateMeaning ScriptCredential) (asked : Option PoolCommand) (ended : PoolEnd)
-    (sink : Written D) : Type 0 where
+pub record IsThreadsRun {D : Type 0} (gate : GateMeaning ScriptCredential) (asked : Option PoolCommand)
+    (ended : PoolEnd) (sink : Written D) : Type 0 where
   -- Usage comes exactly where nothing is asked for, and writes nothing
   pub usage : (ended ≡ end.Ended status.Usage) ↔ (asked ≡ None)
   pub untouched : ended ≡ end.Ended status.Usage → sink.new ≡ sink.old

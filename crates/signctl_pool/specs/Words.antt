@@ -25,9 +25,11 @@ pool_of workers jobs = None
 -- the command that a word names with two numbers
 abbrev pub pool_by_words : List ℕ → List ℕ → List ℕ → Option PoolCommand
 pool_by_words word workers jobs =
-    if bytes_eq word (codes "pool") then pool_of (number_of most_workers workers) (number_of most_jobs jobs) else None
+    if bytes_eq word (codes "pool")
+    then pool_of (number_of most_workers workers) (number_of most_jobs jobs) else None
 
--- a queue that holds so many jobs, of which there is one at least, with so many workers, of which there is one, and so many jobs
+-- a queue that holds so many jobs, of which there is one at least, with so many workers, of which
+-- there is one, and so many jobs
 abbrev pub queue_of : Option ℕ → Option ℕ → Option ℕ → Option PoolCommand
 queue_of (Some workers) (Some jobs) (Some capacity) =
     if workers == 0 then None else if capacity == 0 then None else Some (Queue workers jobs capacity)
@@ -37,7 +39,8 @@ queue_of workers jobs capacity = None
 abbrev pub queue_by_words : List ℕ → List ℕ → List ℕ → List ℕ → Option PoolCommand
 queue_by_words word workers jobs capacity =
     if bytes_eq word (codes "queue")
-    then queue_of (number_of most_workers workers) (number_of most_jobs jobs) (number_of most_capacity capacity) else None
+    then queue_of (number_of most_workers workers) (number_of most_jobs jobs)
+        (number_of most_capacity capacity) else None
 
 -- the command that the words name: `pool`, workers and jobs, or `queue`, workers, jobs and capacity
 abbrev pub pool_named : List (List ℕ) → Option PoolCommand
@@ -54,4 +57,5 @@ names_pool (word ∷ rest) = bytes_eq word (codes "pool") || bytes_eq word (code
 abbrev pub IsPoolSize : PoolCommand → Type 0
 IsPoolSize (Pool workers jobs) = (0 < workers) × (workers ≤ most_workers) × (jobs ≤ most_jobs)
 IsPoolSize (Queue workers jobs capacity) =
-    (0 < workers) × (workers ≤ most_workers) × (jobs ≤ most_jobs) × (0 < capacity) × (capacity ≤ most_capacity)
+    (0 < workers) × (workers ≤ most_workers) × (jobs ≤ most_jobs) × (0 < capacity)
+    × (capacity ≤ most_capacity)

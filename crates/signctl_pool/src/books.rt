@@ -1,4 +1,5 @@
-//! The line of a queue: how many jobs were submitted, answered and left, and how often the provider was asked.
+//! The line of a queue: how many jobs were submitted, answered and left, and how
+//! often the provider was asked.
 ghost use Rattle.std.specs.Prelude.{◌≡◌, ◌<◌, ◌^◌, ◌++◌, ◌∷◌, [], IfOk, OnOk, length, decimal, codes};
 ghost use Rattle.signctl_format.specs.Words.{spaced_words};
 ghost use Rattle.pool_jobs.specs.Run.{loads};
@@ -19,9 +20,12 @@ pub(crate) fn books_line(
 ) -> Result<Vec<u8>, NoMemory<()>>
     requires submitted { length (joined (lists_of finished.now.submitted.items)) < 2 ^ 64 }
     requires answered { length (joined (lists_of finished.now.answers.items)) < 2 ^ 64 }
-    ensures { IfOk result (λ line. line.items ≡ books_line (length (joined (lists_of finished.now.submitted.items)))
-        (length (joined (lists_of finished.now.answers.items))) (length finished.now.left.items)
-        (loads finished.now.settled.journal.items)) }
+    ensures { IfOk result
+        (λ line. line.items ≡ books_line
+            (length (joined (lists_of finished.now.submitted.items)))
+            (length (joined (lists_of finished.now.answers.items)))
+            (length finished.now.left.items)
+            (loads finished.now.settled.journal.items)) }
 {
     let calls = count_all(finished.submitted.as_slice());
     let answered = count_all(finished.answers.as_slice());

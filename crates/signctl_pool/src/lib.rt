@@ -1,5 +1,5 @@
-//! The commands of `signctl` that run threads: `pool` and `queue` serve made-up calls by workers at one shared
-//! signer. Their calls may wait for their threads, as no other command does.
+//! The commands of `signctl` that run threads: `pool` and `queue` serve made-up calls by workers at one
+//! shared signer. Their calls may wait for their threads, as no other command does.
 #![tactic(auto)]
 
 mod books;

@@ -16,8 +16,8 @@ use std::sync::Wait;
 use std::thread::Threads;
 
 /// Runs the command that the words name. `pool W J`: W workers serve J calls at one shared signer, with the
-/// answers of the gate, and one line is written of the settled journal. `queue W J C`: so do they, and the calls
-/// come through a queue that holds C, and the line is of the books. It may wait for its threads.
+/// answers of the gate, and one line is written of the settled journal. `queue W J C`: so do they, and the
+/// calls come through a queue that holds C, and the line is of the books. It may wait for its threads.
 ///
 /// The sink is as it was unless all went well, or its write failed. A worker that ran out of memory ends the
 /// run so, whatever closing the signer gave.

@@ -9,7 +9,8 @@ use Rattle.signctl_script.specs.SessionState.{SessionState, RepresentsItems}
 -- the session represents some items, after which this one is good, and their numbers are small
 abbrev pub CanAnswer : SessionState → ScriptItem → Type 0
 CanAnswer session item =
-    (items : List ScriptItem) × RepresentsItems session items × (item_error items item ≡ None) × (length items < input_limit)
+    (items : List ScriptItem) × RepresentsItems session items × (item_error items item ≡ None)
+    × (length items < input_limit)
 
 -- a session and the text that it adds to
 pub record SessionText : Type 0 where

@@ -35,12 +35,15 @@ load_setup = record { loaders = Single ∷ []; rules = Now ∷ []; handles = rec
 
 -- an event after these entries, with its expected reply
 abbrev pub load_entry : List (Entry ScriptCredential) → Event ScriptCredential → Entry ScriptCredential
-load_entry before event = record { event = event; reply = expected_reply script_policy load_setup before event }
+load_entry before event =
+    record { event = event; reply = expected_reply script_policy load_setup before event }
 
 -- the events one after another after these entries, each with its expected reply
-unfoldable pub entries_after : List (Entry ScriptCredential) → List (Event ScriptCredential) → List (Entry ScriptCredential)
+unfoldable pub entries_after : List (Entry ScriptCredential) → List (Event ScriptCredential)
+    → List (Entry ScriptCredential)
 entries_after before [] = []
-entries_after before (event ∷ rest) = load_entry before event ∷ entries_after (before ++ load_entry before event ∷ []) rest
+entries_after before (event ∷ rest) =
+    load_entry before event ∷ entries_after (before ++ load_entry before event ∷ []) rest
 
 -- the call of an entry that was answered `Sign`
 abbrev pub signed_call : Entry ScriptCredential → Option CallId
@@ -51,8 +54,10 @@ unfoldable pub signed_calls : List (Entry ScriptCredential) → List CallId
 signed_calls entries = filter_map signed_call entries
 
 -- what follows once the calls of a round have asked: those that were answered `Sign` are accepted
-abbrev pub accepting_entries : List (Entry ScriptCredential) → List (Entry ScriptCredential) → List CallId → List (Entry ScriptCredential)
-accepting_entries before asked calls = entries_after (before ++ asked) (accepting_events (signed_calls asked) calls)
+abbrev pub accepting_entries : List (Entry ScriptCredential) → List (Entry ScriptCredential) → List CallId
+    → List (Entry ScriptCredential)
+accepting_entries before asked calls =
+    entries_after (before ++ asked) (accepting_events (signed_calls asked) calls)
 
 -- what a round with these calls adds to the entries before it
 abbrev pub entries_in_round : List (Entry ScriptCredential) → ℕ → List CallId → List (Entry ScriptCredential)
@@ -64,7 +69,8 @@ entries_in_round before round calls =
 unfoldable pub transcript_of_rounds : ℕ → ℕ → List (Entry ScriptCredential)
 transcript_of_rounds n zero = []
 transcript_of_rounds n (suc round) =
-    transcript_of_rounds n round ++ entries_in_round (transcript_of_rounds n round) round (calls_in_round n round)
+    transcript_of_rounds n round
+    ++ entries_in_round (transcript_of_rounds n round) round (calls_in_round n round)
 
 -- the transcript of n calls, in rounds of eight
 abbrev pub load_transcript : ℕ → List (Entry ScriptCredential)
@@ -110,9 +116,10 @@ counts_of entries = record {
 -- the line of counts
 abbrev pub counts_line : Counts → List ℕ
 counts_line counts =
-    line_of (codes "begun" ∷ decimal counts.begun ∷ codes "pending" ∷ decimal counts.pending ∷ codes "ask"
-    ∷ decimal counts.ask ∷ codes "sign" ∷ decimal counts.sign ∷ codes "done" ∷ decimal counts.done ∷ codes "refused"
-    ∷ decimal counts.refused ∷ codes "cancelled" ∷ decimal counts.cancelled ∷ codes "not-now" ∷ decimal counts.not_now ∷ [])
+    line_of (codes "begun" ∷ decimal counts.begun ∷ codes "pending" ∷ decimal counts.pending
+    ∷ codes "ask" ∷ decimal counts.ask ∷ codes "sign" ∷ decimal counts.sign
+    ∷ codes "done" ∷ decimal counts.done ∷ codes "refused" ∷ decimal counts.refused
+    ∷ codes "cancelled" ∷ decimal counts.cancelled ∷ codes "not-now" ∷ decimal counts.not_now ∷ [])
 
 -- the output of `load` for n calls
 unfoldable pub load_output : ℕ → List ℕ

@@ -72,8 +72,8 @@ abbrev pub cancel_events : ℕ → List CallId → List (Event ScriptCredential)
 cancel_events round [] = []
 cancel_events round (first ∷ others) = Cancel first ∷ take_over_events round others
 
--- what happens once all calls were polled: in every fourth round the credential is found, in the second after that the
--- first call is cancelled, and in between nothing does
+-- what happens once all calls were polled: in every fourth round the credential is found, in the second after
+-- that the first call is cancelled, and in between nothing does
 abbrev pub refresh_events : ℕ → List CallId → List (Event ScriptCredential)
 refresh_events round calls =
     if round % 4 == 0 then find_events round calls
@@ -81,7 +81,8 @@ refresh_events round calls =
 
 -- all calls of a round begin, then each is polled, then the round's refresh
 abbrev pub asking_events : ℕ → List CallId → List (Event ScriptCredential)
-asking_events round calls = map begin_event calls ++ (map (poll_event round 0) calls ++ refresh_events round calls)
+asking_events round calls =
+    map begin_event calls ++ (map (poll_event round 0) calls ++ refresh_events round calls)
 
 -- the service accepts each of these calls that is among those that were signed
 abbrev pub accepting_events : List CallId → List CallId → List (Event ScriptCredential)

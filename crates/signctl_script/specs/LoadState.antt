@@ -44,8 +44,8 @@ pub record RoundsRepresent (rounds : Rounds) (entries : List (Entry ScriptCreden
   pub committed : committed_entries entries ≡ entries
   pub counts : AreCounts rounds.counts entries
 
--- these events are played from old to new: who represented some entries represents those of the events after them, and the
--- calls that were answered `Sign` are noted
+-- these events are played from old to new: who represented some entries represents those of the events after
+-- them, and the calls that were answered `Sign` are noted
 abbrev pub Plays : List (Event ScriptCredential) → Rounds → Rounds → Type 0
 Plays events old new = (entries : List (Entry ScriptCredential)) → RoundsRepresent old entries
     → RoundsRepresent new (entries ++ entries_after entries events)

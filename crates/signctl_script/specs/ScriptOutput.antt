@@ -22,8 +22,8 @@ use Rattle.signctl_script.specs.declared.script_line.ScriptLine.TheVariants.{Ver
 abbrev pub transcript_of : List ScriptItem → List (Entry ScriptCredential)
 transcript_of items = expected_entries script_policy (setup_in items) (events_in items)
 
--- the answer to an item, after these: the new number of a cache or a handle, the expected reply to an event, nothing to a
--- silent line
+-- the answer to an item, after these: the new number of a cache or a handle, the expected reply to an
+-- event, nothing to a silent line
 abbrev pub answer_to : List ScriptItem → ScriptItem → List ℕ
 answer_to before item.Silent = []
 answer_to before (item.Cache loader) = with_newline (cache_line (length (setup_in before).loaders))
@@ -39,7 +39,8 @@ script_answer before (Says item) = answer_to (items_in before) item
 -- the line that says what a cache holds in the end
 abbrev pub final_line_of : List ScriptLine → ℕ → List ℕ
 final_line_of lines i =
-    with_newline (final_line (version_in lines) i (sequential_cache script_policy (setup_in (items_in lines)) (transcript_of (items_in lines)) i))
+    with_newline (final_line (version_in lines) i
+        (sequential_cache script_policy (setup_in (items_in lines)) (transcript_of (items_in lines)) i))
 
 -- those of the first caches, in order
 unfoldable pub final_lines_of : List ScriptLine → ℕ → List ℕ

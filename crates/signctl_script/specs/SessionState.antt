@@ -19,13 +19,14 @@ pub record SessionState : Type 0 where
   pub had_event : Bool
   pub version : Option ScriptVersion
 
--- the desk and the note of events represent the items so far. The events that the desk was stepped with are those of the
--- lines, but for how their durations are stored
+-- the desk and the note of events represent the items so far. The events that the desk was stepped with are
+-- those of the lines, but for how their durations are stored
 pub record RepresentsItems (session : SessionState) (items : List ScriptItem) : Type 0 where
   pub setup : setup_of session.desk ≡ setup_in items
   pub stepped : List (Event ScriptCredential)
   pub events : map plain_event stepped ≡ events_in items
-  pub represents : Represents script_policy session.desk (expected_entries script_policy (setup_in items) stepped)
+  pub represents : Represents script_policy session.desk
+      (expected_entries script_policy (setup_in items) stepped)
   pub note : session.had_event ≡ not (is_empty (events_in items))
 
 -- the session represents the lines so far

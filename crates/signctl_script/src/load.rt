@@ -20,7 +20,8 @@ use std::alloc::Global;
 /// Runs so many calls, and writes the line of counts.
 pub fn run_load<D: Sink>(alloc: Global, calls: u64, sink: &mut D) -> Status
     requires { calls ≤ most_calls }
-    ensures added { (added : List ℕ) × Appends (D.holds sink.old) (D.holds sink.new) added × LoadAdds calls result added }
+    ensures added { (added : List ℕ) × Appends (D.holds sink.old) (D.holds sink.new) added
+        × LoadAdds calls result added }
     ensures reads { is_read_fault result ≡ false }
     ensures writes { CountsFault (is_write_fault result) (D.faults sink.old) (D.faults sink.new) }
 {

@@ -69,7 +69,8 @@ impl Session {
 
     /// Why an item is bad after the items so far, where it is.
     fn item_error(&self, item: &Item<ScriptEvent>) -> Option<LineError>
-        ensures { (items : List ScriptItem) → RepresentsItems self.now items → result ≡ item_error items item.now }
+        ensures { (items : List ScriptItem) → RepresentsItems self.now items
+            → result ≡ item_error items item.now }
     {
         match item {
             Item::Silent | Item::Event(_) => None,
@@ -80,7 +81,8 @@ impl Session {
 
     /// Why a line that sets the signer up is bad, where it is.
     fn setup_error(&self, there: bool) -> Option<LineError>
-        ensures { (items : List ScriptItem) → RepresentsItems self.now items → result ≡ setup_error (not (is_empty (events_in items))) there }
+        ensures { (items : List ScriptItem) → RepresentsItems self.now items
+            → result ≡ setup_error (not (is_empty (events_in items))) there }
     {
         setup_error(self.had_event, there)
     }
@@ -89,7 +91,8 @@ impl Session {
     fn answer_cache(&mut self, loader: Loader, text: &mut Vec<u8>) -> Result<(), NoMemory<()>>
         requires { CanAnswer self.old (item.Cache loader) }
         ensures answers { OnOk result (AnswersItem (item.Cache loader)
-            (record { session = self.old; text = text.old.items }) (record { session = self.new; text = text.new.items })) }
+            (record { session = self.old; text = text.old.items })
+            (record { session = self.new; text = text.new.items })) }
         ensures version { self.new.version ≡ self.old.version }
     {
         match self.desk.add_cache(loader) {
@@ -109,7 +112,8 @@ impl Session {
     ) -> Result<(), NoMemory<()>>
         requires { CanAnswer self.old (item.Handle cache rule) }
         ensures answers { OnOk result (AnswersItem (item.Handle cache rule)
-            (record { session = self.old; text = text.old.items }) (record { session = self.new; text = text.new.items })) }
+            (record { session = self.old; text = text.old.items })
+            (record { session = self.new; text = text.new.items })) }
         ensures version { self.new.version ≡ self.old.version }
     {
         match self.desk.add_handle(cache, rule.place()) {
@@ -123,7 +127,8 @@ impl Session {
     /// Steps the desk, and adds the reply's line to the text.
     fn answer_event(&mut self, event: ScriptEvent, text: &mut Vec<u8>) -> Result<(), NoMemory<()>>
         ensures answers { OnOk result (AnswersItem (item.Event event)
-            (record { session = self.old; text = text.old.items }) (record { session = self.new; text = text.new.items })) }
+            (record { session = self.old; text = text.old.items })
+            (record { session = self.new; text = text.new.items })) }
         ensures version { self.new.version ≡ self.old.version }
     {
         let reply = self.desk.step_owned(event.into_event());
@@ -144,7 +149,8 @@ impl Session {
     ) -> Result<(), NoMemory<()>>
         requires { CanAnswer self.old item }
         ensures answers { OnOk result (AnswersItem item
-            (record { session = self.old; text = text.old.items }) (record { session = self.new; text = text.new.items })) }
+            (record { session = self.old; text = text.old.items })
+            (record { session = self.new; text = text.new.items })) }
         ensures version { self.new.version ≡ self.old.version }
     {
         match item {

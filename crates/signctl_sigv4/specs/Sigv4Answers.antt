@@ -1,4 +1,5 @@
--- What a line of `sigv4` is answered: its head signed, or with a link, or what its link is; or why there is none.
+-- What a line of `sigv4` is answered: its head signed, or with a link, or what its
+-- link is; or why there is none.
 use Rattle.std.specs.Prelude.{ℕ, List, [], ◌∷◌, Option, Result, Ok, Err, codes}
 use Rattle.sign_base.specs.declared.head.Head.{Head}
 use Rattle.sigv4_core.specs.SignedHead.{signing_of}
@@ -25,8 +26,8 @@ use Rattle.signctl_sigv4.specs.Sigv4Reading.{sigv4_item_of}
 abbrev pub done_line : Head → List ℕ
 done_line head = line_of (codes "done" ∷ head_words head)
 
--- why a head is not signed. No moment of a line comes before the year 0, and where an allocation fails nothing is
--- answered
+-- why a head is not signed. No moment of a line comes before the year 0, and where an
+-- allocation fails nothing is answered
 abbrev pub refusal_line : SigError → List ℕ
 refusal_line refusal.Head = codes "refused head"
 refusal_line refusal.Authority = codes "refused authority"
@@ -69,8 +70,10 @@ checked_word found.Valid = codes "valid"
 
 -- the line that answers what an item asks for
 abbrev pub asked_line : Sigv4Item → Asked → List ℕ
-asked_line item (Sign payload) = signing_line (signing_of item.credential item.scope payload item.moment item.head)
-asked_line item (Presign seconds) = presigning_line (presigning_of item.credential item.scope seconds item.moment item.head)
+asked_line item (Sign payload) =
+    signing_line (signing_of item.credential item.scope payload item.moment item.head)
+asked_line item (Presign seconds) =
+    presigning_line (presigning_of item.credential item.scope seconds item.moment item.head)
 asked_line item Verify = checked_word (checked item.credential item.scope item.moment item.head)
 
 -- the answer to an item

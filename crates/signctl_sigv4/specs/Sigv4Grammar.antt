@@ -30,8 +30,9 @@ asked_words Verify = []
 -- the words of an item's line
 abbrev pub sigv4_words : Sigv4Item → List (List ℕ)
 sigv4_words item =
-    asked_name item.asked ∷ item.credential.access ∷ value_word item.credential.secret ∷ item.scope.region ∷ item.scope.service
-    ∷ moment_word One item.moment ∷ (asked_words item.asked ++ head_words item.head)
+    asked_name item.asked ∷ item.credential.access ∷ value_word item.credential.secret
+    ∷ item.scope.region ∷ item.scope.service ∷ moment_word One item.moment
+    ∷ (asked_words item.asked ++ head_words item.head)
 
 -- a credential that a line may name: it does not expire
 pub record IsLineKey (credential : Credential) : Type 0 where

@@ -22,7 +22,8 @@ as_word word = Some word
 -- the credential that an access key and a secret make, if they make one
 abbrev pub credential_of : List ℕ → List ℕ → Option Credential
 credential_of access secret =
-    if is_credential access secret then Some (record { access = access; secret = secret; expires = None }) else None
+    if is_credential access secret
+    then Some (record { access = access; secret = secret; expires = None }) else None
 
 -- a credential, and the words after it: the access key as it is, the secret as the value of a header
 unfoldable pub credential_at : List (List ℕ) → Option (Credential × List (List ℕ))
@@ -74,7 +75,8 @@ item_form form words = do
   moment ← moment_at One scope.1
   asked ← asked_at form moment.1
   head ← head_in asked.1
-  Some (record { credential = credential.0; scope = scope.0; moment = moment.0; asked = asked.0; head = head })
+  Some
+      (record { credential = credential.0; scope = scope.0; moment = moment.0; asked = asked.0; head = head })
 
 -- the item that the words of a line spell
 unfoldable pub sigv4_words_say : List (List ℕ) → Option Sigv4Item
@@ -89,4 +91,5 @@ sigv4_item_of line = sigv4_words_say (words line)
 
 -- the first word of the line is the name of a form
 abbrev pub NamesForm : List ℕ → Type 0
-NamesForm line = (name : List ℕ) × (rest : List (List ℕ)) × (words line ≡ name ∷ rest) × IsSome (form_named name)
+NamesForm line =
+    (name : List ℕ) × (rest : List (List ℕ)) × (words line ≡ name ∷ rest) × IsSome (form_named name)

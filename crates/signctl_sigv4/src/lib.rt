@@ -1,8 +1,8 @@
-//! The command `sigv4`: request heads signed with AWS Signature Version 4, presigned links made and checked, line by
-//! line.
+//! The command `sigv4`: request heads signed with AWS Signature Version 4, presigned links
+//! made and checked, line by line.
 //!
-//! The grammar stands in specs/: `SpellsSigv4` says which lines spell an item, `sigv4_item_of` decides it. No form of
-//! an item, and no line that is printed, shows a secret.
+//! The grammar stands in specs/: `SpellsSigv4` says which lines spell an item, `sigv4_item_of` decides it. No
+//! form of an item, and no line that is printed, shows a secret.
 #![tactic(auto)]
 
 mod form;

@@ -16,8 +16,8 @@ use std::alloc::Global;
 
 /// The item that a line without its newline spells.
 ///
-/// Nothing of the line is copied but what the item keeps, so only a line that begins with the name of a form can
-/// run out of memory.
+/// Nothing of the line is copied but what the item keeps, so only a line that begins with the name of
+/// a form can run out of memory.
 #[tactic(auto, unfolding(crate::specs::Sigv4Reading::sigv4_words_say))]
 pub fn read_sigv4_line(alloc: Global, line: &[u8]) -> Result<Sigv4Item, ReadError>
     ensures item { Gives (λ i. i) result (sigv4_item_of line.now) }

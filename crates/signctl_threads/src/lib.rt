@@ -1,5 +1,5 @@
-//! The commands of `signctl` that threads serve, as the program answers them: what `main` calls where a command
-//! line is one for threads.
+//! The commands of `signctl` that threads serve, as the program answers them: what `main` calls where a
+//! command line is one for threads.
 #![tactic(auto)]
 
 mod program;

@@ -58,7 +58,8 @@ fn serve<D: Sink, R: Threads + Wait + Sync>(
     words: Option<Vec<String>>,
     output: &mut D,
 ) -> PoolEnd
-    ensures { IsThreadsRun pool_meaning (asked_of (option_map (λ all. map string_bytes all.items) words)) result
+    ensures { IsThreadsRun pool_meaning
+        (asked_of (option_map (λ all. map string_bytes all.items) words)) result
         (record { holds = D.holds; faults = D.faults; old = output.old; new = output.new }) }
 {
     match words {

@@ -14,7 +14,10 @@ module _ {P S K C L W : Type 0} where
   state_back (OutOfMemory sign) = Some sign
   state_back _ = None
 
-  -- there are as many as were begun, and a state stands at the number of its call and was issued by this signer
-  pub record AreCallsOf (m : Meanings P S K C L W) (signer : SignerState P S K C) (calls : List (Option (Sign P S K C L C W K))) : Type 0 where
+  -- there are as many as were begun, and a state stands at the number of its call
+  -- and was issued by this signer
+  pub record AreCallsOf (m : Meanings P S K C L W) (signer : SignerState P S K C)
+      (calls : List (Option (Sign P S K C L C W K))) : Type 0 where
     pub begun : length calls ≡ signer.begun
-    pub at : (n : ℕ) (sign : Sign P S K C L C W K) → slice_get calls n ≡ Some (Some sign) → (sign.begun.id.number ≡ n) × IsIssuedBy m signer sign
+    pub at : (n : ℕ) (sign : Sign P S K C L C W K) → slice_get calls n ≡ Some (Some sign)
+        → (sign.begun.id.number ≡ n) × IsIssuedBy m signer sign

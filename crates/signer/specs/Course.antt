@@ -59,8 +59,8 @@ pub record PollRun (K L W : Type 0) : Type 0 where
   pub entries : List (Entry K)
   pub end : PollEnd K L W
 
--- a call that is polled: which credentials' clones take no memory, what its objects mean, what it was begun with, and the moment of
--- the poll
+-- a call that is polled: which credentials' clones take no memory, what its objects mean, what it was begun
+-- with, and the moment of the poll
 pub record PolledCall (K D L W : Type 0) : Type 1 where
   pub policy : Policy K D
   pub clones_freely : K → Type 0
@@ -75,21 +75,24 @@ IsAnswerGiven gives l (Found credential) = gives (polled.Ready (Some credential)
 IsAnswerGiven gives l Missing = gives (polled.Ready None)
 IsAnswerGiven gives l (Failed n) = (e : ErrorParts) × gives (polled.Failed e)
 
--- `http` does not accept the URI or the headers of the head that is kept, or the service gives this error, or a head that `http`
--- does not accept
+-- `http` does not accept the URI or the headers of the head that is kept, or the service gives this error, or
+-- a head that `http` does not accept
 abbrev pub FailsWith : {W : Type 0} → (SignOutcome → Type 0) → WorkState W → ErrorParts → Type 0
 FailsWith gives (work.Signed kept) e = RefusedAs (RefusesTarget kept) e
 FailsWith gives w e =
     ((candidate : Head) × gives (record { answer = polled.Failed e; candidate = candidate }))
-    ⊎ ((candidate : Head) × gives (record { answer = polled.Ready tt; candidate = candidate }) × RefusedAs (RefusesTarget candidate) e)
+    ⊎ ((candidate : Head) × gives (record { answer = polled.Ready tt; candidate = candidate })
+        × RefusedAs (RefusesTarget candidate) e)
 
 -- the verdict is the head that is kept, or one that the service gives
 abbrev pub IsVerdictGiven : {W : Type 0} → (SignOutcome → Type 0) → WorkState W → Verdict → Type 0
 IsVerdictGiven gives w (verdict.Failed n) = (e : ErrorParts) × FailsWith gives w e
 IsVerdictGiven gives (work.Signed kept) (verdict.Accepted candidate) = candidate ≡ kept
-IsVerdictGiven gives w (verdict.Accepted candidate) = gives (record { answer = polled.Ready tt; candidate = candidate })
+IsVerdictGiven gives w (verdict.Accepted candidate) =
+    gives (record { answer = polled.Ready tt; candidate = candidate })
 
--- the signed head that is kept, or that the service gives, is left where there was no memory to bring it to `http`
+-- the signed head that is kept, or that the service gives, is left where there was
+-- no memory to bring it to `http`
 abbrev pub CrossingRunsOut : {W : Type 0} → (SignOutcome → Type 0) → WorkState W → WorkState W → Type 0
 CrossingRunsOut gives w (work.Signed candidate) = IsVerdictGiven gives w (verdict.Accepted candidate)
 CrossingRunsOut gives w left = ⊥
@@ -114,32 +117,41 @@ module _ {K L W : Type 0} where
   IsRefusal m state why.Missing refusal.Missing = Unit {0}
   IsRefusal m state (why.Short deadline) (refusal.Short moment) = moment ≡ deadline
   IsRefusal m state why.Range refusal.Range = Unit {0}
-  IsRefusal m (Loading candidate provider l) (why.Loader n) (refusal.Loader e) = m.load_gives provider (polled.Failed e)
-  IsRefusal m (Signing credential w) (why.Service n) (refusal.Service e) = FailsWith (m.work_gives credential) w e
+  IsRefusal m (Loading candidate provider l) (why.Loader n) (refusal.Loader e) =
+      m.load_gives provider (polled.Failed e)
+  IsRefusal m (Signing credential w) (why.Service n) (refusal.Service e) =
+      FailsWith (m.work_gives credential) w e
   IsRefusal m state cause refused = ⊥
 
-  -- the poll ends by this reply; where the desk had no memory, the call has the very answer that the desk was given
+  -- the poll ends by this reply; where the desk had no memory, the call has the very
+  -- answer that the desk was given
   abbrev pub EndsBy : CallMeaning K L W → SignState K L W → Event K → Reply K → PollEnd K L W → Type 0
   EndsBy m (Waiting candidate) event reply.Pending (Pends (Waiting same)) = Unit {0}
   EndsBy m (Waiting candidate) event reply.OutOfMemory (RunsOut (Waiting same)) = Unit {0}
-  EndsBy m (Loading candidate provider l) (Provided call now (Found credential)) reply.OutOfMemory (RunsOut left) =
+  EndsBy m (Loading candidate provider l) (Provided call now (Found credential)) reply.OutOfMemory
+          (RunsOut left) =
       left ≡ Loading candidate provider (load.Found credential)
-  EndsBy m (Signing credential w) (Signed call (verdict.Accepted candidate)) reply.OutOfMemory (RunsOut left) =
+  EndsBy m (Signing credential w) (Signed call (verdict.Accepted candidate)) reply.OutOfMemory
+          (RunsOut left) =
       left ≡ Signing credential (work.Signed candidate)
-  EndsBy m state (Signed call (verdict.Accepted candidate)) (reply.Done head) (Finishes signed) = signed ≡ candidate
+  EndsBy m state (Signed call (verdict.Accepted candidate)) (reply.Done head) (Finishes signed) =
+      signed ≡ candidate
   EndsBy m state event (reply.Refused cause wake) (Refuses refused) = IsRefusal m state cause refused
   EndsBy m state event answered end = ⊥
 
-  -- the poll ends without an event: the object that is asked is not ready or has no memory, or the signed head does not get to `http`
+  -- the poll ends without an event: the object that is asked is not ready or has no memory, or the
+  -- signed head does not get to `http`
   abbrev pub StopsAt : CallMeaning K L W → SignState K L W → PollEnd K L W → Type 0
   StopsAt m (Loading candidate provider l) (Pends (Loading copy same (load.Started left))) =
       (same ≡ provider) × IsLoadPending (m.load_started provider) (m.load_ready provider) l
-  StopsAt m (Loading candidate provider l) (RunsOut (Loading copy same left)) = (same ≡ provider) × LoadRunsOut (m.load_gives provider) l left
+  StopsAt m (Loading candidate provider l) (RunsOut (Loading copy same left)) =
+      (same ≡ provider) × LoadRunsOut (m.load_gives provider) l left
   StopsAt m (Signing credential w) (Pends (Signing same (work.Started left candidate))) =
       (same ≡ credential) × IsWorkPending (m.work_started credential) m.work_ready w
       × m.work_gives credential (record { answer = polled.Pending; candidate = candidate })
   StopsAt m (Signing credential w) (RunsOut (Signing same left)) =
-      (same ≡ credential) × (WorkRunsOut (m.work_gives credential) w left ⊎ CrossingRunsOut (m.work_gives credential) w left)
+      (same ≡ credential)
+      × (WorkRunsOut (m.work_gives credential) w left ⊎ CrossingRunsOut (m.work_gives credential) w left)
   StopsAt m state end = ⊥
 
 module _ {K D L W : Type 0} (v : PolledCall K D L W) where
@@ -148,20 +160,28 @@ module _ {K D L W : Type 0} (v : PolledCall K D L W) where
   IsGiven (Waiting candidate) (Poll call now) = (call ≡ v.begun.id) × (now ≡ v.now)
   IsGiven (Loading candidate provider l) (Provided call now given) =
       (call ≡ v.begun.id) × (now ≡ v.now) × IsAnswerGiven (v.meaning.load_gives provider) l given
-  IsGiven (Signing credential w) (Signed call given) = (call ≡ v.begun.id) × IsVerdictGiven (v.meaning.work_gives credential) w given
+  IsGiven (Signing credential w) (Signed call given) =
+      (call ≡ v.begun.id) × IsVerdictGiven (v.meaning.work_gives credential) w given
   IsGiven state event = ⊥
 
   -- from a call in this state and this desk, the poll has this run, and leaves this desk
   pub data IsCourse : SignState K L W → DeskState K D → PollRun K L W → DeskState K D → Type 0 where
-    stops : (state : SignState K L W) (desk : DeskState K D) (end : PollEnd K L W) → StopsAt v.meaning state end
+    stops : (state : SignState K L W) (desk : DeskState K D) (end : PollEnd K L W)
+        → StopsAt v.meaning state end
         → IsCourse state desk (record { entries = []; end = end }) desk
-    ends : (state : SignState K L W) (old new : DeskState K D) (event : Event K) (answered : Reply K) (end : PollEnd K L W)
-        → IsGiven state event → IsStep v.policy event old answered new → (ClonesAreFree v.clones_freely → RunsOutAtHeads event answered)
+    ends : (state : SignState K L W) (old new : DeskState K D) (event : Event K) (answered : Reply K)
+        (end : PollEnd K L W)
+        → IsGiven state event → IsStep v.policy event old answered new
+        → (ClonesAreFree v.clones_freely → RunsOutAtHeads event answered)
         → EndsBy v.meaning state event answered end
-        → IsCourse state old (record { entries = record { event = event; reply = answered } ∷ []; end = end }) new
-    goes_on : (state next : SignState K L W) (old between new : DeskState K D) (event : Event K) (answered : Reply K) (run : PollRun K L W)
-        → IsGiven state event → IsStep v.policy event old answered between → state_after (candidate_of state) answered ≡ Some next → IsCourse next between run new
-        → IsCourse state old (record { entries = record { event = event; reply = answered } ∷ run.entries; end = run.end }) new
+        → IsCourse state old
+            (record { entries = record { event = event; reply = answered } ∷ []; end = end }) new
+    goes_on : (state next : SignState K L W) (old between new : DeskState K D) (event : Event K)
+        (answered : Reply K) (run : PollRun K L W)
+        → IsGiven state event → IsStep v.policy event old answered between
+        → state_after (candidate_of state) answered ≡ Some next → IsCourse next between run new
+        → IsCourse state old
+            (record { entries = record { event = event; reply = answered } ∷ run.entries; end = run.end }) new
 
 -- the call that a reply names
 abbrev pub wake_in : {K : Type 0} → Reply K → Option CallId
@@ -181,8 +201,10 @@ pub record PollOutcome (P S K C L W : Type 0) : Type 0 where
   pub before : Parts
   pub after : Parts
 
--- the answer is that of the end, and the request has the URI and the headers that were signed and that `http` accepts, or is as before
-abbrev pub IsEnd : {P S K C L W : Type 0} → SignAnswer P S K C L C W K → Parts → Parts → PollEnd K L W → Type 0
+-- the answer is that of the end, and the request has the URI and the headers that were signed and that
+-- `http` accepts, or is as before
+abbrev pub IsEnd : {P S K C L W : Type 0} → SignAnswer P S K C L C W K → Parts → Parts
+    → PollEnd K L W → Type 0
 IsEnd (answer.Pending sign) before after (Pends left) = (sign.state ≡ left) × (after ≡ before)
 IsEnd answer.Done before after (Finishes signed) = Commits signed before after × ¬ (RefusesTarget signed)
 IsEnd (answer.Refused refused) before after (Refuses cause) = (refused ≡ cause) × (after ≡ before)
@@ -190,14 +212,18 @@ IsEnd (answer.OutOfMemory sign) before after (RunsOut left) = (sign.state ≡ le
 IsEnd given before after end = ⊥
 
 -- a state that is handed back is one that was issued for the call
-abbrev pub IsAnswerIssued : {P S K C D L W : Type 0} → CallMeaning K L W → BegunCall → DeskState K D → SignAnswer P S K C L C W K → Type 0
-IsAnswerIssued m begun desk (answer.Pending sign) = (sign.begun ≡ begun) × IsStateIssued m begun desk sign.state
-IsAnswerIssued m begun desk (answer.OutOfMemory sign) = (sign.begun ≡ begun) × IsStateIssued m begun desk sign.state
+abbrev pub IsAnswerIssued : {P S K C D L W : Type 0} → CallMeaning K L W → BegunCall → DeskState K D
+    → SignAnswer P S K C L C W K → Type 0
+IsAnswerIssued m begun desk (answer.Pending sign) =
+    (sign.begun ≡ begun) × IsStateIssued m begun desk sign.state
+IsAnswerIssued m begun desk (answer.OutOfMemory sign) =
+    (sign.begun ≡ begun) × IsStateIssued m begun desk sign.state
 IsAnswerIssued m begun desk answer.Done = Unit {0}
 IsAnswerIssued m begun desk (answer.Refused refused) = Unit {0}
 
 -- a call in this state is driven by these events of the desk, and ends by them
-pub record IsDriven {P S K C D L W : Type 0} (v : PolledCall K D L W) (state : SignState K L W) (old new : DeskState K D) (outcome : PollOutcome P S K C L W) : Type 0 where
+pub record IsDriven {P S K C D L W : Type 0} (v : PolledCall K D L W) (state : SignState K L W)
+    (old new : DeskState K D) (outcome : PollOutcome P S K C L W) : Type 0 where
   pub run : PollRun K L W
   pub course : IsCourse v state old run new
   pub end : IsEnd outcome.poll.answer outcome.before outcome.after run.end
@@ -205,12 +231,22 @@ pub record IsDriven {P S K C D L W : Type 0} (v : PolledCall K D L W) (state : S
   pub issued : IsAnswerIssued v.meaning v.begun new outcome.poll.answer
   pub others : LeavesOthers v.begun.id old new
 
--- the poll of a call in this state: whatever transcript the desk represents, it then represents that with the events of the poll
-pub record IsPoll {P S K C D L W : Type 0} (v : PolledCall K D L W) (state : SignState K L W) (old new : DeskState K D) (outcome : PollOutcome P S K C L W) : Type 0 where
+-- the poll of a call in this state: whatever transcript the desk represents, it then represents
+-- that with the events of the poll
+pub record IsPoll {P S K C D L W : Type 0} (v : PolledCall K D L W) (state : SignState K L W)
+    (old new : DeskState K D) (outcome : PollOutcome P S K C L W) : Type 0 where
   pub driven : IsDriven v state old new outcome
-  pub represents : (entries : List (Entry K)) → Represents v.policy old entries → Represents v.policy new (entries ++ driven.run.entries)
+  pub represents : (entries : List (Entry K)) → Represents v.policy old entries
+      → Represents v.policy new (entries ++ driven.run.entries)
 
 -- the call that is polled, with these objects
-abbrev pub polled_call : {P S K C L W : Type 0} → Policy K S → (K → Type 0) → Meanings P S K C L W → Objects P S C → BegunCall → ℤ → PolledCall K S L W
+abbrev pub polled_call : {P S K C L W : Type 0} → Policy K S → (K → Type 0) → Meanings P S K C L W
+    → Objects P S C → BegunCall → ℤ → PolledCall K S L W
 polled_call policy clones_freely m objects begun now =
-    record { policy = policy; clones_freely = clones_freely; meaning = call_meaning m begun objects; begun = begun; now = now }
+    record {
+      policy = policy;
+      clones_freely = clones_freely;
+      meaning = call_meaning m begun objects;
+      begun = begun;
+      now = now
+    }

@@ -18,19 +18,23 @@ module _ {K L W : Type 0} (m : CallMeaning K L W) where
   abbrev pub IsLoadMade : ℕ → LoadState K L → Type 0
   IsLoadMade provider l = IsLoadKept (m.load_started provider) (m.load_gives provider) l
 
-  -- the work was started with the credential, the candidate is one for the begun head, and an answer that is kept is one that
-  -- the service gives
+  -- the work was started with the credential, the candidate is one for the begun head, and an answer that is
+  -- kept is one that the service gives
   abbrev pub IsWorkMade : BegunCall → K → WorkState W → Type 0
-  IsWorkMade begun credential w = IsWorkKept (m.work_started credential) (m.work_gives credential) begun.head w
+  IsWorkMade begun credential w =
+      IsWorkKept (m.work_started credential) (m.work_gives credential) begun.head w
 
-  -- the desk has the call's record with the same state, load or work were started for the call, and the candidate is the begun head
-  -- until a service works on it
+  -- the desk has the call's record with the same state, load or work were started for the call, and the
+  -- candidate is the begun head until a service works on it
   abbrev pub IsStateIssued : {D : Type 0} → BegunCall → DeskState K D → SignState K L W → Type 0
   IsStateIssued begun desk (Waiting candidate) = IsWaiting begun desk × (candidate ≡ begun.head)
-  IsStateIssued begun desk (Loading candidate provider l) = IsAsking begun provider desk × IsLoadMade provider l × (candidate ≡ begun.head)
+  IsStateIssued begun desk (Loading candidate provider l) =
+      IsAsking begun provider desk × IsLoadMade provider l × (candidate ≡ begun.head)
   IsStateIssued begun desk (Signing credential w) = IsSigning begun desk × IsWorkMade begun credential w
 
 -- this signer issued this state
-abbrev pub IsIssuedBy : {P S K C L W : Type 0} → Meanings P S K C L W → SignerState P S K C → Sign P S K C L C W K → Type 0
+abbrev pub IsIssuedBy : {P S K C L W : Type 0} → Meanings P S K C L W → SignerState P S K C
+    → Sign P S K C L C W K → Type 0
 IsIssuedBy m signer sign =
-    IsSomeAnd (objects_of signer sign.begun.id.handle) (λ o. IsStateIssued (call_meaning m sign.begun o) sign.begun signer.desk sign.state)
+    IsSomeAnd (objects_of signer sign.begun.id.handle)
+    (λ o. IsStateIssued (call_meaning m sign.begun o) sign.begun signer.desk sign.state)

@@ -9,12 +9,14 @@ use Rattle.signer.specs.declared.sign.WorkState.{WorkState}
 use Rattle.signer.specs.declared.sign.WorkState.TheVariants as work_state
 
 module _ {W : Type 0} where
-  -- the candidate is the head, or the work was started by the service and the candidate is one for the head, or what is kept is what
-  -- the service gives
+  -- the candidate is the head, or the work was started by the service and the candidate is one for the head,
+  -- or what is kept is what the service gives
   abbrev pub IsWorkKept : (W → Type 0) → (SignOutcome → Type 0) → Head → WorkState W → Type 0
   IsWorkKept started gives head (work_state.Unstarted candidate) = candidate ≡ head
-  IsWorkKept started gives head (work_state.Started work candidate) = started work × IsCandidate gives head candidate
-  IsWorkKept started gives head (work_state.Signed candidate) = gives (record { answer = polled.Ready tt; candidate = candidate })
+  IsWorkKept started gives head (work_state.Started work candidate) =
+      started work × IsCandidate gives head candidate
+  IsWorkKept started gives head (work_state.Signed candidate) =
+      gives (record { answer = polled.Ready tt; candidate = candidate })
 
   -- the work was not ready, or one that was started now was not
   abbrev pub IsWorkPending : (W → Type 0) → (W → Type 0) → WorkState W → Type 0
@@ -32,10 +34,12 @@ module _ {W : Type 0} where
   IsWorkOpen (work_state.Signed candidate) = ⊥
   IsWorkOpen w = Unit {0}
 
-  -- what is left of a work for which its service had no memory: it is not started yet, or it was polled, which left this candidate
+  -- what is left of a work for which its service had no memory: it is not started yet, or it was
+  -- polled, which left this candidate
   abbrev pub WorkRunsOut : (SignOutcome → Type 0) → WorkState W → WorkState W → Type 0
   WorkRunsOut gives before (work_state.Unstarted candidate) =
-      (before ≡ work_state.Unstarted candidate) × gives (record { answer = polled.OutOfMemory; candidate = candidate })
+      (before ≡ work_state.Unstarted candidate)
+      × gives (record { answer = polled.OutOfMemory; candidate = candidate })
   WorkRunsOut gives before (work_state.Started work candidate) =
       IsWorkOpen before × gives (record { answer = polled.OutOfMemory; candidate = candidate })
   WorkRunsOut gives before (work_state.Signed candidate) = ⊥
@@ -50,7 +54,13 @@ pub record ServiceMeaning (W : Type 0) : Type 1 where
 -- what the service answered to a poll of what was kept of the work
 abbrev pub IsWorkAnswer : {W : Type 0} → ServiceMeaning W → WorkState W → WorkAnswer W → Type 0
 IsWorkAnswer m before (work.Pending w candidate) =
-    m.started w × IsWorkPending m.started m.ready before × m.gives (record { answer = polled.Pending; candidate = candidate })
-IsWorkAnswer m before (work.OutOfMemory kept) = IsWorkKept m.started m.gives m.head kept × WorkRunsOut m.gives before kept
-IsWorkAnswer m before (work.Signed candidate) = m.gives (record { answer = polled.Ready tt; candidate = candidate }) × KeepsWork before (work_state.Signed candidate)
-IsWorkAnswer m before (work.Failed e) = ((candidate : Head) × m.gives (record { answer = polled.Failed e; candidate = candidate })) × IsWorkOpen before
+    m.started w × IsWorkPending m.started m.ready before
+    × m.gives (record { answer = polled.Pending; candidate = candidate })
+IsWorkAnswer m before (work.OutOfMemory kept) =
+    IsWorkKept m.started m.gives m.head kept × WorkRunsOut m.gives before kept
+IsWorkAnswer m before (work.Signed candidate) =
+    m.gives (record { answer = polled.Ready tt; candidate = candidate })
+    × KeepsWork before (work_state.Signed candidate)
+IsWorkAnswer m before (work.Failed e) =
+    ((candidate : Head) × m.gives (record { answer = polled.Failed e; candidate = candidate }))
+    × IsWorkOpen before

@@ -8,10 +8,12 @@ use Rattle.signer.specs.BegunCall.{BegunCall}
 
 -- what a service is asked for with this credential
 abbrev pub operation_of : {K : Type 0} → BegunCall → K → Operation K
-operation_of begun credential = record { credential = credential; expires_in = option_map as_nanos begun.expires_in }
+operation_of begun credential =
+    record { credential = credential; expires_in = option_map as_nanos begun.expires_in }
 
 -- what a service means in a context, for a call with this credential
-abbrev pub service_meaning : {S C W K : Type 0} → SignRequest.Ghosts S C W K → S → C → BegunCall → K → ServiceMeaning W
+abbrev pub service_meaning : {S C W K : Type 0} → SignRequest.Ghosts S C W K → S → C → BegunCall → K
+    → ServiceMeaning W
 service_meaning g service ctx begun credential = record {
   started = g.started service ctx (operation_of begun credential);
   ready = g.ready service ctx;

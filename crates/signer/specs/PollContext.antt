@@ -23,7 +23,8 @@ pub record PollContext (P S K C L W : Type 0) : Type 1 where
 module _ {P S K C L W : Type 0} (d : PollContext P S K C L W) where
   -- the call with this service
   abbrev pub call_with : S → PolledCall K S L W
-  call_with service = polled_call d.policy d.clones_freely d.meanings (with_service d.objects service) d.begun d.now
+  call_with service =
+      polled_call d.policy d.clones_freely d.meanings (with_service d.objects service) d.begun d.now
 
   -- this service is the call's
   abbrev pub IsService : DeskState K S → S → Type 0
@@ -31,12 +32,16 @@ module _ {P S K C L W : Type 0} (d : PollContext P S K C L W) where
 
   -- the state was issued for the call
   abbrev pub IsIssuedFor : DeskState K S → SignState K L W → Type 0
-  IsIssuedFor desk state = (service : S) → IsService desk service → IsStateIssued (call_meaning d.meanings d.begun (with_service d.objects service)) d.begun desk state
+  IsIssuedFor desk state =
+      (service : S) → IsService desk service
+      → IsStateIssued (call_meaning d.meanings d.begun (with_service d.objects service)) d.begun desk state
 
   -- the step of the call in this state
   abbrev pub IsOutcomeWith : SignState K L W → StepChange K S → StepOutcome K L W → Type 0
-  IsOutcomeWith state change taken = (service : S) → IsService change.old service → IsStepOutcome (call_with service) state change taken
+  IsOutcomeWith state change taken =
+      (service : S) → IsService change.old service → IsStepOutcome (call_with service) state change taken
 
   -- the call in this state is driven by events of the desk, and ends by them
   abbrev pub IsDrivenFrom : SignState K L W → DeskState K S → DeskState K S → PollOutcome P S K C L W → Type 0
-  IsDrivenFrom state old new outcome = (service : S) → IsService old service → IsDriven (call_with service) state old new outcome
+  IsDrivenFrom state old new outcome =
+      (service : S) → IsService old service → IsDriven (call_with service) state old new outcome

@@ -10,4 +10,6 @@ missing_error name = credential_error (codes "failed to load signing credential"
 -- the loaded credential does not last to the deadline
 abbrev pub short_error : List ℕ → ℤ → ErrorParts
 short_error name deadline =
-    credential_error_with (codes "refreshed signing credential expires before the requested operation deadline") name (moment_line (codes "required_valid_until") deadline)
+    credential_error_with
+    (codes "refreshed signing credential expires before the requested operation deadline") name
+    (moment_line (codes "required_valid_until") deadline)

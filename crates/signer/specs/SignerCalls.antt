@@ -23,7 +23,8 @@ used_up = codes "call numbers are used up"
 -- why no call is begun: an allocation failed, the version is unknown, or there is no further number
 abbrev pub RefusesToBegin : Parts → ℕ → ErrorParts → Type 0
 RefusesToBegin parts begun e =
-    IsOutOfMemory e ⊎ (RefusedFor unknown_version (IsUnknownVersion parts.version) e ⊎ RefusedFor used_up (begun ≡ 18446744073709551615) e)
+    IsOutOfMemory e ⊎ (RefusedFor unknown_version (IsUnknownVersion parts.version) e
+        ⊎ RefusedFor used_up (begun ≡ 18446744073709551615) e)
 
 -- a signer before and after one of its calls
 pub record SignerChange (P S K C : Type 0) : Type 0 where
@@ -33,7 +34,9 @@ pub record SignerChange (P S K C : Type 0) : Type 0 where
 module _ {P S K C L W : Type 0} (m : Meanings P S K C L W) where
   -- every other state that the signer issued is still one that it issued
   abbrev pub KeepsOthers : CallId → SignerChange P S K C → Type 0
-  KeepsOthers call change = (other : Sign P S K C L C W K) → (other.begun.id ≡ call → ⊥) → IsIssuedBy m change.old other → IsIssuedBy m change.new other
+  KeepsOthers call change =
+      (other : Sign P S K C L C W K) → (other.begun.id ≡ call → ⊥) → IsIssuedBy m change.old other
+      → IsIssuedBy m change.new other
 
   -- a state that a poll hands back is of the same call, and one that the signer issued
   abbrev pub IsAnswerIssuedBy : SignerState P S K C → CallId → SignAnswer P S K C L C W K → Type 0
@@ -43,10 +46,12 @@ module _ {P S K C L W : Type 0} (m : Meanings P S K C L W) where
   IsAnswerIssuedBy signer call (answer.Refused refused) = Unit {0}
 
   -- a call that was begun: the next number, the request's head, and the event of the desk
-  pub record Begins (policy : Policy K S) (change : SignerChange P S K C) (parts : Parts) (sign : Sign P S K C L C W K) : Type 0 where
+  pub record Begins (policy : Policy K S) (change : SignerChange P S K C) (parts : Parts)
+      (sign : Sign P S K C L C W K) : Type 0 where
     pub number : sign.begun.id.number ≡ change.old.begun
     pub head : IsHeadOf parts sign.begun.head
-    pub step : IsStep policy (Begin sign.begun.id sign.begun.head sign.begun.expires_in) change.old.desk Begun change.new.desk
+    pub step : IsStep policy (Begin sign.begun.id sign.begun.head sign.begun.expires_in)
+        change.old.desk Begun change.new.desk
     pub next : change.new ≡ record change.old { desk = change.new.desk; begun = change.old.begun + 1 }
     pub issued : IsIssuedBy m change.new sign
     pub others : KeepsOthers sign.begun.id change

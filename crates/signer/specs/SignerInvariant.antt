@@ -13,8 +13,8 @@ use Rattle.desk_parts.specs.Adding.{with_rule, with_handle}
 use Rattle.desk_driver.specs.ProviderList.{loader_for}
 use Rattle.desk_parts.specs.WellFormedSetup.{IsWellFormedSetup}
 
--- the desk, the providers of each cache, the contexts, the place of each handle's context, the number of calls begun, and the keys of
--- header maps
+-- the desk, the providers of each cache, the contexts, the place of each handle's context, the number of
+-- calls begun, and the keys of header maps
 pub record SignerState (P S K C : Type 0) : Type 0 where
   pub desk : DeskState K S
   pub providers : List (Providers P)
@@ -28,20 +28,27 @@ abbrev pub is_above_all : ℕ → List (Option ℕ) → Bool
 is_above_all n [] = true
 is_above_all n (x ∷ rest) = is_above n x && is_above_all n rest
 
--- each cache has its providers, each handle its cache, its service and its context, and the number of the next call is above all
+-- each cache has its providers, each handle its cache, its service and its context, and the number
+-- of the next call is above all
 pub record IsSigner {P S K C : Type 0} (signer : SignerState P S K C) : Type 0 where
   pub set_up : IsWellFormedSetup (setup_of signer.desk)
   pub loaders : signer.desk.loaders ≡ map loader_for signer.providers
   pub places : length signer.context_places ≡ length signer.desk.handles
-  pub contexts : (handle : ℕ) → IfSome (slice_get signer.context_places handle) (λ place. place < length signer.contexts)
+  pub contexts : (handle : ℕ)
+      → IfSome (slice_get signer.context_places handle) (λ place. place < length signer.contexts)
   pub numbers : is_above_all signer.begun signer.desk.greatest ≡ true
   pub caches_few : length signer.desk.loaders ≤ length signer.desk.handles
   pub rules_few : length signer.desk.rules ≤ length signer.desk.handles
 
 module _ {P S K C : Type 0} where
   -- a signer with one handle: an empty cache with these providers, this context and this service
-  pub record IsNewSigner (policy : Policy K S) (ctx : C) (loader : Providers P) (service : S) (signer : SignerState P S K C) : Type 0 where
-    pub setup : setup_of signer.desk ≡ record { loaders = loader_for loader ∷ []; rules = service ∷ []; handles = record { cache = 0; rule = 0 } ∷ [] }
+  pub record IsNewSigner (policy : Policy K S) (ctx : C) (loader : Providers P) (service : S)
+      (signer : SignerState P S K C) : Type 0 where
+    pub setup : setup_of signer.desk ≡ record {
+      loaders = loader_for loader ∷ [];
+      rules = service ∷ [];
+      handles = record { cache = 0; rule = 0 } ∷ []
+    }
     pub represents : Represents policy signer.desk []
     pub providers_are : signer.providers ≡ loader ∷ []
     pub contexts_are : signer.contexts ≡ ctx ∷ []
@@ -64,7 +71,8 @@ module _ {P S K C : Type 0} where
     context_places = signer.context_places ++ place ∷ [];
   }
 
-  -- the signer with a handle more, like the one with this context's place but for its cache, which is new and empty
+  -- the signer with a handle more, like the one with this context's place but for its
+  -- cache, which is new and empty
   abbrev pub with_cache_handle : Handle → ℕ → Providers P → SignerState P S K C → SignerState P S K C
   with_cache_handle like place loader signer = record signer {
     desk = with_handle (length signer.desk.loaders) like.rule (with_cache (loader_for loader) signer.desk);

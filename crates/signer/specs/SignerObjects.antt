@@ -23,7 +23,8 @@ pub record Meanings (P S K C L W : Type 0) : Type 1 where
   pub work_gives : S → C → Operation K → Head → SignOutcome → Type 0
 
 -- the meanings of a type of providers and a type of services
-abbrev pub meanings_of : {P S K C L W : Type 0} → ProvideCredential.Ghosts P K C L → SignRequest.Ghosts S C W K → Meanings P S K C L W
+abbrev pub meanings_of : {P S K C L W : Type 0} → ProvideCredential.Ghosts P K C L
+    → SignRequest.Ghosts S C W K → Meanings P S K C L W
 meanings_of provider service = record {
   load_started = provider.started;
   load_ready = provider.ready;
@@ -41,7 +42,8 @@ pub record Objects (P S C : Type 0) : Type 0 where
 
 -- the objects, where each is there
 abbrev pub objects_by : {P S C : Type 0} → Option (Providers P) → Option C → Option S → Option (Objects P S C)
-objects_by (Some providers) (Some ctx) (Some service) = Some (record { providers = providers; ctx = ctx; service = service })
+objects_by (Some providers) (Some ctx) (Some service) =
+    Some (record { providers = providers; ctx = ctx; service = service })
 objects_by providers ctx service = None
 
 -- the service of a handle
@@ -66,16 +68,19 @@ pub record CallMeaning (K L W : Type 0) : Type 1 where
   pub work_gives : K → SignOutcome → Type 0
 
 -- what these objects mean for the call
-abbrev pub call_meaning : {P S K C L W : Type 0} → Meanings P S K C L W → BegunCall → Objects P S C → CallMeaning K L W
+abbrev pub call_meaning : {P S K C L W : Type 0} → Meanings P S K C L W → BegunCall → Objects P S C
+    → CallMeaning K L W
 call_meaning m begun o = record {
   load_started = λ place load. IsSomeAnd (provider_at o.providers place) (λ p. m.load_started p o.ctx load);
   load_ready = λ place load. IsSomeAnd (provider_at o.providers place) (λ p. m.load_ready p o.ctx load);
   load_gives = λ place answer. IsSomeAnd (provider_at o.providers place) (λ p. m.load_gives p o.ctx answer);
   work_started = λ credential work. m.work_started o.service o.ctx (operation_of begun credential) work;
   work_ready = λ work. m.work_ready o.service o.ctx work;
-  work_gives = λ credential outcome. m.work_gives o.service o.ctx (operation_of begun credential) begun.head outcome;
+  work_gives =
+      λ credential outcome. m.work_gives o.service o.ctx (operation_of begun credential) begun.head outcome;
 }
 
 -- the objects of a call whose service is this one
 abbrev pub with_service : {P S C : Type 0} → CallObjects P C → S → Objects P S C
-with_service objects service = record { providers = objects.providers.now; ctx = objects.ctx.now; service = service }
+with_service objects service =
+    record { providers = objects.providers.now; ctx = objects.ctx.now; service = service }

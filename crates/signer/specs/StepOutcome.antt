@@ -49,7 +49,8 @@ module _ {K L W : Type 0} where
   NamesNobody (Signing credential w) wake = wake ≡ None
   NamesNobody state wake = Unit {0}
 
-  -- the step ends the poll so, and the request has the URI and the headers that were signed and that `http` accepts, or is as before
+  -- the step ends the poll so, and the request has the URI and the headers that were signed and that
+  -- `http` accepts, or is as before
   abbrev pub IsStepEnd : StepEnd K L W → Parts → Parts → PollEnd K L W → Type 0
   IsStepEnd (Pending state) before after (Pends left) = (state ≡ left) × (after ≡ before)
   IsStepEnd Done before after (Finishes signed) = Commits signed before after × ¬ (RefusesTarget signed)
@@ -66,7 +67,8 @@ module _ {K D L W : Type 0} (v : PolledCall K D L W) where
   IsEndIssued desk (Refused refused) = Unit {0}
 
   -- the step makes an event of the desk, by whose reply the call goes on from the next state
-  pub record GoesOn (state : SignState K L W) (change : StepChange K D) (wake : Option CallId) (next : SignState K L W) : Type 0 where
+  pub record GoesOn (state : SignState K L W) (change : StepChange K D) (wake : Option CallId)
+      (next : SignState K L W) : Type 0 where
     pub event : Event K
     pub answered : Reply K
     pub given : IsGiven v state event
@@ -79,7 +81,8 @@ module _ {K D L W : Type 0} (v : PolledCall K D L W) where
     pub others : LeavesOthers v.begun.id change.old change.new
 
   -- the step is the last of the poll
-  pub record Ends (state : SignState K L W) (change : StepChange K D) (wake : Option CallId) (end : StepEnd K L W) : Type 0 where
+  pub record Ends (state : SignState K L W) (change : StepChange K D) (wake : Option CallId)
+      (end : StepEnd K L W) : Type 0 where
     pub run : PollRun K L W
     pub course : IsCourse v state change.old run change.new
     pub ended : IsStepEnd end change.before change.after run.end

@@ -20,13 +20,15 @@ pub record IsTargetOf (candidate : Head) (target : Parts) : Type 0 where
   pub headers : target.headers ≡ header_map candidate.headers
 
 -- the desk took the head, and the request has its URI and headers
-pub record IsHandedIn {K D : Type 0} (policy : Policy K D) (call : CallId) (candidate : Head) (change : StepChange K D) : Type 0 where
+pub record IsHandedIn {K D : Type 0} (policy : Policy K D) (call : CallId) (candidate : Head)
+    (change : StepChange K D) : Type 0 where
   pub commits : Commits candidate change.before change.after
   pub head : Head
   pub step : IsStep policy (Signed call (Accepted candidate)) change.old (Done head) change.new
 
 -- the desk had no memory for the head, which came back, and the request is as it was
-pub record IsKept {K D : Type 0} (policy : Policy K D) (begun : BegunCall) (candidate head : Head) (change : StepChange K D) : Type 0 where
+pub record IsKept {K D : Type 0} (policy : Policy K D) (begun : BegunCall) (candidate head : Head)
+    (change : StepChange K D) : Type 0 where
   pub back : head ≡ candidate
   pub step : IsStep policy (Signed begun.id (Accepted candidate)) change.old OutOfMemory change.new
   pub signing : IsSigning begun change.new

@@ -34,10 +34,13 @@ pub(crate) fn begin_call<K: SigningCredential, D: DeadlineRule<Credential = K>>(
     expires_in: Option<Duration>,
 ) -> Result<Head, NoMemory<()>>
     requires there { IsSome (slice_get desk.old.handles call.handle) }
-    requires above { IfSome (slice_get desk.old.greatest call.handle) (λ greatest. is_above call.number greatest ≡ true) }
+    requires above { IfSome (slice_get desk.old.greatest call.handle)
+        (λ greatest. is_above call.number greatest ≡ true) }
     ensures back { IfOk result (λ back. back ≡ head) }
-    ensures step { OnOk result (IsStep (policy_of K.valid K.valid_at D.deadline) (Begin call head expires_in) desk.old Begun desk.new) }
-    ensures begun { OnOk result (IsBegun (record { id = call; head = head; expires_in = expires_in }) desk.old desk.new) }
+    ensures step { OnOk result (IsStep (policy_of K.valid K.valid_at D.deadline)
+        (Begin call head expires_in) desk.old Begun desk.new) }
+    ensures begun { OnOk result
+        (IsBegun (record { id = call; head = head; expires_in = expires_in }) desk.old desk.new) }
     ensures unchanged { OnErr result (desk.new ≡ desk.old) }
 {
     let event = Event::Begin {
@@ -60,7 +63,8 @@ pub(crate) fn cancel_call<K: SigningCredential, D: DeadlineRule<Credential = K>>
 ) -> Option<CallId>
     requires there { IsSome (slice_get desk.old.handles begun.now.id.handle) }
     requires live { IsLive begun.now desk.old }
-    ensures step { IsStep (policy_of K.valid K.valid_at D.deadline) (Cancel begun.now.id) desk.old (Cancelled result) desk.new }
+    ensures step { IsStep (policy_of K.valid K.valid_at D.deadline)
+        (Cancel begun.now.id) desk.old (Cancelled result) desk.new }
     ensures others { LeavesOthers begun.now.id desk.old desk.new }
 {
     let event = Event::Cancel { call: begun.id };
@@ -80,7 +84,8 @@ pub(crate) fn poll_call<K: SigningCredential, D: DeadlineRule<Credential = K>>(
 ) -> Reply<K>
     requires there { IsSome (slice_get desk.old.handles begun.now.id.handle) }
     requires waiting { IsWaiting begun.now desk.old }
-    ensures step { IsStep (policy_of K.valid K.valid_at D.deadline) (Poll begun.now.id now) desk.old result desk.new }
+    ensures step { IsStep (policy_of K.valid K.valid_at D.deadline)
+        (Poll begun.now.id now) desk.old result desk.new }
     ensures memory { ClonesAreFree K.clones_freely → RunsOutAtHeads (Poll begun.now.id now) result }
     ensures after { AfterPoll begun.now result desk.new }
     ensures others { LeavesOthers begun.now.id desk.old desk.new }

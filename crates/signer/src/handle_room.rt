@@ -32,11 +32,16 @@ where
     ghost use Rattle.desk_parts.specs.Tables.{setup_of};
 
     pub(crate) fn new(alloc: Global, loader: Loader) -> Result<Self, AddError>
-        ensures setup { IfOk result (λ room. setup_of room.desk ≡ record { loaders = loader ∷ []; rules = []; handles = [] }) }
-        ensures fresh { IfOk result (λ room. Represents (policy_of K.valid K.valid_at D.deadline) room.desk []) }
-        ensures providers { IfOk result (λ room. (room.providers.items ≡ []) × (vec_len room.providers < vec_capacity room.providers)) }
-        ensures contexts { IfOk result (λ room. (room.contexts.items ≡ []) × (vec_len room.contexts < vec_capacity room.contexts)) }
-        ensures places { IfOk result (λ room. (room.context_places.items ≡ []) × (vec_len room.context_places < vec_capacity room.context_places)) }
+        ensures setup { IfOk result
+            (λ room. setup_of room.desk ≡ record { loaders = loader ∷ []; rules = []; handles = [] }) }
+        ensures fresh { IfOk result
+            (λ room. Represents (policy_of K.valid K.valid_at D.deadline) room.desk []) }
+        ensures providers { IfOk result
+            (λ room. (room.providers.items ≡ []) × (vec_len room.providers < vec_capacity room.providers)) }
+        ensures contexts { IfOk result
+            (λ room. (room.contexts.items ≡ []) × (vec_len room.contexts < vec_capacity room.contexts)) }
+        ensures places { IfOk result (λ room. (room.context_places.items ≡ [])
+            × (vec_len room.context_places < vec_capacity room.context_places)) }
     {
         let mut desk = Desk::new(alloc);
         desk.add_cache(loader)?;

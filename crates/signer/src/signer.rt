@@ -103,7 +103,8 @@ where
         builder: S,
     ) -> Result<Self, NoMemory<(P::Ctx, Providers<P>, S)>>
         requires { AreFew loader }
-        ensures ok { IfOk result (IsNewSigner (policy_of P.Credential.valid P.Credential.valid_at S.deadline) ctx loader builder) }
+        ensures ok { IfOk result
+            (IsNewSigner (policy_of P.Credential.valid P.Credential.valid_at S.deadline) ctx loader builder) }
         ensures back { IfErr result (λ e. e.back ≡ (ctx, loader, builder)) }
     {
         let loads = loader_of(&loader);
@@ -156,8 +157,10 @@ where
         requires handle { handle < length self.old.desk.handles }
         requires room { length self.old.desk.handles < 4294967295 }
         ensures answer { AddAnswerBack (late_refusal self.old.desk) (length self.old.desk.handles) result }
-        ensures added { OnOk result (IfSome (slice_get self.old.desk.handles handle) (λ like. self.new ≡ with_context_handle like ctx self.old)) }
-        ensures fresh { OnOk result (Represents (policy_of P.Credential.valid P.Credential.valid_at S.deadline) self.new.desk []) }
+        ensures added { OnOk result (IfSome (slice_get self.old.desk.handles handle)
+            (λ like. self.new ≡ with_context_handle like ctx self.old)) }
+        ensures fresh { OnOk result
+            (Represents (policy_of P.Credential.valid P.Credential.valid_at S.deadline) self.new.desk []) }
         ensures unchanged { IfErr result (λ refused. (refused.back ≡ ctx) × (self.new ≡ self.old)) }
     {
         let like = self.desk.handle_at(handle).unwrap();
@@ -189,8 +192,10 @@ where
         requires room { length self.old.desk.handles < 4294967295 }
         ensures answer { AddAnswerBack (late_refusal self.old.desk) (length self.old.desk.handles) result }
         ensures added { OnOk result (IfSome (slice_get self.old.desk.handles handle) (λ like.
-            self.new ≡ with_service_handle like (slice_index self.old.context_places handle) builder self.old)) }
-        ensures fresh { OnOk result (Represents (policy_of P.Credential.valid P.Credential.valid_at S.deadline) self.new.desk []) }
+            self.new ≡
+                with_service_handle like (slice_index self.old.context_places handle) builder self.old)) }
+        ensures fresh { OnOk result
+            (Represents (policy_of P.Credential.valid P.Credential.valid_at S.deadline) self.new.desk []) }
         ensures unchanged { IfErr result (λ refused. (refused.back ≡ builder) × (self.new ≡ self.old)) }
     {
         let like = self.desk.handle_at(handle).unwrap();
@@ -224,7 +229,8 @@ where
         ensures answer { AddAnswerBack (late_refusal self.old.desk) (length self.old.desk.handles) result }
         ensures added { OnOk result (IfSome (slice_get self.old.desk.handles handle) (λ like.
             self.new ≡ with_cache_handle like (slice_index self.old.context_places handle) loader self.old)) }
-        ensures fresh { OnOk result (Represents (policy_of P.Credential.valid P.Credential.valid_at S.deadline) self.new.desk []) }
+        ensures fresh { OnOk result
+            (Represents (policy_of P.Credential.valid P.Credential.valid_at S.deadline) self.new.desk []) }
         ensures unchanged { IfErr result (λ refused. (refused.back ≡ loader) × (self.new ≡ self.old)) }
     {
         let like = self.desk.handle_at(handle).unwrap();
@@ -259,8 +265,11 @@ where
         expires_in: Option<Duration>,
     ) -> Result<Sign<P, S>, Error>
         requires { handle < length self.old.desk.handles }
-        ensures ok { IfOk result (λ sign. (sign.begun.id.handle ≡ handle) × (sign.begun.expires_in ≡ expires_in)
-            × Begins (meanings_of P.ProvideCredential S.SignRequest.own) (policy_of P.Credential.valid P.Credential.valid_at S.deadline) (record { old = self.old; new = self.new }) req.now sign) }
+        ensures ok { IfOk result
+            (λ sign. (sign.begun.id.handle ≡ handle) × (sign.begun.expires_in ≡ expires_in)
+            × Begins (meanings_of P.ProvideCredential S.SignRequest.own)
+                (policy_of P.Credential.valid P.Credential.valid_at S.deadline)
+                (record { old = self.old; new = self.new }) req.now sign) }
         ensures err { IfErr result (RefusesToBegin req.now self.old.begun) }
         ensures unchanged { OnErr result (self.new ≡ self.old) }
     {
@@ -292,12 +301,17 @@ where
     pub fn poll(&mut self, sign: Sign<P, S>, req: &mut Parts, now: Timestamp) -> SignPoll<P, S>
         requires { IsIssuedBy (meanings_of P.ProvideCredential S.SignRequest.own) self.old sign }
         ensures poll { (o : Objects P S P.Ctx) → objects_of self.old sign.begun.id.handle ≡ Some o
-            → IsPoll (polled_call (policy_of P.Credential.valid P.Credential.valid_at S.deadline) P.Credential.clones_freely
-            (meanings_of P.ProvideCredential S.SignRequest.own) o sign.begun now) sign.state self.old.desk self.new.desk
-            (record { poll = result; before = req.old; after = req.new }) }
-        ensures issued { IsAnswerIssuedBy (meanings_of P.ProvideCredential S.SignRequest.own) self.new sign.begun.id result.answer }
+            → IsPoll
+                (polled_call (policy_of P.Credential.valid P.Credential.valid_at S.deadline)
+                    P.Credential.clones_freely (meanings_of P.ProvideCredential S.SignRequest.own)
+                    o sign.begun now)
+                sign.state self.old.desk self.new.desk
+                (record { poll = result; before = req.old; after = req.new }) }
+        ensures issued { IsAnswerIssuedBy (meanings_of P.ProvideCredential S.SignRequest.own)
+            self.new sign.begun.id result.answer }
         ensures same { self.new ≡ record self.old { desk = self.new.desk } }
-        ensures others { KeepsOthers (meanings_of P.ProvideCredential S.SignRequest.own) sign.begun.id (record { old = self.old; new = self.new }) }
+        ensures others { KeepsOthers (meanings_of P.ProvideCredential S.SignRequest.own) sign.begun.id
+            (record { old = self.old; new = self.new }) }
     {
         let handle = sign.begun.id.handle;
         let cache = self.desk.cache_of(handle).unwrap();
@@ -314,9 +328,11 @@ where
     /// Gives a call up, and names the call that has its turn by this. It takes no memory.
     pub fn cancel(&mut self, sign: Sign<P, S>) -> Option<CallId>
         requires { IsIssuedBy (meanings_of P.ProvideCredential S.SignRequest.own) self.old sign }
-        ensures step { IsStep (policy_of P.Credential.valid P.Credential.valid_at S.deadline) (Cancel sign.begun.id) self.old.desk (Cancelled result) self.new.desk }
+        ensures step { IsStep (policy_of P.Credential.valid P.Credential.valid_at S.deadline)
+            (Cancel sign.begun.id) self.old.desk (Cancelled result) self.new.desk }
         ensures same { self.new ≡ record self.old { desk = self.new.desk } }
-        ensures others { KeepsOthers (meanings_of P.ProvideCredential S.SignRequest.own) sign.begun.id (record { old = self.old; new = self.new }) }
+        ensures others { KeepsOthers (meanings_of P.ProvideCredential S.SignRequest.own) sign.begun.id
+            (record { old = self.old; new = self.new }) }
     {
         cancel_call(&mut self.desk, &sign.begun)
     }

@@ -23,7 +23,8 @@ pub(crate) fn poll_service<S: SignRequest>(
 ) -> WorkAnswer<S::Work>
     requires { let m = service_meaning S.SignRequest.own service.now ctx.now begun.now credential.now
         in IsWorkKept m.started m.gives m.head work }
-    ensures { IsWorkAnswer (service_meaning S.SignRequest.own service.now ctx.now begun.now credential.now) work result }
+    ensures { IsWorkAnswer
+        (service_meaning S.SignRequest.own service.now ctx.now begun.now credential.now) work result }
 {
     match work {
         WorkState::Signed(candidate) => WorkAnswer::Signed(candidate),

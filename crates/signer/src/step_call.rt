@@ -214,7 +214,8 @@ where
       begun = begun.now;
       now = _now;
     }) desk.old (Signing credential (work_state.Signed candidate)) }
-    ensures { (work : WorkState S.Work) → KeepsWork work (work_state.Signed candidate) → IsOutcomeWith (record {
+    ensures { (work : WorkState S.Work) → KeepsWork work (work_state.Signed candidate)
+        → IsOutcomeWith (record {
       policy = policy_of P.Credential.valid P.Credential.valid_at S.deadline;
       clones_freely = P.Credential.clones_freely;
       meanings = meanings_of P.ProvideCredential S.SignRequest.own;
@@ -241,7 +242,8 @@ where
 
 /// There was no memory to take the head that the service signed.
 fn keep<K, L, W>(credential: K, candidate: Head) -> StepOutcome<K, L, W>
-    ensures { result ≡ record { flow = Over (OutOfMemory (Signing credential (work_state.Signed candidate))); wake = None } }
+    ensures { result ≡
+        record { flow = Over (OutOfMemory (Signing credential (work_state.Signed candidate))); wake = None } }
 {
     let state = SignState::Signing(credential, WorkState::Signed(candidate));
     StepOutcome::over(StepEnd::OutOfMemory(state))

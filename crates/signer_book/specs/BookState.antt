@@ -10,6 +10,7 @@ pub record BookState (K D : Type 0) : Type 0 where
   pub journal : List (Entry K)
 
 -- the desk represents the journal, and beside it there is room for a cancel of each live call
-pub record IsBook {K D : Type 0} (policy : Policy K D) (desk : DeskState K D) (journal : List (Entry K)) (capacity : ℕ) : Type 0 where
+pub record IsBook {K D : Type 0} (policy : Policy K D) (desk : DeskState K D) (journal : List (Entry K))
+    (capacity : ℕ) : Type 0 where
   pub represents : Represents policy desk journal
   pub room : length journal + length desk.calls ≤ capacity

@@ -14,14 +14,16 @@ abbrev pub IsFirstIn : {K : Type 0} → (List (Receipt K) → ℕ → Type 0) �
 IsFirstIn P receipts at = P receipts at × ((before : ℕ) → before < at → P receipts before → ⊥)
 
 -- the fact holds of this receipt of this pass, of none before it there, and of none in the passes before
-abbrev pub IsFirstAt : {K : Type 0} → (List (Receipt K) → ℕ → Type 0) → List (List (Receipt K)) → ℕ → ℕ → Type 0
+abbrev pub IsFirstAt : {K : Type 0} → (List (Receipt K) → ℕ → Type 0) → List (List (Receipt K))
+    → ℕ → ℕ → Type 0
 IsFirstAt P passes pass at =
     IsSomeAnd (slice_get passes pass) (λ receipts. IsFirstIn P receipts at)
     × ((q k : ℕ) → q < pass → IfSome (slice_get passes q) (λ receipts. P receipts k → ⊥))
 
 -- the place that a receipt names
 abbrev pub place_at : {K : Type 0} → List (List (Receipt K)) → ℕ → ℕ → Option ℕ
-place_at passes pass at = option_and_then (λ receipts. option_map (λ r. r.place) (slice_get receipts at)) (slice_get passes pass)
+place_at passes pass at =
+    option_and_then (λ receipts. option_map (λ r. r.place) (slice_get receipts at)) (slice_get passes pass)
 
 -- there is such a receipt, and it is not the journal's entry at its place
 abbrev pub DiffersAt : {K : Type 0} → List (Entry K) → List (Receipt K) → ℕ → Type 0
@@ -30,7 +32,8 @@ DiffersAt journal receipts at = IsSomeAnd (slice_get receipts at) (λ r. IsEntry
 -- there is such a receipt, and its place is not above that of the receipt before it
 abbrev pub FallsAt : {K : Type 0} → List (Receipt K) → ℕ → Type 0
 FallsAt receipts at =
-    (0 < at) × (at < length receipts) × (slice_index (places receipts) at ≤ slice_index (places receipts) (at - 1))
+    (0 < at) × (at < length receipts)
+    × (slice_index (places receipts) at ≤ slice_index (places receipts) (at - 1))
 
 -- a receipt of this pass names the place
 abbrev pub HasPlace : {K : Type 0} → List (List (Receipt K)) → ℕ → ℕ → Type 0
@@ -45,10 +48,12 @@ pub record IsFirstDouble (Has : ℕ → ℕ → Type 0) (place first second : �
   pub lowest_place : (lower one other : ℕ) → lower < place → Has lower one → Has lower other → one ≡ other
 
 -- the cause holds, and none of those before it does
-abbrev pub IsCloseCause : {K D : Type 0} → DeskState K D → BookState K D → List (List (Receipt K)) → CloseError → Type 0
+abbrev pub IsCloseCause : {K D : Type 0} → DeskState K D → BookState K D → List (List (Receipt K))
+    → CloseError → Type 0
 IsCloseCause plan book passes Setup = setup_of book.desk ≢ setup_of plan
 IsCloseCause plan book passes (Absent have want) =
-    (setup_of book.desk ≡ setup_of plan) × (have ≡ length (all_receipts passes)) × (want ≡ length book.journal) × (have ≢ want)
+    (setup_of book.desk ≡ setup_of plan) × (have ≡ length (all_receipts passes))
+    × (want ≡ length book.journal) × (have ≢ want)
 IsCloseCause plan book passes (Differs pass at place) =
     (setup_of book.desk ≡ setup_of plan) × IsCounted book.journal passes
     × IsFirstAt (DiffersAt book.journal) passes pass at × (place_at passes pass at ≡ Some place)

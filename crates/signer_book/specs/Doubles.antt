@@ -11,8 +11,10 @@ IsLowest Has (Some double) = IsFirstDouble Has double.place double.first double.
 -- a place without an owner is in no pass; an owner is the lowest pass that has its place
 pub record AreOwners (Has : ℕ → ℕ → Type 0) (owners : List ℕ) (found : Option Double) : Type 0 where
   pub free : (place : ℕ) → slice_index owners place ≡ 4294967295 → (pass : ℕ) → Has place pass → ⊥
-  pub has : (place : ℕ) → place < length owners → slice_index owners place ≢ 4294967295 → Has place (slice_index owners place)
-  pub least : (place : ℕ) → place < length owners → slice_index owners place ≢ 4294967295 → (pass : ℕ) → Has place pass → slice_index owners place ≤ pass
+  pub has : (place : ℕ) → place < length owners → slice_index owners place ≢ 4294967295
+      → Has place (slice_index owners place)
+  pub least : (place : ℕ) → place < length owners → slice_index owners place ≢ 4294967295 → (pass : ℕ)
+      → Has place pass → slice_index owners place ≤ pass
   pub lowest : IsLowest Has found
 
 -- the lower of two doubles, the one before at one place

@@ -29,7 +29,10 @@ is_open call (r ∷ rest) = (begins_call call r && not (list_any (cancels_call c
 -- so many begins are open
 abbrev pub open_begins : {K : Type 0} → List (Receipt K) → ℕ
 open_begins [] = 0
-open_begins (r ∷ rest) = if is_begun r.entry.reply && not (list_any (cancels_call (call_of r.entry.event)) rest) then suc (open_begins rest) else open_begins rest
+open_begins (r ∷ rest) =
+    if is_begun r.entry.reply && not (list_any (cancels_call (call_of r.entry.event)) rest)
+    then suc (open_begins rest)
+    else open_begins rest
 
 -- at most so many begins are open, and beside the receipts there is room for a cancel of each
 pub record HasReceiptRoom {K : Type 0} (receipts : List (Receipt K)) (spare capacity : ℕ) : Type 0 where

@@ -71,10 +71,13 @@ impl<K: SigningCredential, D: DeadlineRule<Credential = K>> Book<K, D> {
     /// `OutOfMemory` changes neither. It does not come for a cancel of a live call of which the pass has
     /// the begin and no cancel.
     pub fn apply(&mut self, pass: &mut Pass<K>, event: &Event<K>) -> Reply<K>
-        ensures represents { Represents (policy_of K.valid K.valid_at D.deadline) self.new.desk self.new.journal }
-        ensures journal { result ≢ OutOfMemory → self.new.journal ≡ self.old.journal ++ record { event = event.now; reply = result } ∷ [] }
+        ensures represents { Represents (policy_of K.valid K.valid_at D.deadline)
+            self.new.desk self.new.journal }
+        ensures journal { result ≢ OutOfMemory
+            → self.new.journal ≡ self.old.journal ++ record { event = event.now; reply = result } ∷ [] }
         ensures receipt { result ≢ OutOfMemory → pass.new ≡ pass.old
-            ++ record { place = length self.old.journal; entry = record { event = event.now; reply = result } } ∷ [] }
+            ++ record { place = length self.old.journal;
+                entry = record { event = event.now; reply = result } } ∷ [] }
         ensures setup { setup_of self.new.desk ≡ setup_of self.old.desk }
         ensures book_unchanged { result ≡ OutOfMemory → self.new ≡ self.old }
         ensures pass_unchanged { result ≡ OutOfMemory → pass.new ≡ pass.old }
@@ -161,8 +164,10 @@ where
             × Represents (policy_of K.valid K.valid_at D.deadline) s.desk s.journal.items) }
         ensures book { IfOk result (λ s. (s.desk ≡ self.desk) × (s.journal.items ≡ self.journal)) }
         ensures passes { IfOk result (λ s. s.passes.items ≡ passes.items) }
-        ensures back { IfErr result (λ r. (r.book ≡ self) × (r.plan ≡ plan) × (r.passes.items ≡ passes.items)) }
-        ensures represents { IfErr result (λ r. Represents (policy_of K.valid K.valid_at D.deadline) r.book.desk r.book.journal) }
+        ensures back { IfErr result
+            (λ r. (r.book ≡ self) × (r.plan ≡ plan) × (r.passes.items ≡ passes.items)) }
+        ensures represents { IfErr result
+            (λ r. Represents (policy_of K.valid K.valid_at D.deadline) r.book.desk r.book.journal) }
         ensures why { IfErr result (λ r. IsCloseCause plan self passes.items r.why) }
     {
         let checked = check_close(
@@ -206,11 +211,15 @@ fn preview_entry<K: SigningCredential, D: DeadlineRule<Credential = K>>(
     event: &Event<K>,
 ) -> Option<Entry<K>>
     ensures event { IfSome result (λ entry. entry.event ≡ event.now) }
-    ensures expected { IfSome result (λ entry. (entries : List (Entry K)) → Represents (policy_of K.valid K.valid_at D.deadline) desk.now entries
-        → entry.reply ≡ expected_reply (policy_of K.valid K.valid_at D.deadline) (setup_of desk.now) (committed_entries entries) event.now) }
+    ensures expected { IfSome result (λ entry. (entries : List (Entry K))
+        → Represents (policy_of K.valid K.valid_at D.deadline) desk.now entries
+        → entry.reply ≡ expected_reply (policy_of K.valid K.valid_at D.deadline) (setup_of desk.now)
+            (committed_entries entries) event.now) }
     ensures kind { IfSome result (λ entry. IsTrue (is_reply_to event.now entry.reply)) }
-    ensures causes { IfSome result (λ entry. IsCaused (cause_of (policy_of K.valid K.valid_at D.deadline) desk.now event.now) entry.reply) }
-    ensures cancel { (entries : List (Entry K)) → Represents (policy_of K.valid K.valid_at D.deadline) desk.now entries
+    ensures causes { IfSome result (λ entry.
+        IsCaused (cause_of (policy_of K.valid K.valid_at D.deadline) desk.now event.now) entry.reply) }
+    ensures cancel { (entries : List (Entry K))
+        → Represents (policy_of K.valid K.valid_at D.deadline) desk.now entries
         → (call : CallId) → event.now ≡ Cancel call → IsSome result }
 {
     let reply = desk.preview(event);

@@ -44,7 +44,8 @@ pub(crate) fn first_difference<K: EqualByValue>(
 ) -> Option<Difference>
     requires { length passes.now < 4294967295 }
     ensures { MatchOption result (AreEntriesOf journal.now passes.now)
-        (λ d. IsFirstAt (DiffersAt journal.now) passes.now d.pass d.at × (place_at passes.now d.pass d.at ≡ Some d.place)) }
+        (λ d. IsFirstAt (DiffersAt journal.now) passes.now d.pass d.at
+            × (place_at passes.now d.pass d.at ≡ Some d.place)) }
 {
     for (number, pass) in passes.iter().enumerate() {
         let receipts = pass.receipts();
@@ -83,7 +84,8 @@ fn is_entry_of<K: EqualByValue>(journal: &[Entry<K>], receipt: &Receipt<K>) -> b
 /// The first receipt whose place is not above that of the receipt before it.
 pub(crate) fn first_fall<K>(passes: &[Pass<K>]) -> Option<Fall>
     requires { length passes.now < 4294967295 }
-    ensures { MatchOption result (AreRising passes.now) (λ fall. IsFirstAt FallsAt passes.now fall.pass fall.at) }
+    ensures { MatchOption result (AreRising passes.now)
+        (λ fall. IsFirstAt FallsAt passes.now fall.pass fall.at) }
 {
     for (number, pass) in passes.iter().enumerate() {
         if let Some(at) = fall_in(pass.receipts()) {
@@ -97,7 +99,8 @@ pub(crate) fn first_fall<K>(passes: &[Pass<K>]) -> Option<Fall>
 }
 
 fn fall_in<K>(receipts: &[Receipt<K>]) -> Option<usize>
-    ensures { MatchOption result (IsStrictlyIncreasing (places receipts.now)) (λ at. IsFirstIn FallsAt receipts.now at) }
+    ensures { MatchOption result (IsStrictlyIncreasing (places receipts.now))
+        (λ at. IsFirstIn FallsAt receipts.now at) }
 {
     for at in 1..receipts.len() {
         if receipts[at].place <= receipts[at - 1].place {

@@ -13,8 +13,8 @@ use sequential_signer::Entry;
 use sign_base::EqualByValue;
 use sign_desk::Desk;
 
-/// Whether the journal is closed by these passes, or the first cause for which it is not. `owners` has room for
-/// a mark of each entry.
+/// Whether the journal is closed by these passes, or the first cause for which it is not. `owners` has
+/// room for a mark of each entry.
 pub(crate) fn check_close<K, D>(
     desk: &Desk<K, D>,
     journal: &[Entry<K>],
@@ -27,7 +27,8 @@ where
     D: DeadlineRule<Credential = K> + EqualByValue,
     requires few { length passes.now < 4294967295 }
     requires room { length journal.now ≤ vec_capacity owners.old }
-    ensures why { MatchResult result (λ _. (setup_of desk.now ≡ setup_of plan.now) × IsSettled journal.now passes.now)
+    ensures why { MatchResult result
+        (λ _. (setup_of desk.now ≡ setup_of plan.now) × IsSettled journal.now passes.now)
         (λ why. IsCloseCause plan.now (record { desk = desk.now; journal = journal.now }) passes.now why) }
     ensures capacity { vec_capacity owners.old ≤ vec_capacity owners.new }
 {

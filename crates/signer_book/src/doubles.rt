@@ -48,7 +48,8 @@ fn own_places<K>(
     requires number { number < 4294967295 }
     requires within { All (λ r. r.place < length owners.old) receipts.now }
     requires rising { IsStrictlyIncreasing (places receipts.now) }
-    ensures { (passes : List (List (Receipt K))) → length passes ≡ number → AreOwners (HasPlace passes) owners.old before
+    ensures { (passes : List (List (Receipt K))) → length passes ≡ number
+        → AreOwners (HasPlace passes) owners.old before
         → AreOwners (HasPlace (passes ++ receipts.now ∷ [])) owners.new result }
 {
     let mut lowest = before;

@@ -24,7 +24,8 @@ pub(crate) fn call_of<K>(event: &Event<K>) -> CallId
 
 /// Whether the call is open after one more receipt.
 fn is_open_after<K>(found: bool, call: CallId, receipt: &Receipt<K>) -> bool
-    ensures { result ≡ (if cancels_call call receipt.now then begins_call call receipt.now else (begins_call call receipt.now || found)) }
+    ensures { result ≡ (if cancels_call call receipt.now then begins_call call receipt.now
+        else (begins_call call receipt.now || found)) }
 {
     if call != call_of(&receipt.entry.event) {
         return found;
@@ -58,8 +59,10 @@ pub(crate) fn take_receipt_room<K>(
     ensures items { receipts.new.items ≡ receipts.old.items }
     ensures before { HasReceiptRoom receipts.new.items spare (vec_capacity receipts.new) }
     ensures after { IfSome result (λ after. (place : ℕ)
-        → HasReceiptRoom (receipts.old.items ++ record { place = place; entry = entry.now } ∷ []) after (vec_capacity receipts.new)) }
-    ensures cancel { IsTrue (is_cancelled entry.now.reply) → is_open (call_of entry.now.event) receipts.old.items ≡ true → IsSome result }
+        → HasReceiptRoom (receipts.old.items ++ record { place = place; entry = entry.now } ∷ []) after
+            (vec_capacity receipts.new)) }
+    ensures cancel { IsTrue (is_cancelled entry.now.reply)
+        → is_open (call_of entry.now.event) receipts.old.items ≡ true → IsSome result }
 {
     let more = spare.checked_add(1)?;
     if is_begun(&entry.reply) {
@@ -103,7 +106,8 @@ pub(crate) fn take_entry_room<K>(
 ) -> bool
     requires { length journal.old.items + live ≤ min (vec_capacity journal.old) (vec_capacity owners.old) }
     ensures items { journal.new.items ≡ journal.old.items }
-    ensures before { length journal.new.items + live ≤ min (vec_capacity journal.new) (vec_capacity owners.new) }
+    ensures before { length journal.new.items + live ≤
+        min (vec_capacity journal.new) (vec_capacity owners.new) }
     ensures after { IsTrue result → (later : ℕ) → LiveAfter reply.now live later
         → length journal.old.items + 1 + later ≤ min (vec_capacity journal.new) (vec_capacity owners.new) }
     ensures cancel { IsTrue (is_cancelled reply.now) → IsTrue result }
@@ -124,8 +128,10 @@ fn reserve_both<K>(journal: &mut Vec<Entry<K>>, owners: &mut Vec<u32>, room: usi
     ensures items { journal.new.items ≡ journal.old.items }
     ensures journal { vec_capacity journal.old ≤ vec_capacity journal.new }
     ensures owners { vec_capacity owners.old ≤ vec_capacity owners.new }
-    ensures room { IsTrue result → length journal.old.items + room ≤ min (vec_capacity journal.new) (vec_capacity owners.new) }
-    ensures there { length journal.old.items + room ≤ min (vec_capacity journal.old) (vec_capacity owners.old) → IsTrue result }
+    ensures room { IsTrue result
+        → length journal.old.items + room ≤ min (vec_capacity journal.new) (vec_capacity owners.new) }
+    ensures there { length journal.old.items + room ≤ min (vec_capacity journal.old) (vec_capacity owners.old)
+        → IsTrue result }
 {
     let Some(all) = journal.len().checked_add(room) else {
         return false;

@@ -11,7 +11,8 @@ pub record Credential : Type 0 where
 
 -- the access key is not empty and has visible bytes alone, `!` to `~`, and the secret is not empty
 abbrev pub is_credential : List ℕ → List ℕ → Bool
-is_credential access secret = nat_lt 0 (length access) && (list_all is_ascii_graphic access && nat_lt 0 (length secret))
+is_credential access secret =
+    nat_lt 0 (length access) && (list_all is_ascii_graphic access && nat_lt 0 (length secret))
 
 -- whether a moment comes before a credential expires, where it does
 abbrev pub is_before : Option ℤ → ℤ → Bool

@@ -9,13 +9,15 @@ use Rattle.sigv4_presign.specs.declared.link_claim.LinkClaim.{LinkClaim}
 use Rattle.sigv4_presign.specs.declared.link_claim.LinkValues.{LinkValues}
 
 -- the four texts are there, and are these values
-abbrev pub AreValues : Option (List ℕ) → Option (List ℕ) → Option (List ℕ) → Option (List ℕ) → LinkValues → Type 0
+abbrev pub AreValues : Option (List ℕ) → Option (List ℕ) → Option (List ℕ) → Option (List ℕ)
+    → LinkValues → Type 0
 AreValues credential date expires signature values =
     (credential ≡ Some (string_bytes values.credential)) × (date ≡ Some (string_bytes values.date))
     × (expires ≡ Some (string_bytes values.expires)) × (signature ≡ Some (string_bytes values.signature))
 
 -- all four texts, or one is not there
-abbrev pub GivesAll : Option (List ℕ) → Option (List ℕ) → Option (List ℕ) → Option (List ℕ) → Option LinkValues → Type 0
+abbrev pub GivesAll : Option (List ℕ) → Option (List ℕ) → Option (List ℕ) → Option (List ℕ)
+    → Option LinkValues → Type 0
 GivesAll credential date expires signature None =
     (is_some credential && (is_some date && (is_some expires && is_some signature))) ≡ false
 GivesAll credential date expires signature (Some values) = AreValues credential date expires signature values
@@ -25,7 +27,8 @@ abbrev pub GivesValues : List Pair → Option LinkValues → Type 0
 GivesValues pieces None = are_shaped pieces ≡ false
 GivesValues pieces (Some values) =
     (are_shaped pieces ≡ true)
-    × AreValues (value_in credential_name pieces) (value_in date_name pieces) (value_in expires_name pieces) (value_in signature_name pieces) values
+    × AreValues (value_in credential_name pieces) (value_in date_name pieces) (value_in expires_name pieces)
+        (value_in signature_name pieces) values
 
 -- the query is that of a link that claims this
 pub record IsClaimOf (query : List ℕ) (claim : LinkClaim) : Type 0 where
@@ -40,7 +43,8 @@ pub record IsClaimOf (query : List ℕ) (claim : LinkClaim) : Type 0 where
 abbrev pub IsNoClaim : List ℕ → Type 0
 IsNoClaim query =
     (is_shaped query ≡ false)
-    ⊎ ((moment_of_text (value_of query date_name) ≡ None) ⊎ (expires_of_text (value_of query expires_name) ≡ None))
+    ⊎ ((moment_of_text (value_of query date_name) ≡ None)
+        ⊎ (expires_of_text (value_of query expires_name) ≡ None))
 
 -- what a query claims, if it is that of a link
 abbrev pub GivesClaim : List ℕ → Option LinkClaim → Type 0

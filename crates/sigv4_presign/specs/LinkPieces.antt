@@ -46,13 +46,15 @@ is_value wanted (Some value) = bytes_eq value wanted
 -- each of the six names stands once, and algorithm and headers are those of a link
 abbrev pub are_shaped : List Pair → Bool
 are_shaped pieces =
-    is_value algorithm (value_in algorithm_name pieces) && (is_value (codes "host") (value_in headers_name pieces)
+    is_value algorithm (value_in algorithm_name pieces)
+    && (is_value (codes "host") (value_in headers_name pieces)
     && (is_some (value_in credential_name pieces) && (is_some (value_in date_name pieces)
     && (is_some (value_in expires_name pieces) && is_some (value_in signature_name pieces)))))
 
 -- the pieces without those of a signature, as they stand
 abbrev pub unsigned_text : List Pair → List ℕ
-unsigned_text pieces = joined_texts (codes "&") (texts_where (λ key. not (bytes_eq key signature_name)) pieces)
+unsigned_text pieces =
+    joined_texts (codes "&") (texts_where (λ key. not (bytes_eq key signature_name)) pieces)
 
 -- a key is the name of a link's pair
 abbrev pub any_link_name : List Piece → Bool

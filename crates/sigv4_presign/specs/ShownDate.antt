@@ -13,7 +13,8 @@ HasDate text = IsCivilDate (pos (number_at 0 4 text)) (number_at 4 2 text) (numb
 
 -- and this is it
 abbrev pub IsDateOf : List ℕ → Date → Type 0
-IsDateOf text d = (d.year ≡ pos (number_at 0 4 text)) × (d.month ≡ number_at 4 2 text) × (d.day ≡ number_at 6 2 text)
+IsDateOf text d =
+    (d.year ≡ pos (number_at 0 4 text)) × (d.month ≡ number_at 4 2 text) × (d.day ≡ number_at 6 2 text)
 
 -- the clock has the time of day
 abbrev pub HasTime : List ℕ → Type 0
@@ -22,7 +23,8 @@ HasTime text = (number_at 9 2 text ≤ 23) × (number_at 11 2 text ≤ 59) × (n
 -- and this is it
 abbrev pub IsTimeOf : List ℕ → Time → Type 0
 IsTimeOf text t =
-    (t.hour ≡ number_at 9 2 text) × (t.minute ≡ number_at 11 2 text) × (t.second ≡ number_at 13 2 text) × (t.subsec_nanosecond ≡ 0)
+    (t.hour ≡ number_at 9 2 text) × (t.minute ≡ number_at 11 2 text) × (t.second ≡ number_at 13 2 text)
+    × (t.subsec_nanosecond ≡ 0)
 
 -- the text has the length of a date and time, and shows this moment
 abbrev pub IsShown : List ℕ → ℤ → Type 0

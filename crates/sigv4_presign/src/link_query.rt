@@ -135,7 +135,8 @@ pub(crate) fn unsigned_query(alloc: Global, pieces: &[Piece<'_>]) -> Result<Vec<
 
 /// Appends a piece, and `&` before it unless it is the first.
 fn push_joined(text: &mut Vec<u8>, first: bool, piece: &str) -> Result<(), AllocError>
-    ensures { OnOk result (text.new.items ≡ text.old.items ++ (if first then piece.now else ampersand ∷ piece.now)) }
+    ensures { OnOk result
+        (text.new.items ≡ text.old.items ++ (if first then piece.now else ampersand ∷ piece.now)) }
 {
     if !first {
         text.push(b'&')?;

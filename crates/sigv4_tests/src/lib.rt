@@ -1,6 +1,6 @@
-//! What no clause of `sigv4_core` and `sigv4_presign` says, as tests: values of other implementations, printed texts, and
-//! that each call succeeds with ample memory. Nothing stands on this crate. Requests with their
-//! signatures are rows of `command_rows`.
+//! What no clause of `sigv4_core` and `sigv4_presign` says, as tests: values of other implementations,
+//! printed texts, and that each call succeeds with ample memory. Nothing stands on this crate. Requests with
+//! their signatures are rows of `command_rows`.
 #![tactic(auto)]
 
 #[cfg(test)]

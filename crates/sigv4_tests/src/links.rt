@@ -1,5 +1,5 @@
-//! Links at moments that no line has, with fractions and before 1970; their keys; and the errors of their refusals.
-//! The values are those of Python's `hmac`.
+//! Links at moments that no line has, with fractions and before 1970; their keys; and the errors of their
+//! refusals. The values are those of Python's `hmac`.
 use crate::suite::{PUBLISHED, Suite, published, request_to};
 use crate::told::{is_text, refusal, text_of};
 use sign_base::{Head, Timestamp};
@@ -8,7 +8,8 @@ use sigv4_presign::{PresignError, presign, presign_keyed, verify, verify_keyed};
 use std::alloc::Global;
 use std::hash::RandomState;
 
-/// 2013-05-24T00:00:00Z is the second of the published link; this is the last nanosecond of the last second of 1969.
+/// 2013-05-24T00:00:00Z is the second of the published link; this is the last
+/// nanosecond of the last second of 1969.
 const LAST_OF_1969: i128 = -1;
 
 /// The last moment before the year 0.

@@ -1,4 +1,5 @@
-//! The plain request of the test suite that AWS publishes, and who signs it; and the request of the published link.
+//! The plain request of the test suite that AWS publishes, and who signs it; and the
+//! request of the published link.
 use sign_base::{Fields, Head, NoMemory, Octets, Version};
 use sigv4_core::{Payload, SigCredential, SigScope};
 use std::alloc::Global;
@@ -21,8 +22,8 @@ pub(crate) struct Suite {
     pub(crate) head: Head,
 }
 
-/// The suite's request to this URI. In a box it is one value to whoever proves where it is dropped, and not some
-/// fifty.
+/// The suite's request to this URI. In a box it is one value to whoever proves where it
+/// is dropped, and not some fifty.
 pub(crate) fn request_to(alloc: Global, uri: &str) -> Option<Box<Suite>> {
     let credential = SigCredential::new(alloc, b"AKIDEXAMPLE", SECRET, None).ok()?;
     let payload = Payload::of(alloc, b"").ok();

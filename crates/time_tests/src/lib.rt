@@ -1,5 +1,5 @@
-//! What no clause sees and a clock does: that headers whose names were picked to collide cost little where keys are
-//! handed in, and that a line is not moved at each read. Nothing stands on this crate.
+//! What no clause sees and a clock does: that headers whose names were picked to collide cost little where
+//! keys are handed in, and that a line is not moved at each read. Nothing stands on this crate.
 #![tactic(auto)]
 
 #[cfg(test)]

@@ -1,5 +1,5 @@
-//! Lines that come a byte at a time: a reader that moves what it holds at every read would move a thousand times as
-//! many bytes of long lines as of short ones.
+//! Lines that come a byte at a time: a reader that moves what it holds at every read would move a thousand
+//! times as many bytes of long lines as of short ones.
 ghost use Rattle.std.specs.Prelude.{◌<◌};
 
 use crate::times::{TIMES, is_alike};

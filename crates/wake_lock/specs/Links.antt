@@ -16,7 +16,8 @@ gap_after slots place = record { left = Some place; right = (slot_at slots place
 abbrev pub IsPath : List Slot → Gap → List ℕ → Gap → Type 0
 IsPath slots from [] to = from ≡ to
 IsPath slots from (place ∷ places) to =
-    (from.right ≡ Some place) × ((slot_at slots place).before ≡ from.left) × IsPath slots (gap_after slots place) places to
+    (from.right ≡ Some place) × ((slot_at slots place).before ≡ from.left)
+    × IsPath slots (gap_after slots place) places to
 
 -- the links lead from the start along these places, and no further
 abbrev pub IsChain : List Slot → Option ℕ → List ℕ → Type 0
@@ -42,7 +43,8 @@ with_after slots (Some place) after = slice_set slots place (record (slot_at slo
 -- the slots, of which the one at the place, where there is a place, names another as the one before it
 abbrev pub with_before : List Slot → Option ℕ → Option ℕ → List Slot
 with_before slots None before = slots
-with_before slots (Some place) before = slice_set slots place (record (slot_at slots place) { before = before })
+with_before slots (Some place) before =
+    slice_set slots place (record (slot_at slots place) { before = before })
 
 -- the end of the links: where there is no slot to name the other, the end itself names it
 abbrev pub end_with : Option ℕ → Option ℕ → Option ℕ → Option ℕ

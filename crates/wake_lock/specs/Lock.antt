@@ -3,7 +3,8 @@ use Rattle.std.specs.Prelude.{◌≡◌, ℕ, Bool, false, List, [], ◌∷◌, 
 use Rattle.wake_lock.specs.declared.CallId.{CallId}
 use Rattle.wake_lock.specs.Calls.{same_call, is_among, IsOnce}
 
--- the call that holds, the calls that wait, the calls for which there is room, and the slots in which calls wait or can wait
+-- the call that holds, the calls that wait, the calls for which there is room, and the slots
+-- in which calls wait or can wait
 pub record Lock : Type 0 where
   pub holder : Option CallId
   pub waiters : List CallId

@@ -30,9 +30,11 @@ pub record Releases (old : Lock) (next : Option CallId) (new : Lock) : Type 0 wh
 
 -- a call is taken out of the lock, whatever it is there
 pub record Cancels (id : CallId) (old : Lock) (left : Left) (new : Lock) : Type 0 where
-  pub answer : left ≡ (if is_held_by id old then Holder (first_of old.waiters) else if is_among id old.waiters then Waiter else Absent)
+  pub answer : left ≡ (if is_held_by id old then Holder (first_of old.waiters) else if is_among id old.waiters
+      then Waiter else Absent)
   pub holder : new.holder ≡ (if is_held_by id old then first_of old.waiters else old.holder)
-  pub waiters : new.waiters ≡ (if is_held_by id old then drop 1 old.waiters else filter (λ other. not (same_call other id)) old.waiters)
+  pub waiters : new.waiters ≡ (if is_held_by id old then drop 1 old.waiters
+      else filter (λ other. not (same_call other id)) old.waiters)
   pub line_is : line new ≡ filter (λ other. not (same_call other id)) (line old)
   pub absent : left ≡ Absent → new ≡ old
   pub lock : IsLock old

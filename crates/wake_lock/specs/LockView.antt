@@ -17,7 +17,8 @@ lock_view lock = record {
   slots = length lock.waiters.waiters + lock.waiters.vacant;
 }
 
--- it is a lock; the index has the place of each waiter and of nobody else; and the room is there, in slots and in the index
+-- it is a lock; the index has the place of each waiter and of nobody else; and the room is
+-- there, in slots and in the index
 pub record IsWaitLock (lock : Inside) : Type 0 where
   pub is_lock : IsLock (lock_view lock)
   pub indexed : (call : CallId) → get same_call lock.index call ≡ lookup (same_call call) lock.waiters.waiters

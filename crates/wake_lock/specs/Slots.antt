@@ -10,7 +10,8 @@ blank_slot = record { id = record { handle = 0; number = 0 }; before = None; aft
 abbrev pub vacant_slot : Option ℕ → Slot
 vacant_slot after = record blank_slot { after = after }
 
--- so many vacant slots from the place on: each names the one before it as the one after it, and the first names another
+-- so many vacant slots from the place on: each names the one before it as the one after
+-- it, and the first names another
 abbrev pub chained_slots : ℕ → ℕ → Option ℕ → List Slot
 chained_slots place zero after = []
 chained_slots place (suc n) after = vacant_slot after ∷ chained_slots (place + 1) n (Some place)

@@ -23,5 +23,6 @@ first_place (waiter ∷ waiters) = Some waiter.1
 -- the waiter at the place is this call, and it alone leaves
 abbrev pub TakesOut : List (CallId × ℕ) → ℕ → CallId → List (CallId × ℕ) → Type 0
 TakesOut old place call new =
-    (ahead : List (CallId × ℕ)) (waiter : CallId × ℕ) (behind : List (CallId × ℕ)) → old ≡ ahead ++ waiter ∷ behind → waiter.1 ≡ place
+    (ahead : List (CallId × ℕ)) (waiter : CallId × ℕ) (behind : List (CallId × ℕ))
+    → old ≡ ahead ++ waiter ∷ behind → waiter.1 ≡ place
     → (waiter.0 ≡ call) × (new ≡ ahead ++ behind)

@@ -7,11 +7,14 @@ use Rattle.wake_lock.specs.Slots.{slot_at}
 use Rattle.wake_lock.specs.Links.{IsPath, IsChain, places_from, times}
 use Rattle.wake_lock.specs.WaitList.{Waiting}
 
--- the waiters stand at these places and in this order, linked both ways; the vacant slots are linked too; and each slot is one or the other, once
+-- the waiters stand at these places and in this order, linked both ways; the vacant slots are linked too; and
+-- each slot is one or the other, once
 pub record HasPlaces (list : Inside) (waiting vacant : List ℕ) : Type 0 where
-  pub linked : IsPath list.slots (record { left = None; right = list.head }) waiting (record { left = list.tail; right = None })
+  pub linked : IsPath list.slots (record { left = None; right = list.head }) waiting
+      (record { left = list.tail; right = None })
   pub chained : IsChain list.slots list.free vacant
-  pub each : (place : ℕ) → times place waiting + times place vacant ≡ (if nat_lt place (length list.slots) then 1 else 0)
+  pub each : (place : ℕ)
+      → times place waiting + times place vacant ≡ (if nat_lt place (length list.slots) then 1 else 0)
   pub all : length waiting + length vacant ≡ length list.slots
   pub counted : list.vacant ≡ length vacant
   pub few : length list.slots < 2 ^ 32

@@ -109,10 +109,12 @@ impl WaitLock {
         requires outside { is_in_line id self.old ≡ false }
         ensures answer { result ≡ (if is_some self.old.holder then Entered.Queued else Entered.Granted) }
         ensures holder { self.new.holder ≡ (if is_some self.old.holder then self.old.holder else Some id) }
-        ensures waiters { self.new.waiters ≡ (if is_some self.old.holder then self.old.waiters ++ id ∷ [] else []) }
+        ensures waiters { self.new.waiters ≡
+            (if is_some self.old.holder then self.old.waiters ++ id ∷ [] else []) }
         ensures line { line self.new ≡ line self.old ++ id ∷ [] }
         ensures spare { self.old.spare ≤ self.new.spare + 1 }
-        ensures spare_left { self.new.spare ≡ (if is_some self.old.holder then self.old.spare - 1 else self.old.spare) }
+        ensures spare_left { self.new.spare ≡
+            (if is_some self.old.holder then self.old.spare - 1 else self.old.spare) }
         ensures slots { self.new.slots ≡ self.old.slots }
     {
         uncounted::enter::<Brand>(self, id, Blank::new(1))
@@ -173,9 +175,12 @@ impl WaitLock {
 
     /// Takes the call out of the lock, whatever it is there. It takes no memory.
     pub fn cancel(&mut self, id: CallId) -> Left
-        ensures answer { result ≡ (if is_held_by id self.old then Left.Holder (first_of self.old.waiters) else if is_among id self.old.waiters then Left.Waiter else Left.Absent) }
-        ensures holder { self.new.holder ≡ (if is_held_by id self.old then first_of self.old.waiters else self.old.holder) }
-        ensures waiters { self.new.waiters ≡ (if is_held_by id self.old then drop 1 self.old.waiters else filter (λ other. not (same_call other id)) self.old.waiters) }
+        ensures answer { result ≡ (if is_held_by id self.old then Left.Holder (first_of self.old.waiters)
+            else if is_among id self.old.waiters then Left.Waiter else Left.Absent) }
+        ensures holder { self.new.holder ≡
+            (if is_held_by id self.old then first_of self.old.waiters else self.old.holder) }
+        ensures waiters { self.new.waiters ≡ (if is_held_by id self.old then drop 1 self.old.waiters
+            else filter (λ other. not (same_call other id)) self.old.waiters) }
         ensures line { line self.new ≡ filter (λ other. not (same_call other id)) (line self.old) }
         ensures absent { result ≡ Left.Absent → self.new ≡ self.old }
         ensures lock { IsLock self.old }

@@ -7,8 +7,8 @@ use Rattle.sequential_signer.specs.declared.event.Why.TheVariants.{Short, Range}
 use Rattle.worked_scripts.specs.WorkedPolicy.{Credential, Now, at}
 use Rattle.worked_scripts.specs.Words.{◌gets◌, credential, lasting, longest, begin, begin_for, poll, found, accept, cancel, plain_head, sign, refused, cancelled, one_cache, IsWorked}
 
--- a deadline out of range refuses what was found, and nothing is cached: so the next call loads for itself, and one behind
--- it waits
+-- a deadline out of range refuses what was found, and nothing is cached: so the next call loads for
+-- itself, and one behind it waits
 abbrev pub DeadlineOutOfRangeIsRefused : Type 0
 DeadlineOutOfRangeIsRefused =
     IsWorked (one_cache Now) (
@@ -30,7 +30,8 @@ cached_before_a_long_call =
     ∷ begin_for 0 2 longest gets Begun
     ∷ []
 
--- while the cached credential is fresh, a deadline out of range refuses the call, and the credential stays cached
+-- while the cached credential is fresh, a deadline out of range refuses the call,
+-- and the credential stays cached
 abbrev pub FreshCredentialIsRefusedForTheRange : Type 0
 FreshCredentialIsRefusedForTheRange =
     IsWorked (one_cache Now) (cached_before_a_long_call
@@ -58,8 +59,8 @@ RangeEndsWithItsLastSecond =
     IsWorked (one_cache Now) (long_operation 253_402_206_699 (Short (at 253_402_207_200))) (None ∷ [])
     × IsWorked (one_cache Now) (long_operation 253_402_206_700 Range) (None ∷ [])
 
--- a poll before the begin, a number that is not above the last, a handle that is not there, answers that nobody asked
--- for, and a cancel of a call that is over
+-- a poll before the begin, a number that is not above the last, a handle that is not there, answers that
+-- nobody asked for, and a cancel of a call that is over
 abbrev pub WhatDoesNotFitChangesNothing : Type 0
 WhatDoesNotFitChangesNothing =
     IsWorked (one_cache Now) (

@@ -9,7 +9,8 @@ use Rattle.worked_scripts.specs.Words.{◌gets◌, credential, lasting, begin, p
 
 -- two caches, each with a handle
 abbrev pub two_caches : Setup Rule
-two_caches = record { loaders = Single ∷ Single ∷ []; rules = Now ∷ []; handles = handle_on 0 0 ∷ handle_on 1 0 ∷ [] }
+two_caches =
+    record { loaders = Single ∷ Single ∷ []; rules = Now ∷ []; handles = handle_on 0 0 ∷ handle_on 1 0 ∷ [] }
 
 -- a call of one cache does not wait for a call of the other, nor reuse what it found
 abbrev pub CachesStandApart : Type 0
@@ -26,7 +27,8 @@ CachesStandApart =
 
 -- two handles on one cache, each with a rule of its own
 abbrev pub two_rules : Setup Rule
-two_rules = record { loaders = Single ∷ []; rules = Now ∷ Cred ∷ []; handles = handle_on 0 0 ∷ handle_on 0 1 ∷ [] }
+two_rules =
+    record { loaders = Single ∷ []; rules = Now ∷ Cred ∷ []; handles = handle_on 0 0 ∷ handle_on 0 1 ∷ [] }
 
 -- a rule whose deadline the cached credential does not outlast loads another
 abbrev pub EachRuleHasItsDeadline : Type 0

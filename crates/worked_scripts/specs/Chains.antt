@@ -29,7 +29,8 @@ ChainOfOneAsksOnce =
     × ChainAnswers 1 (missing 0 1 6 gets refused Missing ∷ []) None
     × ChainAnswers 1 (failed 0 1 6 3 gets refused Missing ∷ []) None
 
--- a chain passes over misses and failures until a provider finds a credential: the first, the second, the third or the last
+-- a chain passes over misses and failures until a provider finds a credential: the first, the
+-- second, the third or the last
 abbrev pub ChainAsksUntilOneFinds : Type 0
 ChainAsksUntilOneFinds =
     ChainAnswers 4 (

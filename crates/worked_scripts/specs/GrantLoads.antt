@@ -80,8 +80,8 @@ OtherLoadsLeaveTheStored =
     ∷ cancel 0 1 gets Cancelled
     ∷ []) (Some eight ∷ [])
 
--- a call that loads goes on with its own load, whatever another call stored meanwhile; one that is polled now is
--- handed what is cached, and does not store it again
+-- a call that loads goes on with its own load, whatever another call stored meanwhile; one that is polled now
+-- is handed what is cached, and does not store it again
 abbrev pub OpenLoadDoesNotLookAgain : Type 0
 OpenLoadDoesNotLookAgain =
     IsWorkedGrant (one_cache Cred) (two_load

@@ -1,4 +1,5 @@
--- A granter's transcripts in which an allocation failed: at which events that may be, and that the event can be sent again.
+-- A granter's transcripts in which an allocation failed: at which events that may be, and
+-- that the event can be sent again.
 use Rattle.std.specs.Prelude.{List, [], ◌∷◌, ◌++◌}
 use Rattle.sequential_signer.specs.GrantLegal.{IsLegalGrant}
 use Rattle.sequential_signer.specs.declared.grant_event.GrantEntry.{GrantEntry}
@@ -11,7 +12,8 @@ use Rattle.worked_scripts.specs.Words.{credential, lasting, longest, one_cache}
 use Rattle.worked_scripts.specs.GrantWords.{◌gets◌, begin, begin_for, poll, found, missing, failed, made, fail, cancel}
 
 -- after these entries the event may run out of memory, and then be sent again and get this reply
-abbrev pub MayRunOutGrant : List (GrantEntry Credential) → GrantEvent Credential → GrantReply Credential → Type 0
+abbrev pub MayRunOutGrant : List (GrantEntry Credential) → GrantEvent Credential
+    → GrantReply Credential → Type 0
 MayRunOutGrant entries event reply =
     IsLegalGrant worked_policy (one_cache Now) (entries ++ event gets OutOfMemory ∷ event gets reply ∷ [])
 
@@ -33,7 +35,8 @@ granting = asking ++ found 0 1 6 (lasting 1) gets Grant (lasting 1) ∷ []
 abbrev pub second_begun : List (GrantEntry Credential)
 second_begun = granting ++ begin 0 2 gets Begun ∷ []
 
--- a begin, a look that hands out, a source found, be it handed out or refused, and a credential made, be it given or refused
+-- a begin, a look that hands out, a source found, be it handed out or refused, and a
+-- credential made, be it given or refused
 abbrev pub EventsOfGrantersMayRunOut : Type 0
 EventsOfGrantersMayRunOut =
     MayRunOutGrant [] (begin 0 1) Begun
@@ -43,8 +46,8 @@ EventsOfGrantersMayRunOut =
     × MayRunOutGrant granting (made 0 1 7 (lasting 701)) (Given (lasting 701))
     × MayRunOutGrant granting (made 0 1 7 (credential 701 900 7 0)) (Refused (Stale (at 7)))
 
--- a poll that asks, one that awaits an answer, one that is refused, a miss, a failure of the provider or of the granter, a
--- cancel, and events that do not fit
+-- a poll that asks, one that awaits an answer, one that is refused, a miss, a failure of the provider or of
+-- the granter, a cancel, and events that do not fit
 abbrev pub OtherEventsOfGrantersCannotRunOut : Type 0
 OtherEventsOfGrantersCannotRunOut =
     CannotRunOutGrant (begin 0 1 gets Begun ∷ []) (poll 0 1 5)

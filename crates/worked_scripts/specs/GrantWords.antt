@@ -61,4 +61,5 @@ sources_left setup entries = map (λ i. grant_source setup entries i) (range_wit
 -- each event of the table gets the reply beside it, and these sources are left
 abbrev pub IsWorkedGrant : Setup Rule → List (GrantEntry Credential) → List (Option Credential) → Type 0
 IsWorkedGrant setup table sources =
-    (expected_grant_entries worked_policy setup (map (λ e. e.event) table) ≡ table) × (sources_left setup table ≡ sources)
+    (expected_grant_entries worked_policy setup (map (λ e. e.event) table) ≡ table)
+    × (sources_left setup table ≡ sources)

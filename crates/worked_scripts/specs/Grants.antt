@@ -63,8 +63,8 @@ GrantedCredentialIsNotCached =
     ∷ made 0 2 111 (credential 702 900 1000 500) gets Given (credential 702 900 1000 500)
     ∷ []) (Some seven ∷ [])
 
--- a credential that expires at the moment of the granter's answer is refused; the source stays, and a failure of the granter
--- leaves it too
+-- a credential that expires at the moment of the granter's answer is refused; the source stays, and a
+-- failure of the granter leaves it too
 abbrev pub StaleCredentialIsRefused : Type 0
 StaleCredentialIsRefused =
     IsWorkedGrant (one_cache Cred) (granting
@@ -74,7 +74,8 @@ StaleCredentialIsRefused =
     ∷ fail 0 2 110 6 gets Refused (Service 6)
     ∷ []) (Some seven ∷ [])
 
--- a granted credential that is not fresh is given where it is valid at that moment, whatever deadline it names
+-- a granted credential that is not fresh is given where it is valid at that
+-- moment, whatever deadline it names
 abbrev pub FreshnessOfTheGrantedIsNotAsked : Type 0
 FreshnessOfTheGrantedIsNotAsked =
     IsWorkedGrant (one_cache Cred) (granting
@@ -94,7 +95,8 @@ PollsAwaitTheAnswers =
     ∷ poll 0 1 102 gets NotNow
     ∷ []) (Some seven ∷ [])
 
--- a deadline out of range refuses the source, when it is found and when it is looked at; what was cached stays
+-- a deadline out of range refuses the source, when it is found and when it is
+-- looked at; what was cached stays
 abbrev pub DeadlineOutOfRangeRefusesTheSource : Type 0
 DeadlineOutOfRangeRefusesTheSource =
     IsWorkedGrant (one_cache Now) (
@@ -108,8 +110,8 @@ DeadlineOutOfRangeRefusesTheSource =
     ∷ poll 0 3 504 gets Refused Range
     ∷ []) (Some (lasting 8) ∷ [])
 
--- a call that is cancelled before its first poll, while it loads, or while the granter makes its credential, is over: what
--- comes afterwards does not fit, and the cache is as it was
+-- a call that is cancelled before its first poll, while it loads, or while the granter makes its credential,
+-- is over: what comes afterwards does not fit, and the cache is as it was
 abbrev pub CancelledCallIsOver : Type 0
 CancelledCallIsOver =
     IsWorkedGrant (one_cache Cred) (
@@ -129,7 +131,8 @@ CancelledCallIsOver =
     ∷ cancel 0 1 gets NotNow
     ∷ []) (Some seven ∷ [])
 
--- a poll before the begin, a number that is not above the last, a handle that is not there, and answers that nobody asked for
+-- a poll before the begin, a number that is not above the last, a handle that is not there, and
+-- answers that nobody asked for
 abbrev pub OtherEventsOfGrantersDoNotFit : Type 0
 OtherEventsOfGrantersDoNotFit =
     IsWorkedGrant (one_cache Cred) (

@@ -1,4 +1,5 @@
--- Transcripts in which an allocation failed: at which events that may be, and that the event can be sent again.
+-- Transcripts in which an allocation failed: at which events that may be, and
+-- that the event can be sent again.
 use Rattle.std.specs.Prelude.{List, [], ◌∷◌, ◌++◌}
 use Rattle.sequential_signer.specs.Legal.{IsLegal}
 use Rattle.sequential_signer.specs.declared.event.Entry.{Entry}
@@ -41,8 +42,8 @@ EventsThatAllocateMayRunOut =
     × MayRunOut asking (found 0 1 6 (credential 2 900 6 0)) (refused (Short (at 6)))
     × MayRunOut signing (accept 0 1 plain_head) (Done plain_head)
 
--- a poll that asks, one that waits, one that is refused, a miss, a failure of the provider or of the service, a cancel, and
--- events that do not fit
+-- a poll that asks, one that waits, one that is refused, a miss, a failure of the provider or of the service,
+-- a cancel, and events that do not fit
 abbrev pub OtherEventsCannotRunOut : Type 0
 OtherEventsCannotRunOut =
     CannotRunOut (begin 0 1 gets Begun ∷ []) (poll 0 1 5)

@@ -67,7 +67,8 @@ FirstPollsSetTheOrder =
     ∷ poll 0 1 5 gets Pending
     ∷ []) (None ∷ [])
 
--- a woken call that was not polled yet keeps its turn: a call that is polled for the first time now waits behind it
+-- a woken call that was not polled yet keeps its turn: a call that is polled for the
+-- first time now waits behind it
 abbrev pub WokenCallKeepsItsTurn : Type 0
 WokenCallKeepsItsTurn =
     IsWorked (one_cache Now) (two_wait
@@ -87,7 +88,8 @@ RefusalWakesTheNext first answer cause =
     ∷ poll 0 2 7 gets Ask 0
     ∷ []) (None ∷ [])
 
--- so it is for each cause: no credential, a failure, one that expires at its deadline, and a deadline out of range
+-- so it is for each cause: no credential, a failure, one that expires at its
+-- deadline, and a deadline out of range
 abbrev pub EachRefusalWakesTheNext : Type 0
 EachRefusalWakesTheNext =
     RefusalWakesTheNext (begin 0 1) (missing 0 1 6) Missing

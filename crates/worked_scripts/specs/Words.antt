@@ -50,7 +50,8 @@ begin handle number = Begin (call handle number) plain_head None
 
 -- a begin of an operation of so many seconds
 abbrev pub begin_for : ℕ → ℕ → ℕ → Event Credential
-begin_for handle number seconds = Begin (call handle number) plain_head (Some (record { secs = seconds; nanos = 0 }))
+begin_for handle number seconds =
+    Begin (call handle number) plain_head (Some (record { secs = seconds; nanos = 0 }))
 
 -- a begin with a head of its own
 abbrev pub begin_with : ℕ → ℕ → Head → Event Credential
@@ -116,9 +117,11 @@ handle_on cache rule = record { cache = cache; rule = rule }
 abbrev pub one_cache : Rule → Setup Rule
 one_cache rule = record { loaders = Single ∷ []; rules = rule ∷ []; handles = handle_on 0 0 ∷ [] }
 
--- one cache with a chain of so many providers, and one handle with the rule by which a credential must outlast the operation
+-- one cache with a chain of so many providers, and one handle with the rule by which a
+-- credential must outlast the operation
 abbrev pub one_chain : ℕ → Setup Rule
-one_chain providers = record { loaders = Chain providers ∷ []; rules = Now ∷ []; handles = handle_on 0 0 ∷ [] }
+one_chain providers =
+    record { loaders = Chain providers ∷ []; rules = Now ∷ []; handles = handle_on 0 0 ∷ [] }
 
 -- the caches that a transcript leaves
 abbrev pub caches_left : Setup Rule → List (Entry Credential) → List (Option Credential)
@@ -128,4 +131,5 @@ caches_left setup entries =
 -- each event of the table gets the reply beside it, and these caches are left
 abbrev pub IsWorked : Setup Rule → List (Entry Credential) → List (Option Credential) → Type 0
 IsWorked setup table caches =
-    (expected_entries worked_policy setup (map (λ e. e.event) table) ≡ table) × (caches_left setup table ≡ caches)
+    (expected_entries worked_policy setup (map (λ e. e.event) table) ≡ table)
+    × (caches_left setup table ≡ caches)

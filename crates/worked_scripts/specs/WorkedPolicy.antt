@@ -14,7 +14,8 @@ pub record Credential : Type 0 where
   pub expires : ℤ
   pub required : ℤ
 
--- the rule by which a credential must outlast the operation, and the one by which it names its deadline itself
+-- the rule by which a credential must outlast the operation, and the one by
+-- which it names its deadline itself
 pub data Rule : Type 0 where
   Now : Rule
   Cred : Rule

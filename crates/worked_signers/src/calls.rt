@@ -40,7 +40,8 @@ where
 
     ghost view = { λ calls. length calls.states.items };
 
-    ghost invariant = { λ calls. AreCallsOf (meanings_of P.ProvideCredential S.SignRequest) calls.signer calls.states.items };
+    ghost invariant = { λ calls.
+        AreCallsOf (meanings_of P.ProvideCredential S.SignRequest) calls.signer calls.states.items };
 }
 
 /// How far a call is after a poll.
@@ -215,8 +216,8 @@ fn number_of(call: Option<CallId>) -> Option<usize> {
     }
 }
 
-/// Signs one request at this second with a signer that has begun no call. None where the call is not begun, or does not
-/// end.
+/// Signs one request at this second with a signer that has begun no call. None where the call
+/// is not begun, or does not end.
 pub(crate) fn signed<P, S>(
     alloc: Global,
     signer: Signer<P, S>,

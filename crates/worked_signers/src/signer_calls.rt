@@ -3,8 +3,9 @@
 //! Two things are not tried, since no caller can bring them about. The state of a call that was cancelled
 //! cannot be polled: `cancel` takes it. And call numbers are used up after 2^64 - 1 calls only.
 //!
-//! A body that owns a signer, a request or an answer ends in `drop`, which is one call. If the value went out of scope
-//! instead, the drops of all its parts would stand at each exit of that body, and proving them takes long.
+//! A body that owns a signer, a request or an answer ends in `drop`, which is one call. If the
+//! value went out of scope instead, the drops of all its parts would stand at each exit of that
+//! body, and proving them takes long.
 ghost use Rattle.std.specs.Prelude.{◌≡◌, ◌<◌, length, IfSome, IsTrue};
 ghost use Rattle.desk_driver.specs.ProviderList.{AreFew};
 
@@ -442,7 +443,8 @@ where
     P: ProvideCredential,
     P::Credential: SigningCredential,
     S: SignRequest<Credential = P::Credential, Ctx = P::Ctx>,
-    ensures { IsTrue result → (0 < length signer.now.desk.handles) × (length signer.now.desk.handles < 4294967295) }
+    ensures { IsTrue result
+        → (0 < length signer.now.desk.handles) × (length signer.now.desk.handles < 4294967295) }
 {
     let handles = signer.desk().handles();
     0 < handles && handles < u32::MAX

@@ -34,7 +34,8 @@ impl LineCommand for Lengths {
       read = λ items line. if slice_index line 0 == 33 then Err tt else Ok (length line);
       cause_text = λ cause. codes "not allowed";
       cause_line = λ cause. None;
-      answer = λ items item. if item == 0 then [] else decimal (length items + 1) ++ (codes ": " ++ (decimal item ++ newline ∷ []));
+      answer = λ items item. if item == 0 then []
+      else decimal (length items + 1) ++ (codes ": " ++ (decimal item ++ newline ∷ []));
       closing = λ items. Ok (decimal (length items) ++ codes " lines\n");
     } };
 

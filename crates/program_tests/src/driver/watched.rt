@@ -1,6 +1,6 @@
-//! A source that looks at each read how much was written to its sink, in a word that they share, and a sink that
-//! may fail. Both count their calls. What they count as faults stands at its greatest number, so any call may
-//! fail.
+//! A source that looks at each read how much was written to its sink, in a word that they share, and a
+//! sink that may fail. Both count their calls. What they count as faults stands at its greatest
+//! number, so any call may fail.
 ghost use Rattle.std.specs.Prelude.{None};
 ghost use Rattle.sign_base.specs.Faults.{last_count};
 

@@ -48,7 +48,8 @@ impl Rounds {
     /// Plays the rounds of so many calls.
     pub(crate) fn play_all(&mut self, alloc: Global, calls: u64) -> Result<(), NoMemory<()>>
         requires { calls ≤ most_calls }
-        ensures { OnOk result (RoundsRepresent self.old [] → RoundsRepresent self.new (load_transcript calls)) }
+        ensures { OnOk result
+            (RoundsRepresent self.old [] → RoundsRepresent self.new (load_transcript calls)) }
     {
         for round in 0..(calls + 7) / 8 {
             let list = calls_in_round(alloc, calls, round)?;

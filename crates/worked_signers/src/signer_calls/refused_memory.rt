@@ -53,7 +53,8 @@ fn is_signed(answer: &CallAnswer, req: &Parts, load: &[u8]) -> bool {
     }
 }
 
-/// How many calls are signed with the key of this load. None where an allocation failed before the first call.
+/// How many calls are signed with the key of this load. None where an allocation
+/// failed before the first call.
 fn signed_calls(alloc: Global, source: Source, load: &[u8]) -> Option<u32> {
     let mut reqs = requests(alloc)?;
     let signed = signed_requests(alloc, source, reqs.as_mut_slice(), load);
@@ -106,7 +107,8 @@ fn served(
     Some(signed)
 }
 
-/// All are signed with the first load, or, where that fails, all but the call that asked for it with the second.
+/// All are signed with the first load, or, where that fails, all but the call that
+/// asked for it with the second.
 #[test]
 fn a_refused_allocation_loses_no_call(rt: HostRuntime) {
     for (source, load, count) in [
