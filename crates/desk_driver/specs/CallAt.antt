@@ -16,7 +16,7 @@ record_of begun stage answers = record {
   stage = stage;
   head = begun.head;
   expires_in = begun.expires_in;
-  answers = answers
+  answers = answers;
 }
 
 -- the desk has the call at this stage, after so many answers

@@ -31,7 +31,7 @@ module _ {R K D Q H : Type 0} where
   live_effect desk view reply = record {
     reply = reply;
     desk = desk;
-    live = option_map (as_viewed view) (find_call view.call desk.calls)
+    live = option_map (as_viewed view) (find_call view.call desk.calls);
   }
 
   -- the call is over

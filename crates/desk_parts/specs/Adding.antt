@@ -11,7 +11,7 @@ abbrev pub with_cache : {K D Q H : Type 0} → Loader → Q → DeskTables K D Q
 with_cache loader queue desk = record desk {
   loaders = desk.loaders ++ loader ∷ [];
   caches = desk.caches ++ None ∷ [];
-  queues = desk.queues ++ queue ∷ []
+  queues = desk.queues ++ queue ∷ [];
 }
 
 -- the desk with one more rule
@@ -22,7 +22,7 @@ with_rule rule desk = record desk { rules = desk.rules ++ rule ∷ [] }
 abbrev pub with_handle : {K D Q H : Type 0} → ℕ → ℕ → DeskTables K D Q H → DeskTables K D Q H
 with_handle cache rule desk = record desk {
   handles = desk.handles ++ record { cache = cache; rule = rule } ∷ [];
-  greatest = desk.greatest ++ None ∷ []
+  greatest = desk.greatest ++ None ∷ [];
 }
 
 -- why nothing may be added any more, where a begin was accepted

@@ -14,7 +14,7 @@ stored_view call handle live = record {
   rule = handle.rule;
   stage = live.stage;
   expires_in = live.expires_in;
-  answers = live.answers
+  answers = live.answers;
 }
 
 -- the same, where handle and record are there

@@ -55,7 +55,7 @@ module _ {P G K C : Type 0} where
     pub setup : setup_of granter.desk ≡ record {
       loaders = loader_for loader ∷ [];
       rules = service ∷ [];
-      handles = record { cache = 0; rule = 0 } ∷ []
+      handles = record { cache = 0; rule = 0 } ∷ [];
     }
     pub represents : GrantRepresents policy granter.desk []
     pub providers_are : granter.providers ≡ loader ∷ []

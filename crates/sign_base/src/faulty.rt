@@ -80,7 +80,7 @@ impl FaultySource {
         ensures { result ≡ record {
           left = bytes.items;
           piece = piece;
-          plan = record { fails = fails.items; calls = 0; faults = 0 }
+          plan = record { fails = fails.items; calls = 0; faults = 0 };
         } }
     {
         FaultySource {
@@ -150,7 +150,7 @@ impl FaultySink {
           holds = [];
           room = room;
           piece = piece;
-          plan = record { fails = fails.items; calls = 0; faults = 0 }
+          plan = record { fails = fails.items; calls = 0; faults = 0 };
         }) }
         ensures back { IfErr result (λ e. e.back ≡ fails) }
     {

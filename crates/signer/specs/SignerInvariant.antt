@@ -47,7 +47,7 @@ module _ {P S K C : Type 0} where
     pub setup : setup_of signer.desk ≡ record {
       loaders = loader_for loader ∷ [];
       rules = service ∷ [];
-      handles = record { cache = 0; rule = 0 } ∷ []
+      handles = record { cache = 0; rule = 0 } ∷ [];
     }
     pub represents : Represents policy signer.desk []
     pub providers_are : signer.providers ≡ loader ∷ []

@@ -14,7 +14,7 @@ begun_head = record {
   method = codes "GET";
   uri = codes "https://e.x/a";
   version = V11;
-  headers = record { name = codes "x-original"; value = codes "v" } ∷ []
+  headers = record { name = codes "x-original"; value = codes "v" } ∷ [];
 }
 
 -- the head that the service makes
@@ -23,7 +23,7 @@ made_head = record {
   method = codes "POST";
   uri = codes "https://e.x/a?auth=1";
   version = V2;
-  headers = record { name = codes "authorization"; value = codes "signed" } ∷ []
+  headers = record { name = codes "authorization"; value = codes "signed" } ∷ [];
 }
 
 -- the begun method and version, with the service's URI and headers
@@ -32,7 +32,7 @@ signed_head = record {
   method = codes "GET";
   uri = codes "https://e.x/a?auth=1";
   version = V11;
-  headers = record { name = codes "authorization"; value = codes "signed" } ∷ []
+  headers = record { name = codes "authorization"; value = codes "signed" } ∷ [];
 }
 
 -- what the provider finds
