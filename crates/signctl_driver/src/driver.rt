@@ -38,22 +38,14 @@ pub fn drive<C: LineCommand, S: Source, D: Sink>(
         Err(_) => return Status::OutOfMemory,
     };
     let mut service = Service::new(alloc, command);
-    // The reader is dropped by one call before each return, and not part by part there.
     'lines: loop {
         if service.write_out(reader.needs_read(), sink).is_err() {
-            drop(reader);
             return Status::WriteFault;
         }
         match service.take(alloc, reader.next(source)) {
-            Err(_) => {
-                drop(reader);
-                return Status::OutOfMemory;
-            }
+            Err(_) => return Status::OutOfMemory,
             Ok(None) => {}
-            Ok(Some(status)) => {
-                drop(reader);
-                return service.finish(status, sink);
-            }
+            Ok(Some(status)) => return service.finish(status, sink),
         }
     }
 }
