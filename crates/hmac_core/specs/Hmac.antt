@@ -34,4 +34,4 @@ key_block hash key = filled_block (short_key hash key)
 abbrev pub hmac_of : (List ℕ → List ℕ) → List ℕ → List ℕ → List ℕ
 hmac_of hash key text =
     hash (masked_block outer_mask (key_block hash key)
-        ++ hash (masked_block inner_mask (key_block hash key) ++ text))
+    ++ hash (masked_block inner_mask (key_block hash key) ++ text))
