@@ -60,4 +60,4 @@ abbrev pub ChainReady : {P L : Type 0} → (P → L → Type 0) → (P → L →
 ChainReady started ready providers load =
     MatchOption load.open_load (AllStartReady started ready (drop load.place providers))
     (λ l. IsSomeAnd (slice_get providers load.place) (λ p. ready p l)
-        × AllStartReady started ready (drop (load.place + 1) providers))
+    × AllStartReady started ready (drop (load.place + 1) providers))

@@ -44,7 +44,7 @@ pub record IsGrantStep {K D : Type 0} (policy : Policy K D) (event : GrantEvent 
       → GrantRepresents policy new (entries ++ record { event = event; reply = reply } ∷ [])
   pub expected : (entries : List (GrantEntry K)) → GrantRepresents policy old entries
       → IsLegalGrantEntry policy (setup_of old) (committed_grants entries)
-          (record { event = event; reply = reply })
+      (record { event = event; reply = reply })
   pub causes : IsGrantCaused (grant_cause_of policy old event) reply
   pub caches : SourcesAfter event reply old new
   pub setup : setup_of new ≡ setup_of old

@@ -277,11 +277,11 @@ impl<K: SigningCredential, D: DeadlineRule<Credential = K>> GrantDesk<K, D> {
         ensures replies { IfOk result (λ replies. length replies.items ≡ length events.now) }
         ensures steps { IfOk result (λ replies.
             AreGrantSteps (policy_of K.valid K.valid_at D.deadline)
-                events.now replies.items self.old self.new) }
+            events.now replies.items self.old self.new) }
         ensures represents { IfOk result (λ replies. (entries : List (GrantEntry K))
             → GrantRepresents (policy_of K.valid K.valid_at D.deadline) self.old entries
             → GrantRepresents (policy_of K.valid K.valid_at D.deadline) self.new
-                (entries ++ paired_grants events.now replies.items)) }
+            (entries ++ paired_grants events.now replies.items)) }
         ensures setup { setup_of self.new ≡ setup_of self.old }
         ensures unchanged { OnErr result (self.new ≡ self.old) }
         ensures none { events.now ≡ [] → IsOk result }

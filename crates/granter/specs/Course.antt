@@ -138,13 +138,13 @@ module _ {K D L W : Type 0} (v : PolledCall K D L W) where
         → (ClonesAreFree v.clones_freely → RunsOutAtBegins event answered)
         → EndsBy v.meaning state event answered end
         → IsCourse state old
-            (record { entries = record { event = event; reply = answered } ∷ []; end = end }) new
+        (record { entries = record { event = event; reply = answered } ∷ []; end = end }) new
     goes_on : (state next : CallState K L W) (old between new : GrantState K D) (event : GrantEvent K)
         (answered : GrantReply K) (run : PollRun K L W)
         → IsGiven state event → IsGrantStep v.policy event old answered between
         → state_after answered ≡ Some next → IsCourse next between run new
         → IsCourse state old
-            (record { entries = record { event = event; reply = answered } ∷ run.entries; end = run.end }) new
+        (record { entries = record { event = event; reply = answered } ∷ run.entries; end = run.end }) new
 
 module _ {P G K C L W : Type 0} where
   -- the answer is that of the end
@@ -185,10 +185,5 @@ pub record IsGrantPoll {P G K C D L W : Type 0} (v : PolledCall K D L W) (state 
 -- the call that is polled, with these objects
 abbrev pub polled_call : {P G K C L W : Type 0} → Policy K G → (K → Type 0) → Meanings P G K C L W
     → Objects P G C → BegunCall → ℤ → PolledCall K G L W
-polled_call policy clones_freely m objects begun now = record {
-  policy = policy;
-  clones_freely = clones_freely;
-  meaning = call_meaning m begun objects;
-  begun = begun;
-  now = now
-}
+polled_call policy clones_freely m objects begun now =
+    record { policy = policy; clones_freely = clones_freely; meaning = call_meaning m begun objects; begun = begun; now = now }

@@ -151,7 +151,7 @@ where
         ensures added { OnOk result (IfSome (slice_get self.old.desk.handles handle) (λ like.
             IfSome (slice_get self.old.desk.loaders like.cache) (λ loads.
             self.new ≡ with_context_handle like loads
-                (slice_index self.old.provider_places like.cache) ctx self.old))) }
+            (slice_index self.old.provider_places like.cache) ctx self.old))) }
         ensures fresh { OnOk result (GrantRepresents
             (policy_of P.Credential.valid P.Credential.valid_at G.deadline) self.new.desk []) }
         ensures unchanged { IfErr result (λ refused. (refused.back ≡ ctx) × (self.new ≡ self.old)) }
@@ -233,7 +233,7 @@ where
         ensures answer { AddAnswerBack (late_refusal self.old.desk) (length self.old.desk.handles) result }
         ensures added { OnOk result (IfSome (slice_get self.old.desk.handles handle) (λ like.
             self.new ≡
-                with_service_handle like (slice_index self.old.context_places handle) granter self.old)) }
+            with_service_handle like (slice_index self.old.context_places handle) granter self.old)) }
         ensures fresh { OnOk result (GrantRepresents
             (policy_of P.Credential.valid P.Credential.valid_at G.deadline) self.new.desk []) }
         ensures unchanged { IfErr result (λ refused. (refused.back ≡ granter) × (self.new ≡ self.old)) }
@@ -263,8 +263,8 @@ where
         ensures ok { IfOk result
             (λ grant. (grant.begun.id.handle ≡ handle) × (grant.begun.expires_in ≡ expires_in)
             × Begins (meanings_of P.ProvideCredential G.GrantCredential.own)
-                (policy_of P.Credential.valid P.Credential.valid_at G.deadline)
-                (record { old = self.old; new = self.new }) grant) }
+            (policy_of P.Credential.valid P.Credential.valid_at G.deadline)
+            (record { old = self.old; new = self.new }) grant) }
         ensures err { IfErr result (RefusesToBegin self.old.begun) }
         ensures unchanged { OnErr result (self.new ≡ self.old) }
     {
@@ -294,10 +294,10 @@ where
         requires { IsGrantIssuedBy (meanings_of P.ProvideCredential G.GrantCredential.own) self.old grant }
         ensures poll { (o : Objects P G P.Ctx) → objects_of self.old grant.begun.id.handle ≡ Some o
             → IsGrantPoll
-                (polled_call (policy_of P.Credential.valid P.Credential.valid_at G.deadline)
-                    P.Credential.clones_freely (meanings_of P.ProvideCredential G.GrantCredential.own)
-                    o grant.begun now)
-                grant.state self.old.desk self.new.desk result }
+            (polled_call (policy_of P.Credential.valid P.Credential.valid_at G.deadline)
+            P.Credential.clones_freely (meanings_of P.ProvideCredential G.GrantCredential.own)
+            o grant.begun now)
+            grant.state self.old.desk self.new.desk result }
         ensures issued { IsAnswerIssuedBy (meanings_of P.ProvideCredential G.GrantCredential.own)
             self.new grant.begun.id result }
         ensures same { self.new ≡ record self.old { desk = self.new.desk } }

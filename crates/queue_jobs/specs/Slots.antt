@@ -74,7 +74,7 @@ module _ {Q A : Type 0} (queue : Slotted (Option PoolJob) (Doing PoolJob Hand) Q
         pub goes_on : GoesOn before after
         pub submitted : after.out_of_memory ≡ false
             → length after.submitter.jobs.items ≡
-                length before.submitter.jobs.items + share workers jobs place
+            length before.submitter.jobs.items + share workers jobs place
 
       -- the slot of this place when its thread has returned
       pub record IsRunSlot (place : ℕ) (slot : Slot) : Type 0 where

@@ -68,7 +68,7 @@ fitting_reply policy setup entries i (Begin call head expires_in) = Begun
 fitting_reply policy setup entries i (Poll call now) =
     if is_waiting (phase_of entries call) && has_turn setup entries i call
     then hold_reply setup entries i (Poll call now)
-        (progress_at policy setup entries i (look_input setup entries call now))
+    (progress_at policy setup entries i (look_input setup entries call now))
     else Pending
 fitting_reply policy setup entries i (Provided call now answer) =
     hold_reply setup entries i (Provided call now answer)

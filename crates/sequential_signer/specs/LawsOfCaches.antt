@@ -76,7 +76,7 @@ OneLoadServesAll K D =
     → IsLegal policy setup (before ++ found_entry call now c (Sign handed wake) ∷ after)
     → cache_of setup call ≡ Some i
     → ServesLooks (serves_at policy c) setup i
-        (before ++ found_entry call now c (Sign handed wake) ∷ []) after
+    (before ++ found_entry call now c (Sign handed wake) ∷ []) after
     → IsTrue (list_all (λ e. not (is_of_cache setup i (call_of e.event) && is_ask e.reply)) after)
 
 -- the credential that a reply hands out
@@ -94,7 +94,7 @@ CacheHoldsTheLastHandedOut K D =
     (policy : Policy K D) (setup : Setup D) (entries : List (Entry K)) (i : ℕ)
     → IsLegal policy setup entries
     → sequential_cache policy setup (committed_entries entries) i ≡
-        last_handed_out (entries_at setup i entries)
+    last_handed_out (entries_at setup i entries)
 
 -- a credential that is found and refused changes no cache
 abbrev pub RefusedRefreshIsNotCached : Type 0 → Type 0 → Type 0
@@ -112,4 +112,4 @@ FoundCredentialIsCached K D =
     → IsLegal policy setup (before ++ found_entry call now c (Sign handed wake) ∷ [])
     → cache_of setup call ≡ Some i
     → (handed ≡ c) × (sequential_cache policy setup
-        (committed_entries (before ++ found_entry call now c (Sign handed wake) ∷ [])) i ≡ Some c)
+    (committed_entries (before ++ found_entry call now c (Sign handed wake) ∷ [])) i ≡ Some c)

@@ -63,5 +63,5 @@ CancelledLoadLeavesTheCache K D =
     → cache_of setup call ≡ Some i
     → IsTrue (is_loading (phase_of (committed_entries (before ++ look_entry call now ∷ between)) call))
     → sequential_cache policy setup
-        (committed_entries (before ++ look_entry call now ∷ (between ++ cancel_entry call wake ∷ []))) i
+    (committed_entries (before ++ look_entry call now ∷ (between ++ cancel_entry call wake ∷ []))) i
     ≡ sequential_cache policy setup (committed_entries before) i

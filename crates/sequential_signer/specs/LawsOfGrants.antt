@@ -39,7 +39,7 @@ GrantedIsNotCached K D =
     (setup : Setup D) (entries : List (GrantEntry K)) (call : CallId) (now : ℤ) (answer : Made K)
     (reply : GrantReply K) (i : ℕ)
     → grant_source setup (entries ++ grant_entry (Granted call now answer) reply ∷ []) i ≡
-        grant_source setup entries i
+    grant_source setup entries i
 
 -- a source that is refused is not cached
 abbrev pub RefusedSourceIsNotCached : Type 0 → Type 0 → Type 0
@@ -47,7 +47,7 @@ RefusedSourceIsNotCached K D =
     (setup : Setup D) (entries : List (GrantEntry K)) (call : CallId) (now : ℤ) (answer : Answer K)
     (cause : GrantWhy) (i : ℕ)
     → grant_source setup (entries ++ grant_entry (Provided call now answer) (Refused cause) ∷ []) i ≡
-        grant_source setup entries i
+    grant_source setup entries i
 
 -- a source that is found and handed to the granter is what its call's cache holds, whatever it held before
 abbrev pub LastStoreStays : Type 0 → Type 0 → Type 0
@@ -104,4 +104,4 @@ ExpectedGrantRepliesAreLegal K D =
     → IsLegalGrant policy setup (expected_grant_entries policy setup events)
     × (grant_events_of (expected_grant_entries policy setup events) ≡ events)
     × (committed_grants (expected_grant_entries policy setup events) ≡
-        expected_grant_entries policy setup events)
+    expected_grant_entries policy setup events)

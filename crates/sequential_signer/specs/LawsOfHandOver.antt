@@ -72,7 +72,7 @@ SomebodyHasTheTurn K D =
     → IsLegal policy setup entries → cache_of setup call ≡ Some i
     → IsTrue (is_queued (phase_of (committed_entries entries) call))
     → (first : CallId) × (first_open setup (committed_entries entries) i ≡ Some first)
-        × IsTrue (has_turn setup (committed_entries entries) i first)
+    × IsTrue (has_turn setup (committed_entries entries) i first)
 
 -- a chain of no providers
 abbrev pub is_empty_chain : Loader → Bool
@@ -97,5 +97,5 @@ LoadsExactlyWhereTheLookFails K D =
     → IsTrue (is_waiting (phase_of (committed_entries entries) call))
     → IsTrue (has_turn setup (committed_entries entries) i call)
     → begins_load loader reply ≡ is_none
-        (cache_lookup policy (sequential_cache policy setup (committed_entries entries) i) rule
-            begin.duration now)
+    (cache_lookup policy (sequential_cache policy setup (committed_entries entries) i) rule
+    begin.duration now)

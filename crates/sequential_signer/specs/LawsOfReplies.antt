@@ -38,4 +38,4 @@ LegalRepliesAreExpected K D =
     (policy : Policy K D) (setup : Setup D) (entries : List (Entry K))
     → IsLegal policy setup entries
     → map (λ e. e.reply) (committed_entries entries) ≡
-        expected_replies policy setup (events_of (committed_entries entries))
+    expected_replies policy setup (events_of (committed_entries entries))

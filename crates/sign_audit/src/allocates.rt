@@ -20,7 +20,7 @@ pub(crate) fn allocates<K: SigningCredential, D: DeadlineRule<Credential = K>>(
     ensures { (entries : List (Entry K))
         → Represents (policy_of K.valid K.valid_at D.deadline) desk.now entries
         → result ≡ allocates (policy_of K.valid K.valid_at D.deadline) (setup_of desk.now)
-            (committed_entries entries) event.now }
+        (committed_entries entries) event.now }
 {
     match event {
         Event::Begin { .. } | Event::Poll { .. } => takes_memory(&desk.preview(event)),

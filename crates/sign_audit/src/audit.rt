@@ -91,7 +91,7 @@ impl<K: SigningCredential, D: DeadlineRule<Credential = K>> Audit<K, D> {
         ensures answer { (entries : List (Entry K))
             → AuditRepresents (policy_of K.valid K.valid_at D.deadline) self.old entries
             → AnswersTest (policy_of K.valid K.valid_at D.deadline) self.old entries
-                (FnReturnsAt F.Fn fits) missed event.now result self.new }
+            (FnReturnsAt F.Fn fits) missed event.now result self.new }
         ensures setup { setup_of self.new.desk ≡ setup_of self.old.desk }
     {
         if missed {
@@ -114,7 +114,7 @@ impl<K: SigningCredential, D: DeadlineRule<Credential = K>> Audit<K, D> {
         ensures expected { (entries : List (Entry K))
             → AuditRepresents (policy_of K.valid K.valid_at D.deadline) self.now entries
             → IsLegalEntry (policy_of K.valid K.valid_at D.deadline) (setup_of self.now.desk)
-                (committed_entries entries) (record { event = event.now; reply = result }) }
+            (committed_entries entries) (record { event = event.now; reply = result }) }
         ensures kind { IsTrue (is_reply_to event.now result) }
     {
         self.desk.preview(event)
@@ -125,7 +125,7 @@ impl<K: SigningCredential, D: DeadlineRule<Credential = K>> Audit<K, D> {
         ensures { (entries : List (Entry K))
             → AuditRepresents (policy_of K.valid K.valid_at D.deadline) self.now entries
             → result ≡ allocates (policy_of K.valid K.valid_at D.deadline) (setup_of self.now.desk)
-                (committed_entries entries) event.now }
+            (committed_entries entries) event.now }
     {
         allocates(&self.desk, event)
     }
@@ -154,7 +154,7 @@ impl<K: SigningCredential, D: DeadlineRule<Credential = K>> Audit<K, D> {
         ensures answer { (entries : List (Entry K))
             → AuditRepresents (policy_of K.valid K.valid_at D.deadline) self.old entries
             → AnswersMissed (policy_of K.valid K.valid_at D.deadline)
-                self.old entries event.now result self.new }
+            self.old entries event.now result self.new }
         ensures setup { setup_of self.new.desk ≡ setup_of self.old.desk }
     {
         if !allocates(&self.desk, event) {
@@ -180,7 +180,7 @@ impl<K: SigningCredential, D: DeadlineRule<Credential = K>> Audit<K, D> {
         ensures answer { (entries : List (Entry K))
             → AuditRepresents (policy_of K.valid K.valid_at D.deadline) self.old entries
             → HappensOr (policy_of K.valid K.valid_at D.deadline) self.old entries
-                (record { event = event.now; reply = expected.now }) result self.new }
+            (record { event = event.now; reply = expected.now }) result self.new }
         ensures setup { setup_of self.new.desk ≡ setup_of self.old.desk }
     {
         let call = call_of(event);
@@ -213,7 +213,7 @@ impl<K: SigningCredential + EqualByValue, D: DeadlineRule<Credential = K>> Audit
         ensures answer { (entries : List (Entry K))
             → AuditRepresents (policy_of K.valid K.valid_at D.deadline) self.old entries
             → AnswersEntry (policy_of K.valid K.valid_at D.deadline) self.old entries
-                (record { event = event.now; reply = claimed.now }) result self.new }
+            (record { event = event.now; reply = claimed.now }) result self.new }
         ensures setup { setup_of self.new.desk ≡ setup_of self.old.desk }
     {
         let missed = is_out_of_memory(claimed);
@@ -232,7 +232,7 @@ impl<K: SigningCredential + EqualByValue, D: DeadlineRule<Credential = K>> Audit
         ensures err { IfErr result (λ failed. (entries : List (Entry K))
             → AuditRepresents (policy_of K.valid K.valid_at D.deadline) self.old entries
             → FailsAt (policy_of K.valid K.valid_at D.deadline)
-                self.old entries claims.now failed.0 failed.1 self.new) }
+            self.old entries claims.now failed.0 failed.1 self.new) }
         ensures setup { setup_of self.new.desk ≡ setup_of self.old.desk }
     {
         for (place, entry) in claims.iter().enumerate() {

@@ -34,7 +34,7 @@ NeedsRead input = (input.closed ≡ None) × (taken input ≤ input_limit) × Is
 abbrev pub TakenByNeed : LineInput → List ℕ → Type 0
 TakenByNeed input bytes =
     (bytes ≡ []) ⊎ ((earlier : List ℕ) × (piece : List ℕ) × (bytes ≡ earlier ++ piece)
-        × NeedsRead (with_taken input earlier))
+    × NeedsRead (with_taken input earlier))
 
 -- only the first `input_limit` bytes are handed out, and at most one byte more is taken
 abbrev pub IsWithinLimit : LineInput → Type 0

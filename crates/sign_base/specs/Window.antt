@@ -16,5 +16,5 @@ abbrev pub ReadsPiece : {E : Type 0} → Option (List ℕ) → Option (List ℕ)
     → Result ℕ E → Type 0
 ReadsPiece before after old new result = MatchResult result
     (λ n. (piece : List ℕ) × (new ≡ old ++ piece) × (length piece ≡ n) × Consumes before after piece
-        × (n ≡ 0 → IsAtEnd after))
+    × (n ≡ 0 → IsAtEnd after))
     (λ _. (new ≡ old) × Keeps before after)

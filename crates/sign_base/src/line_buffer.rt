@@ -105,7 +105,7 @@ impl LineBuffer {
             (step_answer result self.new.line) self.new.input }
         ensures faults { self.old.input.closed ≡ None
             → CountsFault (is_fault (step_answer result self.new.line)) (S.faults source.old)
-                (S.faults source.new) }
+            (S.faults source.new) }
         ensures still { (NeedsRead self.old.input → ⊥) → source.new ≡ source.old }
     {
         if let Some(close) = self.closed {

@@ -51,6 +51,6 @@ hold_action hold view (Some (Asking provider)) =
     Does (live_effect hold.asking_desk (record view { stage = stage.Loading }) (Ask provider))
 hold_action hold view (Some (Over (HandOut credential) cached)) =
     Allocates (live_effect (hold.signing_desk credential) (record view { stage = stage.Signing })
-        (Sign credential hold.wake))
+    (Sign credential hold.wake))
 hold_action hold view (Some (Over (Refuse why) cached)) =
     Does (end_effect hold.ended_desk (Refused why hold.wake))

@@ -20,7 +20,7 @@ pub record IsStep {K D : Type 0} (policy : Policy K D) (event : Event K) (old : 
       → Represents policy new (entries ++ record { event = event; reply = reply } ∷ [])
   pub expected : (entries : List (Entry K)) → Represents policy old entries
       → IsLegalEntry policy (setup_of old) (committed_entries entries)
-          (record { event = event; reply = reply })
+      (record { event = event; reply = reply })
   pub causes : IsCaused (cause_of policy old event) reply
   pub caches : CachesAfter event reply old new
   pub setup : setup_of new ≡ setup_of old

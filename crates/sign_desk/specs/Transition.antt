@@ -35,7 +35,7 @@ abbrev pub first_poll_action : {K D : Type 0} → DeskState K D → LiveCallView
     → Option (Progress K) → Action K D
 first_poll_action desk view true look =
     Does (live_effect (with_queue (with_last view.call) view.cache desk)
-        (record view { stage = stage.Queued }) Pending)
+    (record view { stage = stage.Queued }) Pending)
 first_poll_action desk view false look = hold_action (first_hold desk view) view look
 
 -- a later poll of a call that waits, by whether it holds the lock

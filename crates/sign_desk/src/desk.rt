@@ -300,7 +300,7 @@ impl<K: SigningCredential, D: DeadlineRule<Credential = K>> Desk<K, D> {
         ensures expected { (entries : List (Entry K))
             → Represents (policy_of K.valid K.valid_at D.deadline) self.now entries
             → IsLegalEntry (policy_of K.valid K.valid_at D.deadline) (setup_of self.now)
-                (committed_entries entries) (record { event = event.now; reply = result }) }
+            (committed_entries entries) (record { event = event.now; reply = result }) }
         ensures causes { IsCaused
             (cause_of (policy_of K.valid K.valid_at D.deadline) self.now event.now) result }
         ensures kind { IsTrue (is_reply_to event.now result) }
@@ -337,7 +337,7 @@ impl<K: SigningCredential, D: DeadlineRule<Credential = K>> Desk<K, D> {
         ensures represents { IfOk result (λ replies. (entries : List (Entry K))
             → Represents (policy_of K.valid K.valid_at D.deadline) self.old entries
             → Represents (policy_of K.valid K.valid_at D.deadline) self.new
-                (entries ++ paired_entries events.now replies.items)) }
+            (entries ++ paired_entries events.now replies.items)) }
         ensures setup { setup_of self.new ≡ setup_of self.old }
         ensures unchanged { OnErr result (self.new ≡ self.old) }
         ensures none { events.now ≡ [] → IsOk result }

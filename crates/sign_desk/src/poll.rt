@@ -44,7 +44,7 @@ impl<K: SigningCredential, D: DeadlineRule<Credential = K>> State<K, D> {
         requires unpolled { view.stage ≡ Unpolled }
         ensures done { Performs
             (first_poll_action self.old view (is_held_line (line_at view.cache self.old.queues))
-                (desk_lookup (policy_of K.valid K.valid_at D.deadline) self.old now view))
+            (desk_lookup (policy_of K.valid K.valid_at D.deadline) self.old now view))
             view.call self.old result self.new }
         ensures memory { ClonesAreFree K.clones_freely → result ≢ OutOfMemory }
     {
@@ -74,7 +74,7 @@ impl<K: SigningCredential, D: DeadlineRule<Credential = K>> State<K, D> {
         requires { IsPlaced self.old view }
         ensures done { Performs
             (later_poll_action self.old view (is_first view.call (line_at view.cache self.old.queues))
-                (desk_lookup (policy_of K.valid K.valid_at D.deadline) self.old now view))
+            (desk_lookup (policy_of K.valid K.valid_at D.deadline) self.old now view))
             view.call self.old result self.new }
         ensures memory { ClonesAreFree K.clones_freely → result ≢ OutOfMemory }
     {

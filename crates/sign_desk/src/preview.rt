@@ -71,7 +71,7 @@ impl<K: SigningCredential, D: DeadlineRule<Credential = K>> State<K, D> {
         requires { IsPlaced self.now view }
         ensures done { Previews
             (first_poll_action self.now view (is_held_line (line_at view.cache self.now.queues))
-                (desk_lookup (policy_of K.valid K.valid_at D.deadline) self.now now view))
+            (desk_lookup (policy_of K.valid K.valid_at D.deadline) self.now now view))
             result }
         ensures memory { ClonesAreFree K.clones_freely → result ≢ OutOfMemory }
     {
@@ -94,7 +94,7 @@ impl<K: SigningCredential, D: DeadlineRule<Credential = K>> State<K, D> {
         requires { IsPlaced self.now view }
         ensures done { Previews
             (later_poll_action self.now view (is_first view.call (line_at view.cache self.now.queues))
-                (desk_lookup (policy_of K.valid K.valid_at D.deadline) self.now now view))
+            (desk_lookup (policy_of K.valid K.valid_at D.deadline) self.now now view))
             result }
         ensures memory { ClonesAreFree K.clones_freely → result ≢ OutOfMemory }
     {

@@ -67,7 +67,7 @@ impl<K: SigningCredential, D: DeadlineRule<Credential = K>> State<K, D> {
         requires queue { view.cache < length self.old.queues }
         ensures { TakesEffect
             (live_effect (waited_hold self.old view).ended_desk (record view { stage = Signing })
-                (Sign credential (waited_hold self.old view).wake))
+            (Sign credential (waited_hold self.old view).wake))
             view.call result self.new }
     {
         let wake = self.tables.leave(view.cache, view.call);

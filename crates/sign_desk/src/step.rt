@@ -132,7 +132,7 @@ impl<K: SigningCredential, D: DeadlineRule<Credential = K>> State<K, D> {
         requires { IsSome (find_call call self.old.calls) }
         ensures done { (candidate : Head) → candidate.uri ≡ uri → candidate.headers ≡ headers
             → Performs (accept_action self.old candidate (find_call call self.old.calls))
-                call self.old result self.new }
+            call self.old result self.new }
         ensures memory { result ≢ OutOfMemory }
     {
         let live = self.tables.take_record(call).unwrap();

@@ -97,7 +97,7 @@ IsFinishCause finished cause.Jobs = IsClearedPool finished → ⊥
 IsFinishCause finished (cause.Untrue worker at) =
     IsClearedPool finished
     × IsFirstBad finished.settled.journal.items finished.settled.passes.items
-        (lists_of finished.answers.items) worker at
+    (lists_of finished.answers.items) worker at
 
 -- a fact of what is handed back where nothing was finished
 abbrev pub IfEarly : {K D : Type 0} {k : Ghosts K} {d : RuleGhosts D K} → FinishRefused K D k d

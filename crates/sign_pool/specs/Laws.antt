@@ -40,4 +40,4 @@ DoneHeadsAreExpected K D =
     → IsLegal policy setup journal → IsCleared journal answers left submitted → Contains answers answer
     → IsTrueAnswer journal pass answer → answer.outcome ≡ Done
     → (receipt : Receipt K) × (head : Head) × Contains pass receipt
-        × IsSignedAsSubmitted policy setup journal submitted answer receipt head
+    × IsSignedAsSubmitted policy setup journal submitted answer receipt head

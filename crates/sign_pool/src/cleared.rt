@@ -30,7 +30,7 @@ pub(crate) fn is_cleared<K>(
     ensures { MatchBool result
         (IsCleared journal.now (joined (lists_of answers.now)) left.now (joined (lists_of submitted.now)))
         (IsCleared journal.now (joined (lists_of answers.now)) left.now (joined (lists_of submitted.now))
-            → ⊥) }
+        → ⊥) }
 {
     if !are_as_submitted(&index, submitted, left) {
         return false;
@@ -80,7 +80,7 @@ fn are_each_once(mut index: JobIndex, answers: &[Vec<Answer>], left: &[PoolJob])
     ensures { MatchBool result
         (IsPermutation (keys index) (answered_tickets (joined (lists_of answers.now)) ++ tickets_of left.now))
         (IsPermutation (keys index) (answered_tickets (joined (lists_of answers.now)) ++ tickets_of left.now)
-            → ⊥) }
+        → ⊥) }
 {
     if !claim_answers(&mut index, answers) {
         return false;

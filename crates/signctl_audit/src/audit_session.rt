@@ -130,7 +130,7 @@ impl AuditSession {
     fn setup_error(&self, there: bool) -> Option<AuditError>
         ensures { (so_far : Account) → RepresentsAccount self.now so_far
             → result ≡ script_error (setup_error (not (is_empty (events_in so_far.items))) there)
-                (overdue so_far.unclaimed) }
+            (overdue so_far.unclaimed) }
     {
         match setup_error(self.events > 0, there) {
             Some(why) => Some(AuditError::Line(why)),

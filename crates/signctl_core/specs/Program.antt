@@ -104,7 +104,7 @@ abbrev pub WritesOnce : {E : Type 0} → List ℕ → Stream E → Type 0
 WritesOnce text sink =
     (Appends (sink.holds sink.old) (sink.holds sink.new) text × (sink.faults sink.new ≡ sink.faults sink.old))
     ⊎ (AppendsPrefix (sink.holds sink.old) (sink.holds sink.new) text
-        × IsOneFault (sink.faults sink.old) (sink.faults sink.new))
+    × IsOneFault (sink.faults sink.old) (sink.faults sink.new))
 
 -- the exit status is that of a run that ended so. No two ends of a run have the same
 abbrev pub ExitsWith : ℕ → (Status → Type 0) → Type 0

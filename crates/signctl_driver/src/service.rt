@@ -109,7 +109,7 @@ impl<C: LineCommand> Service<C> {
         ensures { IfOk result (λ how. (how ≡ Some Status.Refused)
             × ((items : List C.Item) → HasServed C.represents self.old items
             → self.new.text.items ≡
-                self.old.text.items ++ bad_line (blamed C.command (length items + 1) cause))) }
+            self.old.text.items ++ bad_line (blamed C.command (length items + 1) cause))) }
     {
         let number = C::cause_line(&cause).unwrap_or(self.lines + 1);
         begin_bad_line(&mut self.text, number)?;

@@ -38,7 +38,7 @@ value_word value = with_escapes is_plain value
 abbrev pub escaped_byte : ℕ → ℕ → Option ℕ
 escaped_byte high low =
     option_and_then (λ h. option_and_then (λ l. if is_plain (16 * h + l) then None else Some (16 * h + l))
-        (hex_digit upper_a low)) (hex_digit upper_a high)
+    (hex_digit upper_a low)) (hex_digit upper_a high)
 
 -- these bytes with one more in front, where there are any
 abbrev pub with_first_byte : ℕ → Option (List ℕ) → Option (List ℕ)

@@ -182,7 +182,7 @@ fn next_byte(rest: &[u8]) -> Result<Option<(u8, &[u8])>, NotUnderstood>
     ensures { MatchResult result
         (λ o. MatchOption o (value_of rest.now ≡ Some [])
         (λ x. (value_of rest.now ≡ with_first_byte x.0 (value_of x.1.now))
-            × (length x.1.now < length rest.now)))
+        × (length x.1.now < length rest.now)))
         (λ e. value_of rest.now ≡ None) }
 {
     match rest {

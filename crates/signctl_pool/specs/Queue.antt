@@ -26,6 +26,6 @@ module _ (gate : GateMeaning ScriptCredential) (workers jobs : ℕ) where
   EndsQueue (end.Ended status.WriteFault) sink =
       (finished : Finished ScriptCredential ScriptRule) × IsFinishedQueue gate workers jobs finished
       × AppendsPrefix (sink.holds sink.old) (sink.holds sink.new)
-          (queue_line jobs finished.settled.journal.items)
+      (queue_line jobs finished.settled.journal.items)
   EndsQueue (end.Ended status.OutOfMemory) sink = sink.new ≡ sink.old
   EndsQueue _ sink = ⊥

@@ -40,7 +40,7 @@ abbrev pub queue_by_words : List ℕ → List ℕ → List ℕ → List ℕ → 
 queue_by_words word workers jobs capacity =
     if bytes_eq word (codes "queue")
     then queue_of (number_of most_workers workers) (number_of most_jobs jobs)
-        (number_of most_capacity capacity) else None
+    (number_of most_capacity capacity) else None
 
 -- the command that the words name: `pool`, workers and jobs, or `queue`, workers, jobs and capacity
 abbrev pub pool_named : List (List ℕ) → Option PoolCommand

@@ -22,10 +22,10 @@ pub(crate) fn books_line(
     requires answered { length (joined (lists_of finished.now.answers.items)) < 2 ^ 64 }
     ensures { IfOk result
         (λ line. line.items ≡ books_line
-            (length (joined (lists_of finished.now.submitted.items)))
-            (length (joined (lists_of finished.now.answers.items)))
-            (length finished.now.left.items)
-            (loads finished.now.settled.journal.items)) }
+        (length (joined (lists_of finished.now.submitted.items)))
+        (length (joined (lists_of finished.now.answers.items)))
+        (length finished.now.left.items)
+        (loads finished.now.settled.journal.items)) }
 {
     let calls = count_all(finished.submitted.as_slice());
     let answered = count_all(finished.answers.as_slice());

@@ -40,7 +40,7 @@ script_answer before (Says item) = answer_to (items_in before) item
 abbrev pub final_line_of : List ScriptLine → ℕ → List ℕ
 final_line_of lines i =
     with_newline (final_line (version_in lines) i
-        (sequential_cache script_policy (setup_in (items_in lines)) (transcript_of (items_in lines)) i))
+    (sequential_cache script_policy (setup_in (items_in lines)) (transcript_of (items_in lines)) i))
 
 -- those of the first caches, in order
 unfoldable pub final_lines_of : List ScriptLine → ℕ → List ℕ

@@ -82,7 +82,7 @@ FailsWith gives (work.Signed kept) e = RefusedAs (RefusesTarget kept) e
 FailsWith gives w e =
     ((candidate : Head) × gives (record { answer = polled.Failed e; candidate = candidate }))
     ⊎ ((candidate : Head) × gives (record { answer = polled.Ready tt; candidate = candidate })
-        × RefusedAs (RefusesTarget candidate) e)
+    × RefusedAs (RefusesTarget candidate) e)
 
 -- the verdict is the head that is kept, or one that the service gives
 abbrev pub IsVerdictGiven : {W : Type 0} → (SignOutcome → Type 0) → WorkState W → Verdict → Type 0
@@ -129,10 +129,10 @@ module _ {K L W : Type 0} where
   EndsBy m (Waiting candidate) event reply.Pending (Pends (Waiting same)) = Unit {0}
   EndsBy m (Waiting candidate) event reply.OutOfMemory (RunsOut (Waiting same)) = Unit {0}
   EndsBy m (Loading candidate provider l) (Provided call now (Found credential)) reply.OutOfMemory
-          (RunsOut left) =
+      (RunsOut left) =
       left ≡ Loading candidate provider (load.Found credential)
   EndsBy m (Signing credential w) (Signed call (verdict.Accepted candidate)) reply.OutOfMemory
-          (RunsOut left) =
+      (RunsOut left) =
       left ≡ Signing credential (work.Signed candidate)
   EndsBy m state (Signed call (verdict.Accepted candidate)) (reply.Done head) (Finishes signed) =
       signed ≡ candidate
@@ -175,13 +175,13 @@ module _ {K D L W : Type 0} (v : PolledCall K D L W) where
         → (ClonesAreFree v.clones_freely → RunsOutAtHeads event answered)
         → EndsBy v.meaning state event answered end
         → IsCourse state old
-            (record { entries = record { event = event; reply = answered } ∷ []; end = end }) new
+        (record { entries = record { event = event; reply = answered } ∷ []; end = end }) new
     goes_on : (state next : SignState K L W) (old between new : DeskState K D) (event : Event K)
         (answered : Reply K) (run : PollRun K L W)
         → IsGiven state event → IsStep v.policy event old answered between
         → state_after (candidate_of state) answered ≡ Some next → IsCourse next between run new
         → IsCourse state old
-            (record { entries = record { event = event; reply = answered } ∷ run.entries; end = run.end }) new
+        (record { entries = record { event = event; reply = answered } ∷ run.entries; end = run.end }) new
 
 -- the call that a reply names
 abbrev pub wake_in : {K : Type 0} → Reply K → Option CallId
@@ -242,10 +242,5 @@ pub record IsPoll {P S K C D L W : Type 0} (v : PolledCall K D L W) (state : Sig
 -- the call that is polled, with these objects
 abbrev pub polled_call : {P S K C L W : Type 0} → Policy K S → (K → Type 0) → Meanings P S K C L W
     → Objects P S C → BegunCall → ℤ → PolledCall K S L W
-polled_call policy clones_freely m objects begun now = record {
-  policy = policy;
-  clones_freely = clones_freely;
-  meaning = call_meaning m begun objects;
-  begun = begun;
-  now = now
-}
+polled_call policy clones_freely m objects begun now =
+    record { policy = policy; clones_freely = clones_freely; meaning = call_meaning m begun objects; begun = begun; now = now }

@@ -24,7 +24,7 @@ used_up = codes "call numbers are used up"
 abbrev pub RefusesToBegin : Parts → ℕ → ErrorParts → Type 0
 RefusesToBegin parts begun e =
     IsOutOfMemory e ⊎ (RefusedFor unknown_version (IsUnknownVersion parts.version) e
-        ⊎ RefusedFor used_up (begun ≡ 18446744073709551615) e)
+    ⊎ RefusedFor used_up (begun ≡ 18446744073709551615) e)
 
 -- a signer before and after one of its calls
 pub record SignerChange (P S K C : Type 0) : Type 0 where

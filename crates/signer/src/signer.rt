@@ -193,7 +193,7 @@ where
         ensures answer { AddAnswerBack (late_refusal self.old.desk) (length self.old.desk.handles) result }
         ensures added { OnOk result (IfSome (slice_get self.old.desk.handles handle) (λ like.
             self.new ≡
-                with_service_handle like (slice_index self.old.context_places handle) builder self.old)) }
+            with_service_handle like (slice_index self.old.context_places handle) builder self.old)) }
         ensures fresh { OnOk result
             (Represents (policy_of P.Credential.valid P.Credential.valid_at S.deadline) self.new.desk []) }
         ensures unchanged { IfErr result (λ refused. (refused.back ≡ builder) × (self.new ≡ self.old)) }
@@ -268,8 +268,8 @@ where
         ensures ok { IfOk result
             (λ sign. (sign.begun.id.handle ≡ handle) × (sign.begun.expires_in ≡ expires_in)
             × Begins (meanings_of P.ProvideCredential S.SignRequest.own)
-                (policy_of P.Credential.valid P.Credential.valid_at S.deadline)
-                (record { old = self.old; new = self.new }) req.now sign) }
+            (policy_of P.Credential.valid P.Credential.valid_at S.deadline)
+            (record { old = self.old; new = self.new }) req.now sign) }
         ensures err { IfErr result (RefusesToBegin req.now self.old.begun) }
         ensures unchanged { OnErr result (self.new ≡ self.old) }
     {
@@ -302,11 +302,11 @@ where
         requires { IsIssuedBy (meanings_of P.ProvideCredential S.SignRequest.own) self.old sign }
         ensures poll { (o : Objects P S P.Ctx) → objects_of self.old sign.begun.id.handle ≡ Some o
             → IsPoll
-                (polled_call (policy_of P.Credential.valid P.Credential.valid_at S.deadline)
-                    P.Credential.clones_freely (meanings_of P.ProvideCredential S.SignRequest.own)
-                    o sign.begun now)
-                sign.state self.old.desk self.new.desk
-                (record { poll = result; before = req.old; after = req.new }) }
+            (polled_call (policy_of P.Credential.valid P.Credential.valid_at S.deadline)
+            P.Credential.clones_freely (meanings_of P.ProvideCredential S.SignRequest.own)
+            o sign.begun now)
+            sign.state self.old.desk self.new.desk
+            (record { poll = result; before = req.old; after = req.new }) }
         ensures issued { IsAnswerIssuedBy (meanings_of P.ProvideCredential S.SignRequest.own)
             self.new sign.begun.id result.answer }
         ensures same { self.new ≡ record self.old { desk = self.new.desk } }

@@ -216,13 +216,13 @@ where
     }) desk.old (Signing credential (work_state.Signed candidate)) }
     ensures { (work : WorkState S.Work) → KeepsWork work (work_state.Signed candidate)
         → IsOutcomeWith (record {
-      policy = policy_of P.Credential.valid P.Credential.valid_at S.deadline;
-      clones_freely = P.Credential.clones_freely;
-      meanings = meanings_of P.ProvideCredential S.SignRequest.own;
-      objects = objects.now;
-      begun = begun.now;
-      now = _now;
-    }) (Signing credential work)
+          policy = policy_of P.Credential.valid P.Credential.valid_at S.deadline;
+          clones_freely = P.Credential.clones_freely;
+          meanings = meanings_of P.ProvideCredential S.SignRequest.own;
+          objects = objects.now;
+          begun = begun.now;
+          now = _now;
+        }) (Signing credential work)
         (record { old = desk.old; new = desk.new; before = req.old; after = req.new }) result }
 {
     match target_of(objects.alloc, &candidate, objects.keys) {

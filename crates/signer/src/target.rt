@@ -45,7 +45,7 @@ pub(crate) fn hand_in<K: SigningCredential, D: DeadlineRule<Credential = K>>(
         (record { old = desk.old; new = desk.new; before = req.old; after = req.new }) }
     ensures kept { IfSome result
         (λ head. IsKept (policy_of K.valid K.valid_at D.deadline) begun.now candidate head
-            (record { old = desk.old; new = desk.new; before = req.old; after = req.new })) }
+        (record { old = desk.old; new = desk.new; before = req.old; after = req.new })) }
     ensures others { LeavesOthers begun.now.id desk.old desk.new }
 {
     let (reply, back) = give_accepted(desk, begun, candidate);

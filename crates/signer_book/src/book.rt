@@ -76,8 +76,7 @@ impl<K: SigningCredential, D: DeadlineRule<Credential = K>> Book<K, D> {
         ensures journal { result ≢ OutOfMemory
             → self.new.journal ≡ self.old.journal ++ record { event = event.now; reply = result } ∷ [] }
         ensures receipt { result ≢ OutOfMemory → pass.new ≡ pass.old
-            ++ record { place = length self.old.journal;
-                entry = record { event = event.now; reply = result } } ∷ [] }
+            ++ record { place = length self.old.journal; entry = record { event = event.now; reply = result } } ∷ [] }
         ensures setup { setup_of self.new.desk ≡ setup_of self.old.desk }
         ensures book_unchanged { result ≡ OutOfMemory → self.new ≡ self.old }
         ensures pass_unchanged { result ≡ OutOfMemory → pass.new ≡ pass.old }
@@ -214,7 +213,7 @@ fn preview_entry<K: SigningCredential, D: DeadlineRule<Credential = K>>(
     ensures expected { IfSome result (λ entry. (entries : List (Entry K))
         → Represents (policy_of K.valid K.valid_at D.deadline) desk.now entries
         → entry.reply ≡ expected_reply (policy_of K.valid K.valid_at D.deadline) (setup_of desk.now)
-            (committed_entries entries) event.now) }
+        (committed_entries entries) event.now) }
     ensures kind { IfSome result (λ entry. IsTrue (is_reply_to event.now entry.reply)) }
     ensures causes { IfSome result (λ entry.
         IsCaused (cause_of (policy_of K.valid K.valid_at D.deadline) desk.now event.now) entry.reply) }

@@ -45,7 +45,7 @@ pub(crate) fn first_difference<K: EqualByValue>(
     requires { length passes.now < 4294967295 }
     ensures { MatchOption result (AreEntriesOf journal.now passes.now)
         (λ d. IsFirstAt (DiffersAt journal.now) passes.now d.pass d.at
-            × (place_at passes.now d.pass d.at ≡ Some d.place)) }
+        × (place_at passes.now d.pass d.at ≡ Some d.place)) }
 {
     for (number, pass) in passes.iter().enumerate() {
         let receipts = pass.receipts();

@@ -60,7 +60,7 @@ pub(crate) fn take_receipt_room<K>(
     ensures before { HasReceiptRoom receipts.new.items spare (vec_capacity receipts.new) }
     ensures after { IfSome result (λ after. (place : ℕ)
         → HasReceiptRoom (receipts.old.items ++ record { place = place; entry = entry.now } ∷ []) after
-            (vec_capacity receipts.new)) }
+        (vec_capacity receipts.new)) }
     ensures cancel { IsTrue (is_cancelled entry.now.reply)
         → is_open (call_of entry.now.event) receipts.old.items ≡ true → IsSome result }
 {

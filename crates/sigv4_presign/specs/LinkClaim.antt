@@ -28,7 +28,7 @@ GivesValues pieces None = are_shaped pieces ≡ false
 GivesValues pieces (Some values) =
     (are_shaped pieces ≡ true)
     × AreValues (value_in credential_name pieces) (value_in date_name pieces) (value_in expires_name pieces)
-        (value_in signature_name pieces) values
+    (value_in signature_name pieces) values
 
 -- the query is that of a link that claims this
 pub record IsClaimOf (query : List ℕ) (claim : LinkClaim) : Type 0 where
@@ -44,7 +44,7 @@ abbrev pub IsNoClaim : List ℕ → Type 0
 IsNoClaim query =
     (is_shaped query ≡ false)
     ⊎ ((moment_of_text (value_of query date_name) ≡ None)
-        ⊎ (expires_of_text (value_of query expires_name) ≡ None))
+    ⊎ (expires_of_text (value_of query expires_name) ≡ None))
 
 -- what a query claims, if it is that of a link
 abbrev pub GivesClaim : List ℕ → Option LinkClaim → Type 0

@@ -35,7 +35,7 @@ impl LineCommand for Lengths {
       cause_text = λ cause. codes "not allowed";
       cause_line = λ cause. None;
       answer = λ items item. if item == 0 then []
-      else decimal (length items + 1) ++ (codes ": " ++ (decimal item ++ newline ∷ []));
+          else decimal (length items + 1) ++ (codes ": " ++ (decimal item ++ newline ∷ []));
       closing = λ items. Ok (decimal (length items) ++ codes " lines\n");
     } };
 
