@@ -12,12 +12,8 @@ use Rattle.desk_parts.specs.declared.call_record.Stage.TheVariants.{Unpolled, Qu
 
 -- what a desk keeps of the call at this stage, after so many answers
 abbrev pub record_of : {H : Type 0} → BegunCall H → Stage → ℕ → CallRecord H
-record_of begun stage answers = record {
-  stage = stage;
-  head = begun.head;
-  expires_in = begun.expires_in;
-  answers = answers;
-}
+record_of begun stage answers =
+    record { stage = stage; head = begun.head; expires_in = begun.expires_in; answers = answers }
 
 -- the desk has the call at this stage, after so many answers
 abbrev pub IsAt : {K D Q H : Type 0} → BegunCall H → Stage → ℕ → DeskTables K D Q H → Type 0

@@ -35,10 +35,10 @@ with_source loader desk = with_cache loader tt desk
 pub record GrantRepresents {K D : Type 0} (policy : Policy K D) (desk : GrantState K D)
     (entries : List (GrantEntry K)) : Type 0 where
   pub legal : IsLegalGrant policy (setup_of desk) entries
-  pub caches : (i : ℕ) → slice_get desk.caches i ≡ option_map
-      (λ _. grant_source (setup_of desk) (committed_grants entries) i) (slice_get desk.loaders i)
-  pub greatest : (h : ℕ) → slice_get desk.greatest h ≡ option_map
-      (λ _. greatest_begun h (as_signer (committed_grants entries))) (slice_get desk.handles h)
+  pub caches : (i : ℕ) → slice_get desk.caches i ≡
+      option_map (λ _. grant_source (setup_of desk) (committed_grants entries) i) (slice_get desk.loaders i)
+  pub greatest : (h : ℕ) → slice_get desk.greatest h ≡
+      option_map (λ _. greatest_begun h (as_signer (committed_grants entries))) (slice_get desk.handles h)
   pub started : desk.started ≡ was_begun (as_signer (committed_grants entries))
   pub calls : (call : CallId) → option_map granted_view (find_call call desk.calls) ≡
       live_call (as_signer (committed_grants entries)) call

@@ -186,10 +186,4 @@ pub record IsGrantPoll {P G K C D L W : Type 0} (v : PolledCall K D L W) (state 
 abbrev pub polled_call : {P G K C L W : Type 0} → Policy K G → (K → Type 0) → Meanings P G K C L W
     → Objects P G C → BegunCall → ℤ → PolledCall K G L W
 polled_call policy clones_freely m objects begun now =
-    record {
-      policy = policy;
-      clones_freely = clones_freely;
-      meaning = call_meaning m begun objects;
-      begun = begun;
-      now = now;
-    }
+    record { policy = policy; clones_freely = clones_freely; meaning = call_meaning m begun objects; begun = begun; now = now }

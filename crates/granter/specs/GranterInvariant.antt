@@ -52,11 +52,7 @@ module _ {P G K C : Type 0} where
   -- a granter with one handle: an empty cache with these providers, this context and this service
   pub record IsNewGranter (policy : Policy K G) (ctx : C) (loader : Providers P) (service : G)
       (granter : GranterState P G K C) : Type 0 where
-    pub setup : setup_of granter.desk ≡ record {
-      loaders = loader_for loader ∷ [];
-      rules = service ∷ [];
-      handles = record { cache = 0; rule = 0 } ∷ [];
-    }
+    pub setup : setup_of granter.desk ≡ record { loaders = loader_for loader ∷ []; rules = service ∷ []; handles = record { cache = 0; rule = 0 } ∷ [] }
     pub represents : GrantRepresents policy granter.desk []
     pub providers_are : granter.providers ≡ loader ∷ []
     pub provider_places_are : granter.provider_places ≡ 0 ∷ []

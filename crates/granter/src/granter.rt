@@ -150,8 +150,8 @@ where
         ensures answer { AddAnswerBack (late_refusal self.old.desk) (length self.old.desk.handles) result }
         ensures added { OnOk result (IfSome (slice_get self.old.desk.handles handle) (λ like.
             IfSome (slice_get self.old.desk.loaders like.cache) (λ loads.
-            self.new ≡
-            with_context_handle like loads (slice_index self.old.provider_places like.cache) ctx self.old))) }
+            self.new ≡ with_context_handle like loads
+            (slice_index self.old.provider_places like.cache) ctx self.old))) }
         ensures fresh { OnOk result (GrantRepresents
             (policy_of P.Credential.valid P.Credential.valid_at G.deadline) self.new.desk []) }
         ensures unchanged { IfErr result (λ refused. (refused.back ≡ ctx) × (self.new ≡ self.old)) }

@@ -77,11 +77,7 @@ impl FaultySource {
     /// and fails exactly at the reads whose numbers, from 0, stand in `fails`.
     pub fn new(bytes: Vec<u8>, piece: usize, fails: Vec<u64>) -> FaultySource
         requires { 0 < piece }
-        ensures { result ≡ record {
-          left = bytes.items;
-          piece = piece;
-          plan = record { fails = fails.items; calls = 0; faults = 0 };
-        } }
+        ensures { result ≡ record { left = bytes.items; piece = piece; plan = record { fails = fails.items; calls = 0; faults = 0 } } }
     {
         FaultySource {
             bytes: MemorySource::new(bytes),
@@ -146,12 +142,7 @@ impl FaultySink {
         fails: Vec<u64>,
     ) -> Result<FaultySink, NoMemory<Vec<u64>>>
         requires { 0 < piece }
-        ensures ok { IfOk result (λ s. s ≡ record {
-          holds = [];
-          room = room;
-          piece = piece;
-          plan = record { fails = fails.items; calls = 0; faults = 0 };
-        }) }
+        ensures ok { IfOk result (λ s. s ≡ record { holds = []; room = room; piece = piece; plan = record { fails = fails.items; calls = 0; faults = 0 } }) }
         ensures back { IfErr result (λ e. e.back ≡ fails) }
     {
         let Ok(bytes) = MemorySink::new(alloc, room) else {

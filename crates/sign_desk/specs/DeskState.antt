@@ -34,10 +34,10 @@ pub record Represents {K D : Type 0} (policy : Policy K D) (desk : DeskState K D
   pub legal : IsLegal policy (setup_of desk) entries
   pub caches : (i : ℕ) → slice_get desk.caches i ≡ option_map
       (λ _. sequential_cache policy (setup_of desk) (committed_entries entries) i) (slice_get desk.loaders i)
-  pub queues : (i : ℕ) → slice_get desk.queues i ≡ option_map
-      (λ _. queue_of (setup_of desk) (committed_entries entries) i) (slice_get desk.loaders i)
-  pub greatest : (h : ℕ) → slice_get desk.greatest h ≡ option_map
-      (λ _. greatest_begun h (committed_entries entries)) (slice_get desk.handles h)
+  pub queues : (i : ℕ) → slice_get desk.queues i ≡
+      option_map (λ _. queue_of (setup_of desk) (committed_entries entries) i) (slice_get desk.loaders i)
+  pub greatest : (h : ℕ) → slice_get desk.greatest h ≡
+      option_map (λ _. greatest_begun h (committed_entries entries)) (slice_get desk.handles h)
   pub started : desk.started ≡ was_begun (committed_entries entries)
   pub calls : (call : CallId)
       → option_map live_view (find_call call desk.calls) ≡ live_call (committed_entries entries) call

@@ -40,11 +40,7 @@ absolute_form text =
     let authority = take (authority_len rest) rest in
     let tail = drop (authority_len rest) rest in
     then_some (is_scheme name && (is_authority authority && ((length tail == 0) || is_path_input tail)))
-    (record {
-      scheme = Some (normal_scheme name);
-      authority = Some authority;
-      path_and_query = kept_tail tail;
-    })
+    (record { scheme = Some (normal_scheme name); authority = Some authority; path_and_query = kept_tail tail })
 
 -- a text in its form
 unfoldable pub form_of : List ℕ → Option PlainTarget

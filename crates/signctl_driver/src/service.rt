@@ -56,8 +56,8 @@ impl<C: LineCommand> Service<C> {
             → (item : C.Item) × (line_outcome C.command items (answer_of next.entry) ≡ Good item)
             × HasServed C.represents self.new (items ++ item ∷ [])
             × (self.new.text.items ≡ self.old.text.items ++ C.command.answer items item) }
-        ensures ends { IfOk result
-            (λ how. IfSome how (λ status. (items : List C.Item) → HasServed C.represents self.old items
+        ensures ends { IfOk result (λ how. IfSome how (λ status. (items : List C.Item)
+            → HasServed C.represents self.old items
             → (closing : List ℕ) × (line_outcome C.command items (answer_of next.entry) ≡ Ends status closing)
             × (self.new.text.items ≡ self.old.text.items ++ closing))) }
         ensures fault { is_fault (answer_of next.entry) ≡ true → IsOk result }
@@ -86,8 +86,8 @@ impl<C: LineCommand> Service<C> {
             → (item : C.Item) × (reading_of C.command items line.now ≡ Ok item)
             × HasServed C.represents self.new (items ++ item ∷ [])
             × (self.new.text.items ≡ self.old.text.items ++ C.command.answer items item) }
-        ensures bad { IfOk result
-            (λ how. IfSome how (λ status. (items : List C.Item) → HasServed C.represents self.old items
+        ensures bad { IfOk result (λ how. IfSome how (λ status. (items : List C.Item)
+            → HasServed C.represents self.old items
             → (bad : BadLine) × (status ≡ Status.Refused) × (reading_of C.command items line.now ≡ Err bad)
             × (self.new.text.items ≡ self.old.text.items ++ bad_line bad))) }
     {

@@ -54,12 +54,9 @@ credential_in version words = do
   fresh ← moment_at version generation.1
   expires ← moment_at version fresh.1
   required ← moment_at version expires.1
-  at_end_of_line (record {
-    generation = generation.0;
-    fresh = fresh.0;
-    expires = expires.0;
-    required = required.0;
-  }) required.1
+  at_end_of_line
+      (record { generation = generation.0; fresh = fresh.0; expires = expires.0; required = required.0 })
+      required.1
 
 -- the headers that these words spell, all of them
 unfoldable pub fields_in : List (List ℕ) → Option (List Field)

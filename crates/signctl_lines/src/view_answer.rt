@@ -103,8 +103,8 @@ fn push_size(text: &mut Vec<u8>, size: usize) -> Result<(), NoMemory<()>>
 }
 
 fn push_names(text: &mut Vec<u8>, names: &[&str]) -> Result<(), NoMemory<()>>
-    ensures { OnOk result (text.new.items ≡ text.old.items
-        ++ with_newline (line_of (codes "names" ∷ map (λ name. name.now) names.now))) }
+    ensures { OnOk result (text.new.items ≡
+        text.old.items ++ with_newline (line_of (codes "names" ∷ map (λ name. name.now) names.now))) }
 {
     push(text, b"names")?;
     push_words(text, names)?;

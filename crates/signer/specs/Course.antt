@@ -243,10 +243,4 @@ pub record IsPoll {P S K C D L W : Type 0} (v : PolledCall K D L W) (state : Sig
 abbrev pub polled_call : {P S K C L W : Type 0} → Policy K S → (K → Type 0) → Meanings P S K C L W
     → Objects P S C → BegunCall → ℤ → PolledCall K S L W
 polled_call policy clones_freely m objects begun now =
-    record {
-      policy = policy;
-      clones_freely = clones_freely;
-      meaning = call_meaning m begun objects;
-      begun = begun;
-      now = now;
-    }
+    record { policy = policy; clones_freely = clones_freely; meaning = call_meaning m begun objects; begun = begun; now = now }

@@ -44,11 +44,7 @@ module _ {P S K C : Type 0} where
   -- a signer with one handle: an empty cache with these providers, this context and this service
   pub record IsNewSigner (policy : Policy K S) (ctx : C) (loader : Providers P) (service : S)
       (signer : SignerState P S K C) : Type 0 where
-    pub setup : setup_of signer.desk ≡ record {
-      loaders = loader_for loader ∷ [];
-      rules = service ∷ [];
-      handles = record { cache = 0; rule = 0 } ∷ [];
-    }
+    pub setup : setup_of signer.desk ≡ record { loaders = loader_for loader ∷ []; rules = service ∷ []; handles = record { cache = 0; rule = 0 } ∷ [] }
     pub represents : Represents policy signer.desk []
     pub providers_are : signer.providers ≡ loader ∷ []
     pub contexts_are : signer.contexts ≡ ctx ∷ []

@@ -76,10 +76,7 @@ impl<K: SigningCredential, D: DeadlineRule<Credential = K>> Book<K, D> {
         ensures journal { result ≢ OutOfMemory
             → self.new.journal ≡ self.old.journal ++ record { event = event.now; reply = result } ∷ [] }
         ensures receipt { result ≢ OutOfMemory → pass.new ≡ pass.old
-            ++ record {
-              place = length self.old.journal;
-              entry = record { event = event.now; reply = result };
-            } ∷ [] }
+            ++ record { place = length self.old.journal; entry = record { event = event.now; reply = result } } ∷ [] }
         ensures setup { setup_of self.new.desk ≡ setup_of self.old.desk }
         ensures book_unchanged { result ≡ OutOfMemory → self.new ≡ self.old }
         ensures pass_unchanged { result ≡ OutOfMemory → pass.new ≡ pass.old }
