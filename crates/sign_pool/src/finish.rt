@@ -112,14 +112,24 @@ where
             IsClosed (policy_of K.valid K.valid_at D.deadline) self.shared f × IsFinishCause f why
             × HandsOut self.queue submitters.items workers.items f.settled.passes.items f.answers.items f.left.items f.submitted.items)) }
     {
-        let Pool { shared, queue, .. } = self;
+        // What is taken apart is dropped by name, so that neither answer has to drop it part by part.
+        let Pool {
+            shared,
+            queue,
+            taken,
+            ..
+        } = self;
+        drop(taken);
         let (passes, answers) = hand_out_workers(workers, room.passes, room.answers);
         let submitted = hand_out_submitters(submitters, room.submitted);
         let closed = shared.close(passes);
         let left = take_rest(rt, &queue, room.left);
+        drop(queue);
         let settled = match closed {
             Ok(settled) => settled,
             Err(refused) => {
+                drop(room.index);
+                drop(room.notes);
                 return Err(FinishRefused::Close {
                     refused,
                     answers,

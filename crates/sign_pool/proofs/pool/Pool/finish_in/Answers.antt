@@ -22,8 +22,8 @@ returns-in-None-clause-closed g c =
       calls = calls-own c.args.workers.items c.in-Ok.settled.passes.items (closed.passes ∙ handed.passes) c.hand_out_workers-passes.result.1.items handed.answers c.in-Ok.settled.journal.items closed.settled;
     }
 
-pub returns-clause-uncleared : goal.returns-clause-uncleared
-returns-clause-uncleared g c =
+pub returns-in-Some-clause-uncleared : goal.returns-in-Some-clause-uncleared
+returns-in-Some-clause-uncleared g c =
     let handed = c.hand_out_workers-passes.ensures in
     let closed = c.in-Ok.ensures in (
       record {
