@@ -1,9 +1,10 @@
 //! Whether answers are what the journal says, by the notes of their calls.
-ghost use Rattle.std.specs.Prelude.{◌≡◌, ◌≢◌, ◌<◌, All, IsSome, MatchBool, MatchOption, Some, length};
+ghost use Rattle.std.specs.Prelude.{◌≡◌, ◌≢◌, ◌<◌, All, IsSome, MatchBool, MatchOption, None, Some, length};
 ghost use Rattle.signer_book.specs.Settled.{AreEntriesOf, IsEntryOf};
 ghost use Rattle.sign_pool.specs.Cleared.{joined, lists_of};
 ghost use Rattle.sign_pool.specs.Notes.{AreRead, HaveNotes, note_of};
 ghost use Rattle.sign_pool.specs.TrueAnswers.{AreGoodAnswers, IsFirstBad, IsFirstBadOf, IsGoodAnswer, IsReadFrom};
+ghost use Rattle.sign_pool.specs.declared.answer.Outcome.TheVariants.{OutOfMemory};
 
 use crate::answer::{Answer, Outcome};
 use crate::notes::CallNotes;
@@ -79,7 +80,7 @@ fn is_good<K>(notes: &CallNotes, journal: &[Entry<K>], pass: &[Receipt<K>], answ
         return false;
     };
     let Some(at) = answer.last else {
-        return note.last.is_none() && answer.outcome == Outcome::OutOfMemory;
+        return is_never_begun(note.last, answer.outcome);
     };
     let Some(receipt) = pass.get(at as usize) else {
         return false;
@@ -88,6 +89,13 @@ fn is_good<K>(notes: &CallNotes, journal: &[Entry<K>], pass: &[Receipt<K>], answ
         return false;
     }
     is_read_from(&receipt.entry.reply, answer.outcome)
+}
+
+/// Whether a call without a receipt has no entry, and ended for want of memory.
+fn is_never_begun(last: Option<u64>, outcome: Outcome) -> bool
+    ensures { MatchBool result ((last ≡ None) × (outcome ≡ OutOfMemory)) ((last ≡ None) × (outcome ≡ OutOfMemory) → ⊥) }
+{
+    last.is_none() && outcome == Outcome::OutOfMemory
 }
 
 /// Whether a call's last entry is at this place.

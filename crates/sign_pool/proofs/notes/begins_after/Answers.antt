@@ -2,7 +2,7 @@ use Rattle.std.proofs.Common.{take, sym, ◌∙◌, ap, subst, arith}
 use Rattle.sequential_signer.specs.declared.event.Entry.{Entry}
 use Rattle.sign_pool.specs.Notes.{AreBegins, IsBeginWith}
 use Rattle.sign_pool.specs.declared.notes.Begins.{Begins}
-use Rattle.sign_pool.proofs.CallNotes.{like-below, after-idle, after-first, after-differ, after-alike, after-unlike}
+use Rattle.sign_pool.proofs.CallNotes.{like-below, after-idle, after-first, after-differ, after-alike, after-unlike, read-within}
 use Rattle.sign_pool.proofs.notes.begins_after.Goals as goal
 
 pub returns-in_default : goal.returns-in_default
@@ -42,3 +42,9 @@ returns-in_default-begins-2 g c =
     let P : Begins → Type 0 = λ b. AreBegins c.args.call (take c.args.place c.args.journal.now) b in
     after-differ c.args.journal.now c.args.place c.args.call c.requires.about c.index-journal-place.result c.index-journal-place.is c.in-Begin.call c.in-Begin.head c.in-Begin.expires_in (ap (λ (x : Entry g.row.K.Denot). x.event) c.index-journal-place.is ∙ c.in-Begin.is)
     (subst P c.in_default-begins.is c.requires.begins)
+
+pub offset_bounds-journal-place : goal.offset_bounds-journal-place
+offset_bounds-journal-place g c = omega (arith, read-within c.args.journal.now c.args.place c.args.call c.requires.about)
+
+pub bounds-journal-place : goal.bounds-journal-place
+bounds-journal-place g c = read-within c.args.journal.now c.args.place c.args.call c.requires.about

@@ -1,11 +1,15 @@
-use Rattle.std.proofs.Common.{◌≡◌, ◌+◌, Option, Some, None, take, sym, ◌∙◌, subst, arith}
+use Rattle.std.proofs.Common.{◌≡◌, ◌+◌, List, [], Option, Some, None, take, sym, ◌∙◌, subst, arith}
 use Rattle.std.specs.Prelude.{IsSome, IfSome}
 use Rattle.std.specs.HashMap.{HashMap}
+use Rattle.std.proofs.lemmas.List.{take_all}
 use Rattle.std.proofs.lemmas.Option.{none-some}
+use Rattle.sequential_signer.specs.Transcript.{call_of}
+use Rattle.sequential_signer.specs.declared.event.Entry.{Entry}
+use Rattle.signer_book.proofs.Receipts.{some-at}
 use Rattle.wake_lock.specs.declared.CallId.{CallId}
-use Rattle.sign_pool.specs.Notes.{IsNoteOf, note_of}
+use Rattle.sign_pool.specs.Notes.{IsNoteOf, blank_note, note_of}
 use Rattle.sign_pool.specs.declared.notes.CallNote.{CallNote}
-use Rattle.sign_pool.proofs.CallNotes.{kept-more, noted-there, notes-after, notes-same, since-ok, none-other}
+use Rattle.sign_pool.proofs.CallNotes.{blank-read, kept-more, noted-there, notes-after, notes-same, since-ok, none-other}
 use Rattle.sign_pool.proofs.notes.note_journal.Goals as goal
 use Rattle.sign_pool.proofs.notes.note_journal.Goals.{in-Some, in_default}
 
@@ -44,3 +48,27 @@ loop-place-preserved g c = elim c.match-copied.branch [
       } in
       subst P (sym w.notes-is) (record { read = read; kept = c.loop-place.invariant.kept }))
 ]
+
+-- a blank note, where there is one, says what an empty journal has
+blank-here : (K : Type 0) (call : CallId) (o : Option CallNote) → IfSome o (λ n. n ≡ blank_note) → IfSome o (IsNoteOf {K = K} [] call)
+blank-here K call None h = tt
+blank-here K call (Some note) h = blank-read call note h
+
+pub loop-place-init : goal.loop-place-init
+loop-place-init g c = record {
+  read = λ q. blank-here g.row.K.Denot q (note_of c.args.notes.now q) (c.requires q);
+  kept = λ q had. had;
+}
+
+pub note_after-requires-clause-about : goal.note_after-requires-clause-about
+note_after-requires-clause-about g c =
+    some-at c.args.journal.now (λ (e : Entry g.row.K.Denot). call_of e.event ≡ c.call_of-call.result) c.loop-place.place c.index-journal-place.result c.loop-place-test.true c.index-journal-place.is
+    (sym c.call_of-call.ensures)
+
+pub returns-clause-read : goal.returns-clause-read
+returns-clause-read g c =
+    let P : List (Entry g.row.K.Denot) → Type 0 = λ l. (q : CallId) → IfSome (note_of c.loop-place.notes q) (IsNoteOf l q) in
+    subst P (take_all c.loop-place.place c.args.journal.now c.loop-place-test.false) c.loop-place.invariant.read
+
+pub returns-clause-kept : goal.returns-clause-kept
+returns-clause-kept g c = c.loop-place.invariant.kept

@@ -1,14 +1,16 @@
 use Rattle.std.proofs.Common.{◌≡◌, ℕ, ◌<◌, ◌+◌, List, [], ◌∷◌, ◌++◌, length, get_or, take, subst, sym, arith}
 use Rattle.std.specs.Prelude.{All, IsSome, IsSomeAnd, slice_get}
 use Rattle.std.specs.List.{AllZip}
+use Rattle.std.proofs.lemmas.List.{take_all}
+use Rattle.signer_book.specs.Settled.{IsEntryOf}
 use Rattle.signer_book.proofs.Receipts.{some-at}
 use Rattle.signer_book.specs.declared.pass.Receipt.{Receipt}
 use Rattle.sign_pool.specs.Cleared.{lists_of}
 use Rattle.sign_pool.specs.Notes.{note_of}
-use Rattle.sign_pool.specs.TrueAnswers.{IsGoodAnswer, IsFirstBadOf}
+use Rattle.sign_pool.specs.TrueAnswers.{AreGoodAnswers, IsGoodAnswer, IsFirstBadOf}
 use Rattle.sign_pool.specs.declared.answer.Answer.{Answer}
 use Rattle.sign_pool.proofs.CallNotes.{read-more}
-use Rattle.sign_pool.proofs.Joined.{all-of-list, list-read, lists-length}
+use Rattle.sign_pool.proofs.Joined.{all-at, all-of-list, list-read, lists-length}
 use Rattle.sign_pool.proofs.true_answers.first_bad.Goals as goal
 
 all_zip-push : {A B : Type 0} (R : A → B → Type 0) (xs : List A) (ys : List B) (x : A) (y : B) → AllZip R xs ys → R x y → AllZip R (xs ++ x ∷ []) (ys ++ y ∷ [])
@@ -51,3 +53,16 @@ loop-worker-preserved g c =
     c.index-passes-worker.is
     (list-read c.args.answers.now c.loop-worker.worker c.index-answers-worker.result c.as_slice-list.result.now (omega arith) c.index-answers-worker.is c.as_slice-list.ensures.value)
     c.loop-worker.invariant (subst P c.receipts.ensures c.in_default.ensures)
+
+pub first_bad_of-requires-clause-entries : goal.first_bad_of-requires-clause-entries
+first_bad_of-requires-clause-entries g c =
+    let P : List (Receipt g.row.K.Denot) → Type 0 = λ pass. All (IsEntryOf c.args.journal.now) pass in
+    subst P (sym c.receipts.ensures) (all-at P c.args.passes.now c.loop-worker.worker c.index-passes-worker.result c.loop-worker-test.true c.index-passes-worker.is c.requires.entries)
+
+pub returns : goal.returns
+returns g c =
+    let lists : List (List Answer) = lists_of c.args.answers.now in
+    let P : List (List (Receipt g.row.K.Denot)) → Type 0 = λ l. AreGoodAnswers c.args.journal.now l (take c.loop-worker.worker lists) in
+    let Q : List (List Answer) → Type 0 = λ l. AreGoodAnswers c.args.journal.now c.args.passes.now l in
+    subst Q (take_all c.loop-worker.worker lists (omega (arith, lists-length c.args.answers.now)))
+    (subst P (take_all c.loop-worker.worker c.args.passes.now c.loop-worker-test.false) c.loop-worker.invariant)

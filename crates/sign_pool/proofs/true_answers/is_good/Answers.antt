@@ -1,10 +1,19 @@
-use Rattle.std.proofs.Common.{rules, ◌≡◌, Some, length, refl, sym}
-use Rattle.std.specs.Prelude.{slice_get}
-use Rattle.std.proofs.lemmas.Option.{slice_get_read}
+use denote.Enum.Bare.{same_true}
+use Rattle.std.proofs.Common.{rules, ◌≡◌, Option, Some, None, List, ℕ, length, refl, sym, subst, arith}
+use Rattle.std.specs.Prelude.{slice_get, IsSome, IsSomeAnd, MatchOption}
+use Rattle.std.proofs.lemmas.Bool.{false≢true}
+use Rattle.std.proofs.lemmas.Option.{slice_get_read, slice_get_past}
+use Rattle.sequential_signer.specs.declared.event.Entry.{Entry}
 use Rattle.signer_book.specs.Settled.{IsEntryOf}
+use Rattle.signer_book.specs.declared.pass.Receipt.{Receipt}
+use Rattle.sign_pool.specs.contracts.answer.Outcome.{the_type}
 use Rattle.sign_pool.specs.Notes.{IsNoteOf, note_of}
-use Rattle.sign_pool.proofs.Books.{true-some, false-last, read-off}
-use Rattle.sign_pool.proofs.CallNotes.{decides-same, noted-there}
+use Rattle.sign_pool.specs.TrueAnswers.{HasNoneOf, IsReadFrom, IsReadOff, IsTrueAnswer}
+use Rattle.sign_pool.specs.declared.answer.Answer.{Answer}
+use Rattle.sign_pool.specs.declared.answer.Outcome.TheVariants.{OutOfMemory}
+use Rattle.sign_pool.specs.declared.notes.CallNote.{CallNote}
+use Rattle.sign_pool.proofs.Books.{true-some, true-none, false-last, false-noted, false-past, read-off}
+use Rattle.sign_pool.proofs.CallNotes.{decides-same, none-other, noted-there}
 use Rattle.sign_pool.proofs.Joined.{all-at}
 use Rattle.sign_pool.proofs.true_answers.is_good.Goals as goal
 
@@ -31,3 +40,39 @@ returns g c =
       search rules,
     ))
     c.is_read_from.ensures
+
+-- a true answer without a receipt is that there was no memory
+ends-unbegun : {K : Type 0} (journal : List (Entry K)) (pass : List (Receipt K)) (answer : Answer) → answer.last ≡ None → IsTrueAnswer journal pass answer → answer.outcome ≡ OutOfMemory
+ends-unbegun {K} journal pass answer e t =
+    let As : Option ℕ → Type 0 = λ last. MatchOption last (HasNoneOf answer.call journal × IsReadFrom {K = K} None answer.outcome) (λ at. IsSomeAnd (slice_get pass at) (IsReadOff journal answer)) in
+    (subst As e t).1
+
+pub returns-in_default : goal.returns-in_default
+returns-in_default g c = λ good.
+    let P : Option CallNote → Type 0 = λ o. IsSome o in
+    false≢true (subst P (sym c.in_default.ensures.value) c.requires.noted)
+
+pub returns-in_default-last : goal.returns-in_default-last
+returns-in_default-last g c =
+    let noted : IsNoteOf c.args.journal.now c.args.answer.now.call c.in-Some.note.now =
+    noted-there (note_of c.args.notes.now c.args.answer.now.call) c.in-Some.note.now (IsNoteOf c.args.journal.now c.args.answer.now.call) (sym c.in-Some.ensures.value) (c.requires.notes c.args.answer.now.call) in
+    decides-same c.is_never_begun.result _ _
+    (λ good. (
+      none-other c.in-Some.note.now.last (λ p at. false-noted c.args.journal.now c.args.pass.now c.args.answer.now c.in-Some.note.now noted c.in_default-last.is p at good.0),
+      ends-unbegun c.args.journal.now c.args.pass.now c.args.answer.now c.in_default-last.is good.0,
+    ))
+    (λ none. (
+      true-none c.args.journal.now c.args.pass.now c.args.answer.now c.in-Some.note.now noted c.in_default-last.is none.0 none.1,
+      (λ other. absurd (cc (none.1, other))),
+    ))
+    c.is_never_begun.ensures
+
+pub returns-in_default-get : goal.returns-in_default-get
+returns-in_default-get g c = λ good.
+    let noted : IsNoteOf c.args.journal.now c.args.answer.now.call c.in-Some.note.now =
+    noted-there (note_of c.args.notes.now c.args.answer.now.call) c.in-Some.note.now (IsNoteOf c.args.journal.now c.args.answer.now.call) (sym c.in-Some.ensures.value) (c.requires.notes c.args.answer.now.call) in
+    false-past c.args.journal.now c.args.pass.now c.args.answer.now c.in-Some.note.now noted c.in-Some-last.at c.in-Some-last.is
+    (slice_get_past c.args.pass.now c.in-Some-last.at (omega (arith, c.in_default-get.ensures.lookup))) good.0
+
+pub returns-then-eq : goal.returns-then-eq
+returns-then-eq g c = λ good. good.1 (same_true the_type (search rules) _ _ (sym c.if-eq.ensures))
