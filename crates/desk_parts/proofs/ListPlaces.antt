@@ -1,6 +1,5 @@
 -- Which places a list has.
-use Rattle.std.proofs.Common.{◌≡◌, ℕ, zero, suc, Bool, true, false, ◌<◌, ◌==◌, List, [], ◌∷◌, ◌++◌, Option, Some, None, is_some, option_map, slice_get, slice_set, get_or, length, refl, sym, ◌∙◌, ap, subst, IfSome, arith}
-use Rattle.std.proofs.lemmas.Option.{slice_get_read}
+use Rattle.std.proofs.Common.{◌≡◌, ℕ, zero, suc, Bool, true, false, ◌<◌, ◌==◌, List, [], ◌∷◌, ◌++◌, Option, Some, None, is_some, option_map, slice_get, slice_set, length, refl, sym, ◌∙◌, ap, subst, IfSome, arith}
 use Rattle.wake_lock.proofs.Truth.{same_number, other_number}
 use Rattle.sequential_signer.proofs.Places.{slice_get-set_same, slice_get-set_other}
 
@@ -29,10 +28,6 @@ both-more c (x ∷ xs) (z ∷ ys) y h (suc i) = both-more c xs ys y (λ k. h (su
 pub mapped-below : {A B : Type 0} (xs : List A) (i : ℕ) (x : A) (o : Option B) → slice_get xs i ≡ option_map (λ _. x) o → is_some o ≡ true → i < length xs
 mapped-below xs i x None e h = absurd (cc)
 mapped-below xs i x (Some y) e h = place-below xs i (ap is_some e)
-
--- the item at a place, as an index gives it of a list that is the same
-pub seen-at : {A : Type 0} (items all : List A) (i : ℕ) (x : A) → items ≡ all → i < length all → x ≡ get_or items i x → slice_get all i ≡ Some x
-seen-at items all i x same below is = slice_get_read all (length all) i x refl below (is ∙ ap (λ xs. get_or xs i x) same)
 
 -- what holds of an item that is there
 pub if-some : {A : Type 0} (P : A → Type 0) (o : Option A) → ((x : A) → o ≡ Some x → P x) → IfSome o P
