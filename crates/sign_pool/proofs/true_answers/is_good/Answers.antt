@@ -1,4 +1,3 @@
-use denote.Enum.Bare.{same_true}
 use Rattle.std.proofs.Common.{rules, ◌≡◌, Option, Some, None, List, ℕ, length, refl, sym, subst, arith}
 use Rattle.std.specs.Prelude.{slice_get, IsSome, IsSomeAnd, MatchOption}
 use Rattle.std.proofs.lemmas.Bool.{false≢true}
@@ -6,7 +5,6 @@ use Rattle.std.proofs.lemmas.Option.{slice_get_read, slice_get_past}
 use Rattle.sequential_signer.specs.declared.event.Entry.{Entry}
 use Rattle.signer_book.specs.Settled.{IsEntryOf}
 use Rattle.signer_book.specs.declared.pass.Receipt.{Receipt}
-use Rattle.sign_pool.specs.contracts.answer.Outcome.{the_type}
 use Rattle.sign_pool.specs.Notes.{IsNoteOf, note_of}
 use Rattle.sign_pool.specs.TrueAnswers.{HasNoneOf, IsReadFrom, IsReadOff, IsTrueAnswer}
 use Rattle.sign_pool.specs.declared.answer.Answer.{Answer}
@@ -73,6 +71,3 @@ returns-in_default-get g c = λ good.
     noted-there (note_of c.args.notes.now c.args.answer.now.call) c.in-Some.note.now (IsNoteOf c.args.journal.now c.args.answer.now.call) (sym c.in-Some.ensures.value) (c.requires.notes c.args.answer.now.call) in
     false-past c.args.journal.now c.args.pass.now c.args.answer.now c.in-Some.note.now noted c.in-Some-last.at c.in-Some-last.is
     (slice_get_past c.args.pass.now c.in-Some-last.at (omega (arith, c.in_default-get.ensures.lookup))) good.0
-
-pub returns-then-eq : goal.returns-then-eq
-returns-then-eq g c = λ good. good.1 (same_true the_type (search rules) _ _ (sym c.if-eq.ensures))
