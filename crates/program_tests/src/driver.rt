@@ -96,13 +96,14 @@ const NONE: u64 = 99;
 
 /// An input, the length of its pieces, the read and the write that fail, and how often it reads and writes. A
 /// bad line stands in the first piece, or the source says once that it is at its end.
-const COUNTS: [(&[u8], usize, (u64, u64), (u64, u64, Status)); 11] = [
+const COUNTS: [(&[u8], usize, (u64, u64), (u64, u64, Status)); 12] = [
     (b"ab\n!c\nde\n", 6, (NONE, NONE), (1, 1, Status::Refused)),
     (b"ab\ncd\nef\n", 3, (NONE, NONE), (4, 4, Status::Done)),
     (b"ab\ncd", 3, (NONE, NONE), (3, 2, Status::Done)),
     (b"", 3, (NONE, NONE), (1, 1, Status::Done)),
     (b"ab\ncd\nef\n", 3, (0, NONE), (1, 0, Status::ReadFault)),
     (b"ab\ncd\nef\n", 3, (1, NONE), (2, 1, Status::ReadFault)),
+    (b"ab\ncd\nef\n", 3, (2, NONE), (3, 2, Status::ReadFault)),
     (b"ab\ncd\nef\n", 3, (3, NONE), (4, 3, Status::ReadFault)),
     (b"ab\ncd\nef\n", 3, (NONE, 0), (1, 1, Status::WriteFault)),
     (b"ab\ncd\nef\n", 3, (NONE, 2), (3, 3, Status::WriteFault)),

@@ -3,7 +3,8 @@
 use sequential_signer::{Event, Verdict};
 use sign_base::{Head, Timestamp};
 use signctl_format::{
-    Item, ScriptCredential, ScriptEvent, ScriptVersion, is_version_line, push_final, read_line,
+    Item, LineError, ReadError, ScriptCredential, ScriptEvent, ScriptVersion, is_version_line,
+    push_final, read_line,
 };
 use signctl_grant::read_grant_line;
 use std::alloc::Global;
@@ -241,7 +242,8 @@ fn long_line(rt: &impl Abort, alloc: Global, front: &[u8], digit: u8) -> Vec<u8>
 /// Whether a line that ends in so many digits is refused.
 fn is_refused(rt: &impl Abort, alloc: Global, front: &[u8], digit: u8) {
     let line = long_line(rt, alloc, front, digit);
-    assert!(rt; read(alloc, ScriptVersion::Two, line.as_slice()).is_none());
+    let item = read_line(alloc, ScriptVersion::Two, line.as_slice());
+    assert!(rt; matches!(item, Err(ReadError::NotUnderstood)));
 }
 
 #[test]
@@ -252,12 +254,13 @@ fn a_number_of_thousands_of_digits_is_refused(rt: HostRuntime) {
     }
 }
 
-/// The head that an item accepts.
-fn accepted(item: &Item<ScriptEvent>) -> Option<&Head> {
+/// The head that an item begins or accepts.
+fn head_in(item: &Item<ScriptEvent>) -> Option<&Head> {
     let Item::Event(event) = item else {
         return None;
     };
     match event.as_event() {
+        Event::Begin { head, .. } => Some(head),
         Event::Signed {
             answer: Verdict::Accepted(head),
             ..
@@ -266,16 +269,57 @@ fn accepted(item: &Item<ScriptEvent>) -> Option<&Head> {
     }
 }
 
-/// The value of the first header of the head that an item accepts.
-fn accepted_value(item: &Item<ScriptEvent>) -> Option<&[u8]> {
-    let field = accepted(item)?.headers.as_slice().first()?;
+/// The value of the header at this place of the head that an item begins or accepts.
+fn value_in(item: &Item<ScriptEvent>, place: usize) -> Option<&[u8]> {
+    let field = head_in(item)?.headers.as_slice().get(place)?;
     Some(field.value.as_slice())
 }
 
-/// Whether a line accepts a head whose first header has this value.
-fn is_accepted(rt: &impl Abort, alloc: Global, line: &[u8], value: &[u8]) {
-    let item = read_line(alloc, ScriptVersion::One, line).expect(rt, "an item");
-    assert!(rt; accepted_value(&item) == Some(value));
+/// Whether a line has a head whose header at this place has this value.
+fn has_value(
+    rt: &impl Abort,
+    alloc: Global,
+    version: ScriptVersion,
+    line: &[u8],
+    place: usize,
+    value: &[u8],
+) {
+    let item = read_line(alloc, version, line).expect(rt, "an item");
+    assert!(rt; value_in(&item, place) == Some(value));
+}
+
+/// Lines that begin a call, the place of a header, and its value.
+static VALUES: [(&str, usize, &str); 4] = [
+    ("begin 0 1 - GET https://e.x/a 1.1 x-original:v", 0, "v"),
+    ("begin 0 0 0 GET / 1.0 a:b a:b", 0, "b"),
+    ("begin 0 0 0 GET / 1.0 a:b a:b", 1, "b"),
+    ("begin 0 1 0.1 GET https://e.x/a 1.1 a:5.5", 0, "5.5"),
+];
+
+#[test]
+fn headers_of_a_begin_have_their_values(rt: HostRuntime) {
+    for (line, place, value) in &VALUES {
+        has_value(
+            &rt,
+            rt.alloc(),
+            ScriptVersion::Two,
+            line.as_bytes(),
+            *place,
+            value.as_bytes(),
+        );
+    }
+}
+
+#[test]
+fn causes_print(rt: HostRuntime) {
+    for (cause, wanted) in [
+        (LineError::NotUnderstood, "not understood"),
+        (LineError::Late, "late"),
+        (LineError::NoSuchCache, "no such cache"),
+    ] {
+        let text = format!(in rt.alloc(); "{cause}").expect(&rt, wanted);
+        is_item(&rt, text.as_str(), wanted);
+    }
 }
 
 #[test]
@@ -283,7 +327,14 @@ fn a_line_of_65_536_bytes_is_read(rt: HostRuntime) {
     let front = b"accept 0 1 GET / 1.1 name:";
     let line = long_line(&rt, rt.alloc(), front, b'9');
     let value = line.as_slice().get(front.len()..).unwrap_or(&[]);
-    is_accepted(&rt, rt.alloc(), line.as_slice(), value);
+    has_value(
+        &rt,
+        rt.alloc(),
+        ScriptVersion::One,
+        line.as_slice(),
+        0,
+        value,
+    );
 }
 
 /// A credential that has this moment thrice.

@@ -7,8 +7,8 @@ use std::alloc::{AllocError, Global};
 use std::process::Abort;
 use std::sync::atomic::{AtomicU64, Ordering};
 
-/// Each line is answered by one line.
-static LINES: [(&str, &str); 11] = [
+/// Each line but the remark is answered by one line.
+static LINES: [(&str, &str); 12] = [
     ("cache single", "cache 0\n"),
     ("handle 0 now", "handle 0\n"),
     ("begin 0 1 - GET https://e.x/ 1.1", "begun\n"),
@@ -20,6 +20,7 @@ static LINES: [(&str, &str); 11] = [
     ("found 0 1 6 1 900 1000 0", "sign 1 wake 0 2\n"),
     ("poll 0 2 7", "sign 1 wake 0 3\n"),
     ("poll 0 3 7", "sign 1\n"),
+    ("#", ""),
 ];
 
 /// What is cached in the end, after so many lines.

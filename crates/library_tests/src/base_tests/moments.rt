@@ -1,7 +1,9 @@
-//! Moments as texts: printed in four formats, read, and refused.
+//! Moments: printed in four formats, read, refused, and in order.
 use crate::told::{Told, error_told, is_told};
 use sign_base::{Error, Timestamp};
 use std::alloc::Global;
+use std::cmp::Ordering;
+use std::hash::{DefaultHasher, Hash, Hasher};
 use std::process::Abort;
 
 /// Seconds since 1970, and the four texts of the moment.
@@ -279,5 +281,34 @@ static READ: [(From, &str); 23] = [
 fn moments_are_read_or_refused(rt: HostRuntime) {
     for (from, wanted) in &READ {
         is_told(&rt, told(rt.alloc(), *from), *wanted);
+    }
+}
+
+/// Nanoseconds since 1970 of two moments, and their order.
+static ORDERS: [(i128, i128, Ordering); 4] = [
+    (0, 0, Ordering::Equal),
+    (7, 8, Ordering::Less),
+    (1, -1, Ordering::Greater),
+    (-2_000_000_000, -1_000_000_000, Ordering::Less),
+];
+
+fn hashed(moment: Timestamp) -> u64 {
+    let mut hasher = DefaultHasher::new();
+    moment.hash(&mut hasher);
+    hasher.finish()
+}
+
+/// Whether two moments have this order, and are equal and hash alike only where it says so.
+fn are_ordered(one: Timestamp, other: Timestamp, order: Ordering) -> bool {
+    let alike = order == Ordering::Equal;
+    one.cmp(&other) == order && (one == other) == alike && (hashed(one) == hashed(other)) == alike
+}
+
+#[test]
+fn moments_have_an_order(rt: HostRuntime) {
+    for (one, other, order) in &ORDERS {
+        let first = Timestamp::from_nanos(*one).expect(&rt, "a moment");
+        let second = Timestamp::from_nanos(*other).expect(&rt, "a moment");
+        assert!(rt; are_ordered(first, second, *order), "{one} {other}");
     }
 }

@@ -1,5 +1,6 @@
 //! The system's clock, reader and writer where they fail: the last reading stands, and nothing is
 //! tried again.
+use crate::told::{is_told, shown};
 use sign_base::{Clock, Failed, Sink, Source, StdSink, StdSource, SystemClock};
 use std::cell::Cell;
 use std::io::{Read, Write};
@@ -82,4 +83,10 @@ fn an_interrupted_call_is_not_tried_again(rt: HostRuntime) {
         assert!(rt; source.read(&mut buf) == *answer);
         assert!(rt; sink.write(b"abcd") == *answer);
     }
+    is_told(
+        &rt,
+        shown(rt.alloc(), &source),
+        "StdSource { faults: 1, .. }",
+    );
+    is_told(&rt, shown(rt.alloc(), &sink), "StdSink { faults: 1, .. }");
 }
