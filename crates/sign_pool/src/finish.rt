@@ -53,13 +53,13 @@ where
             × (close.plan ≡ self.shared)
             × Represents (policy_of K.valid K.valid_at D.deadline) close.book.desk close.book.journal
             × IsCloseCause self.shared close.book close.passes.items close.why
-            × HandsOut self.queue submitters.items workers.items close.passes.items answers.items left.items
-            submitted.items)) }
+            × HandsOut self.queue submitters.items workers.items
+            close.passes.items answers.items left.items submitted.items)) }
         ensures uncleared { IfErr result (λ r. IfUncleared r (λ f why.
             HasAllSeats self.submitters self.workers submitters.items workers.items
             × IsClosed (policy_of K.valid K.valid_at D.deadline) self.shared f × IsFinishCause f why
-            × HandsOut self.queue submitters.items workers.items f.settled.passes.items f.answers.items
-            f.left.items f.submitted.items)) }
+            × HandsOut self.queue submitters.items workers.items
+            f.settled.passes.items f.answers.items f.left.items f.submitted.items)) }
     {
         match self.take_room(submitters.as_slice(), workers.as_slice()) {
             Ok(room) => self.finish_in(rt, submitters, workers, room),
@@ -115,12 +115,12 @@ where
             (close.plan ≡ self.shared)
             × Represents (policy_of K.valid K.valid_at D.deadline) close.book.desk close.book.journal
             × IsCloseCause self.shared close.book close.passes.items close.why
-            × HandsOut self.queue submitters.items workers.items close.passes.items answers.items left.items
-            submitted.items)) }
+            × HandsOut self.queue submitters.items workers.items
+            close.passes.items answers.items left.items submitted.items)) }
         ensures uncleared { IfErr result (λ r. IfUncleared r (λ f why.
             IsClosed (policy_of K.valid K.valid_at D.deadline) self.shared f × IsFinishCause f why
-            × HandsOut self.queue submitters.items workers.items f.settled.passes.items f.answers.items
-            f.left.items f.submitted.items)) }
+            × HandsOut self.queue submitters.items workers.items
+            f.settled.passes.items f.answers.items f.left.items f.submitted.items)) }
     {
         // What is taken apart is dropped by name, so that neither answer has to drop it part by part.
         let Pool {

@@ -91,9 +91,10 @@ fn is_good<K>(notes: &CallNotes, journal: &[Entry<K>], pass: &[Receipt<K>], answ
     is_read_from(&receipt.entry.reply, answer.outcome)
 }
 
-/// Whether a call without a receipt has no entry, and ended for want of memory.
+/// Whether a call without a receipt has no entry, and ran out of memory.
 fn is_never_begun(last: Option<u64>, outcome: Outcome) -> bool
-    ensures { MatchBool result ((last ≡ None) × (outcome ≡ OutOfMemory)) ((last ≡ None) × (outcome ≡ OutOfMemory) → ⊥) }
+    ensures { MatchBool result ((last ≡ None) × (outcome ≡ OutOfMemory))
+        ((last ≡ None) × (outcome ≡ OutOfMemory) → ⊥) }
 {
     last.is_none() && outcome == Outcome::OutOfMemory
 }
