@@ -7,7 +7,8 @@ use Rattle.credentials.specs.Chain.{ChainGives, MayBePassedOver}
 use Rattle.credentials.specs.Law.{found_or, first_found, FindsOnly, FirstOrRest}
 
 module _ {P K : Type 0} (gives : P → Polled (Option K) → Type 0) where
-  pub first-or-rest : (p : P) (ps : List P) (answer : Option K) → ChainGives gives (p ∷ ps) (Ready answer) → FirstOrRest gives p ps answer
+  pub first-or-rest : (p : P) (ps : List P) (answer : Option K) → ChainGives gives (p ∷ ps) (Ready answer)
+      → FirstOrRest gives p ps answer
   first-or-rest p ps None all =
       inr (All-head (λ q. MayBePassedOver (gives q)) p ps all, All-tail (λ q. MayBePassedOver (gives q)) p ps all)
   first-or-rest p ps (Some c) ([], q, after, e, before, here) =
@@ -21,7 +22,8 @@ module _ {P K : Type 0} (gives : P → Polled (Option K) → Type 0) where
         (bs, q, after, rest, All-tail (λ r. MayBePassedOver (gives r)) b bs before, here),
       )
 
-  pub from-first-or-rest : (p : P) (ps : List P) (answer : Option K) → FirstOrRest gives p ps answer → ChainGives gives (p ∷ ps) (Ready answer)
+  pub from-first-or-rest : (p : P) (ps : List P) (answer : Option K) → FirstOrRest gives p ps answer
+      → ChainGives gives (p ∷ ps) (Ready answer)
   from-first-or-rest p ps None (inl h) = absurd h
   from-first-or-rest p ps None (inr h) = All-cons (λ q. MayBePassedOver (gives q)) p ps h.0 h.1
   from-first-or-rest p ps (Some c) (inl h) = ([], p, ps, refl, All-nil (λ q. MayBePassedOver (gives q)), h)
@@ -29,14 +31,16 @@ module _ {P K : Type 0} (gives : P → Polled (Option K) → Type 0) where
       (p ∷ before, q, after, ap (λ qs. p ∷ qs) e, All-cons (λ r. MayBePassedOver (gives r)) p before pass passed, here)
 
   -- what the first provider finds is the answer, and else what the others answer
-  pub found-first : (p : P) (ps : List P) (found : Option K) (others : Option K) (answer : Option K) → FindsOnly (gives p) found
-      → (ChainGives gives ps (Ready answer) → answer ≡ others) → FirstOrRest gives p ps answer → answer ≡ found_or found others
+  pub found-first : (p : P) (ps : List P) (found : Option K) (others : Option K) (answer : Option K)
+      → FindsOnly (gives p) found → (ChainGives gives ps (Ready answer) → answer ≡ others)
+      → FirstOrRest gives p ps answer → answer ≡ found_or found others
   found-first p ps found others None only rest (inl finds) = absurd finds
   found-first p ps found others (Some c) only rest (inl finds) = rw (only.0 c finds)
   found-first p ps found others answer only rest (inr (passed, h)) = rw (only.1 passed) (rest h)
 
-  pub answers-first : (found : P → Option K) (ps : List P) (answer : Option K) → All (λ p. FindsOnly (gives p) (found p)) ps
-      → ChainGives gives ps (Ready answer) → answer ≡ first_found found ps
+  pub answers-first : (found : P → Option K) (ps : List P) (answer : Option K)
+      → All (λ p. FindsOnly (gives p) (found p)) ps → ChainGives gives ps (Ready answer)
+      → answer ≡ first_found found ps
   answers-first found [] None only h = refl
   answers-first found [] (Some c) only ([], q, after, e, before, here) = cc
   answers-first found [] (Some c) only (b ∷ bs, q, after, e, before, here) = cc

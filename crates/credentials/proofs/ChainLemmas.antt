@@ -18,7 +18,8 @@ module _ {P : Type 0} where
       rw add-one (drop-cons xs k p (slice_get_within xs k p e) ∙ ap (λ q. q ∷ drop (suc k) xs) here)
 
   -- before the next place stand what stands before it and the item there
-  pub take-at : (xs : List P) (k : ℕ) (p : P) → slice_get xs k ≡ Some p → take (k + 1) xs ≡ take k xs ++ p ∷ []
+  pub take-at : (xs : List P) (k : ℕ) (p : P) → slice_get xs k ≡ Some p
+      → take (k + 1) xs ≡ take k xs ++ p ∷ []
   take-at xs k p e =
       let here : get_or xs k p ≡ p = get_or_from_slice_get xs k p p e in
       rw add-one (take-suc xs k p (slice_get_within xs k p e) ∙ ap (λ q. take k xs ++ q ∷ []) here)
@@ -29,18 +30,18 @@ module _ {P : Type 0} where
 
 module _ {P K : Type 0} (gives : P → Polled (Option K) → Type 0) where
   -- past a provider that may be passed over
-  pub passed-one-more : (xs : List P) (k : ℕ) (p : P) → slice_get xs k ≡ Some p → AllPassedOver gives (take k xs) → MayBePassedOver (gives p)
-      → AllPassedOver gives (take (k + 1) xs)
+  pub passed-one-more : (xs : List P) (k : ℕ) (p : P) → slice_get xs k ≡ Some p
+      → AllPassedOver gives (take k xs) → MayBePassedOver (gives p) → AllPassedOver gives (take (k + 1) xs)
   passed-one-more xs k p e before here = rw (take-at xs k p e) (All-push (λ q. MayBePassedOver (gives q)) (take k xs) p before here)
 
   -- the provider answers for the chain
-  pub first-gives : (xs : List P) (k : ℕ) (p : P) (answer : Polled (Option K)) → slice_get xs k ≡ Some p → AllPassedOver gives (take k xs)
-      → gives p answer → FirstGives gives xs answer
+  pub first-gives : (xs : List P) (k : ℕ) (p : P) (answer : Polled (Option K)) → slice_get xs k ≡ Some p
+      → AllPassedOver gives (take k xs) → gives p answer → FirstGives gives xs answer
   first-gives xs k p answer e before here = (take k xs, p, drop (k + 1) xs, cut-at xs k p e, before, here)
 
   -- an answer after which the next provider is asked shows that this one may be passed over
-  pub passed-over : (p : P) (answer : Polled (Option K)) → is_passed_over answer ≡ true → (answer ≡ OutOfMemory) ⊎ gives p answer
-      → MayBePassedOver (gives p)
+  pub passed-over : (p : P) (answer : Polled (Option K)) → is_passed_over answer ≡ true
+      → (answer ≡ OutOfMemory) ⊎ gives p answer → MayBePassedOver (gives p)
   passed-over p (Ready None) is (inl e) = cc
   passed-over p (Ready None) is (inr h) = inl h
   passed-over p (Failed e) is (inl e') = cc
@@ -50,8 +51,9 @@ module _ {P K : Type 0} (gives : P → Polled (Option K) → Type 0) where
   passed-over p OutOfMemory is h = cc
 
   -- and every other answer is the chain's
-  pub answers-chain : (xs : List P) (k : ℕ) (p : P) (answer : Polled (Option K)) → slice_get xs k ≡ Some p → AllPassedOver gives (take k xs)
-      → is_passed_over answer ≡ false → (answer ≡ OutOfMemory) ⊎ gives p answer → ChainGives gives xs answer
+  pub answers-chain : (xs : List P) (k : ℕ) (p : P) (answer : Polled (Option K)) → slice_get xs k ≡ Some p
+      → AllPassedOver gives (take k xs) → is_passed_over answer ≡ false
+      → (answer ≡ OutOfMemory) ⊎ gives p answer → ChainGives gives xs answer
   answers-chain xs k p (Ready None) e before is h = cc
   answers-chain xs k p (Failed f) e before is h = cc
   answers-chain xs k p (Ready (Some c)) e before is (inl oom) = cc
@@ -73,14 +75,16 @@ module _ {P L : Type 0} (started ready : P → L → Type 0) where
   at-started xs k p (Some l) e h = rw e h
 
   -- the load that the provider at that place has, or starts, is ready
-  pub ready-at : (xs : List P) (k : ℕ) (p : P) (o : Option L) → slice_get xs k ≡ Some p → ChainReady started ready xs (record { place = k; open_load = o })
+  pub ready-at : (xs : List P) (k : ℕ) (p : P) (o : Option L) → slice_get xs k ≡ Some p
+      → ChainReady started ready xs (record { place = k; open_load = o })
       → MatchOption o ((l : L) → started p l → ready p l) (λ l. ready p l)
   ready-at xs k p None e all =
       All-head (λ q. (l : L) → started q l → ready q l) p (drop (k + 1) xs) (rw (drop-at xs k p e) at all)
   ready-at xs k p (Some l) e h = rw e at h.0
 
   -- and what is still to be started after it is ready too
-  pub ready-after : (xs : List P) (k : ℕ) (p : P) (o : Option L) → slice_get xs k ≡ Some p → ChainReady started ready xs (record { place = k; open_load = o })
+  pub ready-after : (xs : List P) (k : ℕ) (p : P) (o : Option L) → slice_get xs k ≡ Some p
+      → ChainReady started ready xs (record { place = k; open_load = o })
       → AllStartReady started ready (drop (k + 1) xs)
   ready-after xs k p None e all =
       All-tail (λ q. (l : L) → started q l → ready q l) p (drop (k + 1) xs) (rw (drop-at xs k p e) at all)
@@ -88,8 +92,9 @@ module _ {P L : Type 0} (started ready : P → L → Type 0) where
 
 module _ {P L : Type 0} where
   -- the provider at the place of a load
-  pub provider-at : (xs ys : List P) (load : ChainProgress L) (k : ℕ) (o : Option L) (p : P) → ys ≡ xs → record { place = k; open_load = o } ≡ load
-      → load.place < length xs → p ≡ get_or ys k p → slice_get xs k ≡ Some p
+  pub provider-at : (xs ys : List P) (load : ChainProgress L) (k : ℕ) (o : Option L) (p : P) → ys ≡ xs
+      → record { place = k; open_load = o } ≡ load → load.place < length xs → p ≡ get_or ys k p
+      → slice_get xs k ≡ Some p
   provider-at xs ys load k o p same at within here =
       let inside : k < length xs = subst (λ (l : ChainProgress L). l.place < length xs) (sym at) within in
       let found : p ≡ get_or xs k p = subst (λ (zs : List P). p ≡ get_or zs k p) same here in
@@ -97,34 +102,43 @@ module _ {P L : Type 0} where
 
 module _ {P K L : Type 0} (gives : P → Polled (Option K) → Type 0) (started ready : P → L → Type 0) where
   -- a poll that may be repeated keeps the load started
-  pub next-kept : (xs : List P) (load : ChainProgress L) (k : ℕ) (o after : Option L) (p : P) (answer : Polled (Option K)) → record { place = k; open_load = o } ≡ load
-      → slice_get xs k ≡ Some p → (IfSome o (λ l. started p l) → CanBePolledAgain answer → IfSome after (λ l. started p l))
-      → ChainStarted gives started xs load → CanBePolledAgain answer → ChainStarted gives started xs (record { place = k; open_load = after })
+  pub next-kept : (xs : List P) (load : ChainProgress L) (k : ℕ) (o after : Option L) (p : P)
+      (answer : Polled (Option K)) → record { place = k; open_load = o } ≡ load → slice_get xs k ≡ Some p
+      → (IfSome o (λ l. started p l) → CanBePolledAgain answer → IfSome after (λ l. started p l))
+      → ChainStarted gives started xs load → CanBePolledAgain answer
+      → ChainStarted gives started xs (record { place = k; open_load = after })
   next-kept xs load k o after p answer at e kept h again =
       let h' : ChainStarted gives started xs (record { place = k; open_load = o }) = subst (λ (l : ChainProgress L). ChainStarted gives started xs l) (sym at) h in
       (h'.0, at-started started ready xs k p after e (kept (started-at started ready xs k p o e h'.1) again))
 
   -- an answer of the provider after which no other is asked is one that the chain gives
-  pub next-gives : (xs : List P) (load : ChainProgress L) (k : ℕ) (o : Option L) (p : P) (answer : Polled (Option K)) → record { place = k; open_load = o } ≡ load
-      → slice_get xs k ≡ Some p → is_passed_over answer ≡ false → (IfSome o (λ l. started p l) → (answer ≡ OutOfMemory) ⊎ gives p answer)
+  pub next-gives : (xs : List P) (load : ChainProgress L) (k : ℕ) (o : Option L) (p : P)
+      (answer : Polled (Option K)) → record { place = k; open_load = o } ≡ load → slice_get xs k ≡ Some p
+      → is_passed_over answer ≡ false
+      → (IfSome o (λ l. started p l) → (answer ≡ OutOfMemory) ⊎ gives p answer)
       → ChainStarted gives started xs load → ChainGives gives xs answer
   next-gives xs load k o p answer at e last gave h =
       let h' : ChainStarted gives started xs (record { place = k; open_load = o }) = subst (λ (l : ChainProgress L). ChainStarted gives started xs l) (sym at) h in
       answers-chain gives xs k p answer e h'.0 last (gave (started-at started ready xs k p o e h'.1))
 
   -- past the provider the load is started at the next place
-  pub next-passed : (xs : List P) (load : ChainProgress L) (k : ℕ) (o : Option L) (p : P) (answer : Polled (Option K)) → record { place = k; open_load = o } ≡ load
-      → slice_get xs k ≡ Some p → is_passed_over answer ≡ true → (IfSome o (λ l. started p l) → (answer ≡ OutOfMemory) ⊎ gives p answer)
-      → ChainStarted gives started xs load → ChainStarted gives started xs (record { place = k + 1; open_load = None })
+  pub next-passed : (xs : List P) (load : ChainProgress L) (k : ℕ) (o : Option L) (p : P)
+      (answer : Polled (Option K)) → record { place = k; open_load = o } ≡ load → slice_get xs k ≡ Some p
+      → is_passed_over answer ≡ true → (IfSome o (λ l. started p l) → (answer ≡ OutOfMemory) ⊎ gives p answer)
+      → ChainStarted gives started xs load
+      → ChainStarted gives started xs (record { place = k + 1; open_load = None })
   next-passed xs load k o p answer at e passes gave h =
       let h' : ChainStarted gives started xs (record { place = k; open_load = o }) = subst (λ (l : ChainProgress L). ChainStarted gives started xs l) (sym at) h in
       (passed-one-more gives xs k p e h'.0 (passed-over gives p answer passes (gave (started-at started ready xs k p o e h'.1))), tt)
 
   -- where the load was ready, the provider's is, and past it the load is ready again
-  pub next-ready : (xs : List P) (load : ChainProgress L) (k : ℕ) (o : Option L) (p : P) → record { place = k; open_load = o } ≡ load
-      → slice_get xs k ≡ Some p → ChainReady started ready xs load → MatchOption o ((l : L) → started p l → ready p l) (λ l. ready p l)
+  pub next-ready : (xs : List P) (load : ChainProgress L) (k : ℕ) (o : Option L) (p : P)
+      → record { place = k; open_load = o } ≡ load → slice_get xs k ≡ Some p
+      → ChainReady started ready xs load → MatchOption o ((l : L) → started p l → ready p l) (λ l. ready p l)
   next-ready xs load k o p at e h = ready-at started ready xs k p o e (subst (λ (l : ChainProgress L). ChainReady started ready xs l) (sym at) h)
 
-  pub past-ready : (xs : List P) (load : ChainProgress L) (k : ℕ) (o : Option L) (p : P) → record { place = k; open_load = o } ≡ load
-      → slice_get xs k ≡ Some p → ChainReady started ready xs load → ChainReady started ready xs (record { place = k + 1; open_load = None })
+  pub past-ready : (xs : List P) (load : ChainProgress L) (k : ℕ) (o : Option L) (p : P)
+      → record { place = k; open_load = o } ≡ load → slice_get xs k ≡ Some p
+      → ChainReady started ready xs load
+      → ChainReady started ready xs (record { place = k + 1; open_load = None })
   past-ready xs load k o p at e h = ready-after started ready xs k p o e (subst (λ (l : ChainProgress L). ChainReady started ready xs l) (sym at) h)

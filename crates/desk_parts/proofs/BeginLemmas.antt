@@ -28,15 +28,18 @@ counted_by (Some q) = omega arith
 
 module _ {K D H : Type 0} (old : DeskTables K D Queue H) (i : ℕ) where
   -- the queue whose room was taken is there
-  pub with_room-there : (k mid : DeskTables K D Queue H) → k ≡ mid → mid ≡ with_queue with_room i old → i < length old.queues → i < length k.queues
+  pub with_room-there : (k mid : DeskTables K D Queue H) → k ≡ mid → mid ≡ with_queue with_room i old
+      → i < length old.queues → i < length k.queues
   with_room-there k mid e f h = rw (e, f, changed-length with_room i old.queues) h
 
   -- its room is counted
-  pub with_room-counted : (k mid : DeskTables K D Queue H) → k ≡ mid → mid ≡ with_queue with_room i old → IfSome (slice_get k.queues i) (λ (q : Queue). 0 < q.unpolled)
+  pub with_room-counted : (k mid : DeskTables K D Queue H) → k ≡ mid → mid ≡ with_queue with_room i old
+      → IfSome (slice_get k.queues i) (λ (q : Queue). 0 < q.unpolled)
   with_room-counted k mid e f = rw (e, f, changed-same with_room old.queues i) (counted_by (slice_get old.queues i))
 
   -- room that is given back leaves the desk as it was
-  pub with_room-undone : (new k mid : DeskTables K D Queue H) → new ≡ with_queue without_room i k → k ≡ mid → mid ≡ with_queue with_room i old → new ≡ old
+  pub with_room-undone : (new k mid : DeskTables K D Queue H) → new ≡ with_queue without_room i k → k ≡ mid
+      → mid ≡ with_queue with_room i old → new ≡ old
   with_room-undone new k mid n e f = n ∙ ap (λ (x : DeskTables K D Queue H). with_queue without_room i x) (e ∙ f) ∙ ap (λ (qs : List Queue). let r : DeskTables K D Queue H = record old { queues = qs } in r) (changed-undone with_room without_room old.queues i given_back)
 
 some_new : (n : ℕ) (o : Option (Option ℕ)) → is_new_at n o ≡ true → is_some o ≡ true
@@ -48,10 +51,15 @@ module _ {K D Q H : Type 0} (old : DeskTables K D Q H) where
   pub numbered : (call : CallId) → can_begin old call ≡ true → call.handle < length old.greatest
   numbered call h = place-below old.greatest call.handle (some_new call.number (slice_get old.greatest call.handle) (and_right _ _ h))
 
-  queued_by : (o : Option Handle) → is_some o ≡ true → IfSome o (λ (handle : Handle). HasPlaces old handle.cache handle.rule) → cache_at o < length old.queues
+  queued_by : (o : Option Handle) → is_some o ≡ true
+      → IfSome o (λ (handle : Handle). HasPlaces old handle.cache handle.rule)
+      → cache_at o < length old.queues
   queued_by None s p = absurd (cc)
   queued_by (Some h) s p = p.queue
 
   -- and a queue for its call
-  pub queued : (call : CallId) → can_begin old call ≡ true → IfSome (slice_get old.handles call.handle) (λ (handle : Handle). HasPlaces old handle.cache handle.rule) → cache_at (slice_get old.handles call.handle) < length old.queues
+  pub queued : (call : CallId) → can_begin old call ≡ true
+      → IfSome (slice_get old.handles call.handle)
+      (λ (handle : Handle). HasPlaces old handle.cache handle.rule)
+      → cache_at (slice_get old.handles call.handle) < length old.queues
   queued call h p = queued_by (slice_get old.handles call.handle) (and_left _ _ h) p

@@ -24,11 +24,14 @@ module _ {H : Type 0} (cmp : CallId → CallId → Ordering) (same : (a b : Call
   get_is m q = lookup_is q m.entries
 
   -- after a change at one call
-  pub find_call-after : (m n : BTreeMap CallId (CallRecord H)) (k : CallId) (w : Option (CallRecord H)) → ((q : CallId) → get cmp n q ≡ cond (is_at (cmp k) q) w (get cmp m q)) → (q : CallId) → find_call q n.entries ≡ cond (same_call k q) w (find_call q m.entries)
+  pub find_call-after : (m n : BTreeMap CallId (CallRecord H)) (k : CallId) (w : Option (CallRecord H))
+      → ((q : CallId) → get cmp n q ≡ cond (is_at (cmp k) q) w (get cmp m q)) → (q : CallId)
+      → find_call q n.entries ≡ cond (same_call k q) w (find_call q m.entries)
   find_call-after m n k w h q = sym (get_is n q) ∙ h q ∙ ap (λ v. cond v w (get cmp m q)) (same k q) ∙ ap (λ v. cond (same_call k q) w v) (get_is m q)
 
 -- a desk in whose map one call changed keeps all else
-pub calls-insert_record : {K D Q H : Type 0} (base : DeskTables K D Q H) (entries : List (CallId × CallRecord H)) (call : CallId) (w : Option (CallRecord H))
+pub calls-insert_record : {K D Q H : Type 0} (base : DeskTables K D Q H)
+    (entries : List (CallId × CallRecord H)) (call : CallId) (w : Option (CallRecord H))
     → ((q : CallId) → find_call q entries ≡ cond (same_call call q) w (find_call q base.calls))
     → length entries + one_if (find_call call base.calls) ≡ length base.calls + one_if w
     → ChangesOnlyCall base call w (record base { calls = entries })
@@ -54,23 +57,27 @@ then_eq Equal p = refl
 then_eq Greater p = refl
 
 -- what the derived order of names says
-pub call_order : (a b : CallId) → is_eq (ordering_then (nat_cmp a.handle b.handle) (nat_cmp a.number b.number)) ≡ same_call a b
+pub call_order : (a b : CallId)
+    → is_eq (ordering_then (nat_cmp a.handle b.handle) (nat_cmp a.number b.number)) ≡ same_call a b
 call_order a b =
     then_eq (nat_cmp a.handle b.handle) (nat_cmp a.number b.number)
     ∙ ap (λ v. v && is_eq (nat_cmp a.number b.number)) (number_eq a.handle b.handle)
     ∙ ap (λ v. (a.handle == b.handle) && v) (number_eq a.number b.number)
 
 -- a lent record is there where its value is
-pub copied_some : {T : Type 0} (o : Option (MutBor T)) → is_some (option_copied_mut o) ≡ true → is_some o ≡ true
+pub copied_some : {T : Type 0} (o : Option (MutBor T)) → is_some (option_copied_mut o) ≡ true
+    → is_some o ≡ true
 copied_some None h = cc
 copied_some (Some x) h = refl
 
 -- the number of records after a change at one call
-pub count-removed : {X : Type 0} (n m : ℕ) (result kept : Option X) → result ≡ kept → n + (if is_some result then 1 else 0) ≡ m → n + one_if kept ≡ m + 0
+pub count-removed : {X : Type 0} (n m : ℕ) (result kept : Option X) → result ≡ kept
+    → n + (if is_some result then 1 else 0) ≡ m → n + one_if kept ≡ m + 0
 count-removed n m None kept e h = rw (← e) (h ∙ sym (add-zero m))
 count-removed n m (Some x) kept e h = rw (← e) (h ∙ sym (add-zero m))
 
 -- the same, where the call is added
-pub count-added : {X : Type 0} (n m : ℕ) (old kept : Option X) → old ≡ kept → n ≡ m + (if is_some old then 0 else 1) → n + one_if kept ≡ m + 1
+pub count-added : {X : Type 0} (n m : ℕ) (old kept : Option X) → old ≡ kept
+    → n ≡ m + (if is_some old then 0 else 1) → n + one_if kept ≡ m + 1
 count-added n m None kept e h = rw (← e) (ap (λ k. k + 0) h ∙ add-zero (m + 1))
 count-added n m (Some x) kept e h = rw (← e) (ap (λ k. k + 1) h ∙ ap (λ k. k + 1) (add-zero m))

@@ -13,20 +13,23 @@ pub longer : {X : Type 0} (n : ℕ) (xs : List X) (x : X) → n < length xs → 
 longer n xs x h = omega (arith, length-append xs (x ∷ []))
 
 -- what holds of each item, and of the new one
-pub each-more : {X : Type 0} (P : X → Type 0) (xs : List X) (x : X) → ((i : ℕ) → IfSome (slice_get xs i) P) → P x → (i : ℕ) → IfSome (slice_get (xs ++ x ∷ []) i) P
+pub each-more : {X : Type 0} (P : X → Type 0) (xs : List X) (x : X) → ((i : ℕ) → IfSome (slice_get xs i) P)
+    → P x → (i : ℕ) → IfSome (slice_get (xs ++ x ∷ []) i) P
 each-more P [] x h p zero = p
 each-more P [] x h p (suc i) = tt
 each-more P (y ∷ ys) x h p zero = h zero
 each-more P (y ∷ ys) x h p (suc i) = each-more P ys x (λ k. h (suc k)) p i
 
 -- what follows for one that is there
-pub each-by : {X : Type 0} (P Q : X → Type 0) → ((x : X) → P x → Q x) → (o : Option X) → IfSome o P → IfSome o Q
+pub each-by : {X : Type 0} (P Q : X → Type 0) → ((x : X) → P x → Q x) → (o : Option X) → IfSome o P
+    → IfSome o Q
 each-by P Q f None h = tt
 each-by P Q f (Some x) h = f x h
 
 module _ {D : Type 0} (setup : Setup D) (ok : IsWellFormedSetup setup) where
   -- one more cache
-  pub set_up-cache : (loader : Loader) → length setup.loaders < 4294967295 → IsWellFormedSetup (record setup { loaders = setup.loaders ++ loader ∷ [] })
+  pub set_up-cache : (loader : Loader) → length setup.loaders < 4294967295
+      → IsWellFormedSetup (record setup { loaders = setup.loaders ++ loader ∷ [] })
   set_up-cache loader h = record {
     caches_few = more_few setup.loaders loader h;
     rules_few = ok.rules_few;
@@ -35,7 +38,8 @@ module _ {D : Type 0} (setup : Setup D) (ok : IsWellFormedSetup setup) where
   }
 
   -- one more rule
-  pub set_up-rule : (rule : D) → length setup.rules < 4294967295 → IsWellFormedSetup (record setup { rules = setup.rules ++ rule ∷ [] })
+  pub set_up-rule : (rule : D) → length setup.rules < 4294967295
+      → IsWellFormedSetup (record setup { rules = setup.rules ++ rule ∷ [] })
   set_up-rule rule h = record {
     caches_few = ok.caches_few;
     rules_few = more_few setup.rules rule h;
@@ -44,7 +48,9 @@ module _ {D : Type 0} (setup : Setup D) (ok : IsWellFormedSetup setup) where
   }
 
   -- one more handle
-  pub set_up-handle : (handle : Handle) → length setup.handles < 4294967295 → handle.cache < length setup.loaders → handle.rule < length setup.rules → IsWellFormedSetup (record setup { handles = setup.handles ++ handle ∷ [] })
+  pub set_up-handle : (handle : Handle) → length setup.handles < 4294967295
+      → handle.cache < length setup.loaders → handle.rule < length setup.rules
+      → IsWellFormedSetup (record setup { handles = setup.handles ++ handle ∷ [] })
   set_up-handle handle h c r = record {
     caches_few = ok.caches_few;
     rules_few = ok.rules_few;

@@ -35,20 +35,23 @@ not_signing Queued h = refl
 not_signing Loading h = refl
 not_signing Ended h = refl
 
--- what the transcript says of a call is what its record says: this phase, this number of answers, and this begin
+-- what the transcript says of a call is what its record says: this phase, this number of answers, and this
+-- begin
 pub record RecordSays (l : LiveCall) (p : Phase) (n : ℕ) (b : Option BeginInput) : Type 0 where
   pub phase : p ≡ l.phase
   pub answers : n ≡ l.answers
   pub begin : b ≡ Some l.begin
   pub live : is_live p ≡ true
 
-says_by : (l : LiveCall) (p : Phase) (n : ℕ) (b : BeginInput) → is_live p ≡ true → Some l ≡ Some (record { phase = p; begin = b; answers = n }) → RecordSays l p n (Some b)
+says_by : (l : LiveCall) (p : Phase) (n : ℕ) (b : BeginInput) → is_live p ≡ true
+    → Some l ≡ Some (record { phase = p; begin = b; answers = n }) → RecordSays l p n (Some b)
 says_by l p n b live h =
     let e : l ≡ record { phase = p; begin = b; answers = n } = cc in
     record { phase = ap (λ (x : LiveCall). x.phase) (sym e); answers = ap (λ (x : LiveCall). x.answers) (sym e); begin = ap (λ (x : LiveCall). Some x.begin) (sym e); live = live }
 
 -- a record that is what the transcript says of a live call
-pub record_says : (l : LiveCall) (p : Phase) (n : ℕ) (b : Option BeginInput) → Some l ≡ live_by p n b → RecordSays l p n b
+pub record_says : (l : LiveCall) (p : Phase) (n : ℕ) (b : Option BeginInput) → Some l ≡ live_by p n b
+    → RecordSays l p n b
 record_says l p n None h = absurd (cc)
 record_says l Unknown n (Some b) h = absurd (cc)
 record_says l Ended n (Some b) h = absurd (cc)

@@ -24,11 +24,14 @@ module _ {K : Type 0} (cache : Option K) (k : ℕ) where
   found_asks (HandOut c) h = cc
   found_asks (Refuse cause) h = cc
 
-  chain_asks : (count n : ℕ) (b : Bool) → nat_lt count n ≡ b → Asking k ≡ cond b (Asking count) (Over (Refuse why.Missing) cache) → count < n
+  chain_asks : (count n : ℕ) (b : Bool) → nat_lt count n ≡ b
+      → Asking k ≡ cond b (Asking count) (Over (Refuse why.Missing) cache) → count < n
   chain_asks count n true e h = below_true count n e
   chain_asks count n false e h = absurd (cc)
 
-  asks_by : (check : K → ℤ → Outcome K) (loader : Loader) (count : ℕ) (last : Option (Answer K × ℤ)) → (last ≡ None → count ≡ 0) → Asking k ≡ load_progress check loader cache count last → count < provider_count loader
+  asks_by : (check : K → ℤ → Outcome K) (loader : Loader) (count : ℕ) (last : Option (Answer K × ℤ))
+      → (last ≡ None → count ≡ 0) → Asking k ≡ load_progress check loader cache count last
+      → count < provider_count loader
   asks_by check Single count None e h = let z : count ≡ 0 = e refl in omega (arith, z)
   asks_by check Single count (Some (answered.Found c, now)) e h = absurd (found_asks (check c now) h)
   asks_by check Single count (Some (answered.Missing, now)) e h = absurd (cc)
@@ -40,10 +43,14 @@ module _ {K : Type 0} (cache : Option K) (k : ℕ) where
 
   module _ (check : K → ℤ → Outcome K) (loader : Loader) (answers : List (Answer K × ℤ)) where
     -- a load by these answers
-    pub load-asks : Asking k ≡ load_progress check loader cache (length answers) (last_of answers) → length answers < provider_count loader
+    pub load-asks : Asking k ≡ load_progress check loader cache (length answers) (last_of answers)
+        → length answers < provider_count loader
     load-asks h = asks_by check loader (length answers) (last_of answers) (none_last answers) h
 
     -- the same, after a look
-    pub look-asks : (o : Option (Outcome K)) → Asking k ≡ after_lookup o cache (load_progress check loader cache (length answers) (last_of answers)) → length answers < provider_count loader
+    pub look-asks : (o : Option (Outcome K))
+        → Asking k
+        ≡ after_lookup o cache (load_progress check loader cache (length answers) (last_of answers))
+        → length answers < provider_count loader
     look-asks (Some outcome) h = absurd (cc)
     look-asks None h = load-asks h

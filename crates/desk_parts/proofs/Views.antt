@@ -7,7 +7,8 @@ use Rattle.desk_parts.specs.LiveCallView.{stored_view, view_by, find_view}
 use Rattle.desk_parts.specs.declared.call_record.CallRecord.{CallRecord}
 use Rattle.desk_parts.specs.declared.tables.LiveCallView.{LiveCallView}
 
-view_by-no_record : (H : Type 0) (call : CallId) (handle : Option Handle) → view_by {H = H} call handle None ≡ None
+view_by-no_record : (H : Type 0) (call : CallId) (handle : Option Handle)
+    → view_by {H = H} call handle None ≡ None
 view_by-no_record H call None = refl
 view_by-no_record H call (Some handle) = refl
 
@@ -23,19 +24,24 @@ module _ {K D Q H : Type 0} (desk : DeskTables K D Q H) (call : CallId) where
   find_view-no_handle h = rw h refl
 
   -- with both the live call is found
-  pub find_view-is : (handle : Handle) (live : CallRecord H) → slice_get desk.handles call.handle ≡ Some handle → find_call call desk.calls ≡ Some live → find_view desk call ≡ Some (stored_view call handle live)
+  pub find_view-is : (handle : Handle) (live : CallRecord H)
+      → slice_get desk.handles call.handle ≡ Some handle → find_call call desk.calls ≡ Some live
+      → find_view desk call ≡ Some (stored_view call handle live)
   unfolding find_view
   find_view-is handle live h l = rw (h, l) refl
 
   -- what holds without a handle, without a record, and at each live call, holds of the one that is found
   pub view-cases : (P : Option LiveCallView → Type 0) → (slice_get desk.handles call.handle ≡ None → P None)
-      → ((h : Handle) → slice_get desk.handles call.handle ≡ Some h → find_call call desk.calls ≡ None → P None)
-      → ((h : Handle) (r : CallRecord H) → slice_get desk.handles call.handle ≡ Some h → find_call call desk.calls ≡ Some r → P (Some (stored_view call h r)))
+      → ((h : Handle) → slice_get desk.handles call.handle ≡ Some h → find_call call desk.calls ≡ None
+      → P None)
+      → ((h : Handle) (r : CallRecord H) → slice_get desk.handles call.handle ≡ Some h
+      → find_call call desk.calls ≡ Some r → P (Some (stored_view call h r)))
       → P (find_view desk call)
   unfolding find_view
   view-cases P unset ended live = by_view (slice_get desk.handles call.handle) refl (find_call call desk.calls) refl
     where
-      by_view : (o : Option Handle) → slice_get desk.handles call.handle ≡ o → (f : Option (CallRecord H)) → find_call call desk.calls ≡ f → P (view_by call o f)
+      by_view : (o : Option Handle) → slice_get desk.handles call.handle ≡ o → (f : Option (CallRecord H))
+          → find_call call desk.calls ≡ f → P (view_by call o f)
       by_view None under f found = unset under
       by_view (Some h) under None found = ended h under found
       by_view (Some h) under (Some r) found = live h r under found

@@ -43,34 +43,43 @@ module _ {K D : Type 0} where
   abbrev StepsAlone : GrantAction K D → Type 0
   StepsAlone action = AllocatesFor (IsGrantCaused TakesMemory) action
 
-  progress_steps : (handed : K → GrantState K D) (desk : GrantState K D) (view : LiveCallView) (progress : Option (Progress K)) → StepsAlone (progress_action handed desk view progress)
+  progress_steps : (handed : K → GrantState K D) (desk : GrantState K D) (view : LiveCallView)
+      (progress : Option (Progress K)) → StepsAlone (progress_action handed desk view progress)
   progress_steps handed desk view None = tt
   progress_steps handed desk view (Some (Asking k)) = tt
   progress_steps handed desk view (Some (Over (HandOut c) left)) = inl refl
   progress_steps handed desk view (Some (Over (Refuse why) left)) = tt
 
-  poll_steps : (look : GrantAction K D) → StepsAlone look → (s : Stage) → StepsAlone (grant_poll_action look s)
+  poll_steps : (look : GrantAction K D) → StepsAlone look → (s : Stage)
+      → StepsAlone (grant_poll_action look s)
   poll_steps look k stage.Unpolled = k
   poll_steps look k stage.Queued = k
   poll_steps look k stage.Loading = tt
   poll_steps look k stage.Signing = tt
 
-  provided_steps : (load : GrantAction K D) → StepsAlone load → (s : Stage) → StepsAlone (grant_provided_action load s)
+  provided_steps : (load : GrantAction K D) → StepsAlone load → (s : Stage)
+      → StepsAlone (grant_provided_action load s)
   provided_steps load k stage.Loading = k
   provided_steps load k stage.Unpolled = tt
   provided_steps load k stage.Queued = tt
   provided_steps load k stage.Signing = tt
 
   module _ (policy : Policy K D) (desk : GrantState K D) where
-    begin_steps : (b : Bool) (call : CallId) (live : GrantRecord) → StepsAlone (cond b (Allocates (record { reply = Begun; desk = with_number call desk; live = Some live })) (Leaves NotNow))
+    begin_steps : (b : Bool) (call : CallId) (live : GrantRecord)
+        → StepsAlone
+        (cond b (Allocates (record { reply = Begun; desk = with_number call desk; live = Some live }))
+        (Leaves NotNow))
     begin_steps true call live = inl refl
     begin_steps false call live = tt
 
-    valid_steps : (b : Bool) (now : ℤ) (c : K) → StepsAlone (cond b (Allocates (end_effect desk (Given c))) (Does (end_effect desk (Refused (Stale now)))))
+    valid_steps : (b : Bool) (now : ℤ) (c : K)
+        → StepsAlone
+        (cond b (Allocates (end_effect desk (Given c))) (Does (end_effect desk (Refused (Stale now)))))
     valid_steps true now c = inl refl
     valid_steps false now c = tt
 
-    granted_steps : (now : ℤ) (answer : MadeOrFailed K) (s : Stage) → StepsAlone (granted_action policy desk now answer s)
+    granted_steps : (now : ℤ) (answer : MadeOrFailed K) (s : Stage)
+        → StepsAlone (granted_action policy desk now answer s)
     granted_steps now (Made c) stage.Signing = valid_steps (policy.valid_at c now now) now c
     granted_steps now (Failed e) stage.Signing = tt
     granted_steps now (Made c) stage.Unpolled = tt
@@ -80,7 +89,9 @@ module _ {K D : Type 0} where
     granted_steps now (Failed e) stage.Queued = tt
     granted_steps now (Failed e) stage.Loading = tt
 
-    live_steps : (action : LiveCallView → GrantAction K D) → ((view : LiveCallView) → StepsAlone (action view)) → (v : Option LiveCallView) → StepsAlone (live_grant_action action v)
+    live_steps : (action : LiveCallView → GrantAction K D)
+        → ((view : LiveCallView) → StepsAlone (action view)) → (v : Option LiveCallView)
+        → StepsAlone (live_grant_action action v)
     live_steps action each None = tt
     live_steps action each (Some view) = each view
 
@@ -96,7 +107,9 @@ module _ {K D : Type 0} where
     action_steps (Cancel call) = live_steps (λ view. Does (end_effect desk Cancelled)) (λ view. tt) (find_view desk call)
 
   -- what a step replies has its cause
-  pub grant_caused : (policy : Policy K D) (event : GrantEvent K) (old : GrantState K D) (reply : GrantReply K) (new : GrantState K D) → GrantTransition policy event old reply new → IsGrantCaused (grant_cause_of policy old event) reply
+  pub grant_caused : (policy : Policy K D) (event : GrantEvent K) (old : GrantState K D)
+      (reply : GrantReply K) (new : GrantState K D) → GrantTransition policy event old reply new
+      → IsGrantCaused (grant_cause_of policy old event) reply
   grant_caused policy event old reply new m =
       previewed-by grant_said_by OutOfMemory (λ cause r. IsGrantCaused cause r) says_own (inr refl) (grant_action_of policy old event) (action_steps policy old event) reply
       (performed-previews OutOfMemory (grant_action_of policy old event) (grant_call_of event) old reply new m)

@@ -39,12 +39,14 @@ module _ {K D : Type 0} (policy : Policy K D) where
   }
 
   -- a desk that is not started represents the empty transcript
-  pub grant_not_started : (old : GrantState K D) → IsGrantDesk policy old → old.started ≡ false → GrantRepresents policy old []
+  pub grant_not_started : (old : GrantState K D) → IsGrantDesk policy old → old.started ≡ false
+      → GrantRepresents policy old []
   grant_not_started old d h = subst (GrantRepresents policy old) (d.empty h) d.represents
 
   module _ (old : GrantState K D) (d : IsGrantDesk policy old) (h : old.started ≡ false) where
     -- one more cache leaves a desk
-    pub grant_desk-with_source : (loader : Loader) → length old.loaders < 4294967295 → IsGrantDesk policy (with_source loader old)
+    pub grant_desk-with_source : (loader : Loader) → length old.loaders < 4294967295
+        → IsGrantDesk policy (with_source loader old)
     grant_desk-with_source loader few = record {
       set_up = set_up-cache (setup_of old) d.set_up loader few;
       entries = [];
@@ -53,7 +55,8 @@ module _ {K D : Type 0} (policy : Policy K D) where
     }
 
     -- one more rule leaves a desk
-    pub grant_desk-with_rule : (rule : D) → length old.rules < 4294967295 → IsGrantDesk policy (with_rule rule old)
+    pub grant_desk-with_rule : (rule : D) → length old.rules < 4294967295
+        → IsGrantDesk policy (with_rule rule old)
     grant_desk-with_rule rule few = record {
       set_up = set_up-rule (setup_of old) d.set_up rule few;
       entries = [];
@@ -62,7 +65,9 @@ module _ {K D : Type 0} (policy : Policy K D) where
     }
 
     -- one more handle leaves a desk
-    pub grant_desk-with_handle : (cache rule : ℕ) → length old.handles < 4294967295 → cache < length old.loaders → rule < length old.rules → IsGrantDesk policy (with_handle cache rule old)
+    pub grant_desk-with_handle : (cache rule : ℕ) → length old.handles < 4294967295
+        → cache < length old.loaders → rule < length old.rules
+        → IsGrantDesk policy (with_handle cache rule old)
     grant_desk-with_handle cache rule few c r = record {
       set_up = set_up-handle (setup_of old) d.set_up (record { cache = cache; rule = rule }) few c r;
       entries = [];
@@ -71,7 +76,9 @@ module _ {K D : Type 0} (policy : Policy K D) where
     }
 
   -- the reply is the expected one, or it allocates and ran out of memory
-  pub grant_entry-legal : (old new : GrantState K D) (entries : List (GrantEntry K)) (e : GrantEntry K) → setup_of new ≡ setup_of old → GrantRepresents policy new (entries ++ e ∷ []) → IsLegalGrantEntry policy (setup_of old) (committed_grants entries) e
+  pub grant_entry-legal : (old new : GrantState K D) (entries : List (GrantEntry K)) (e : GrantEntry K)
+      → setup_of new ≡ setup_of old → GrantRepresents policy new (entries ++ e ∷ [])
+      → IsLegalGrantEntry policy (setup_of old) (committed_grants entries) e
   grant_entry-legal old new entries e same next = subst (λ s. IsLegalGrantEntry policy s (committed_grants entries) e) same (legal_grant_entry policy (setup_of new) entries e next.legal)
 
   -- whether a reply accepts a begin, or the event did not fit
@@ -83,7 +90,8 @@ module _ {K D : Type 0} (policy : Policy K D) where
   begin_first true = refl
   begin_first false = refl
 
-  first_at : (setup : Setup D) (event : GrantEvent K) (o : Option ℕ) → is_first (grant_reply_at policy setup (committed_grants []) event o) ≡ true
+  first_at : (setup : Setup D) (event : GrantEvent K) (o : Option ℕ)
+      → is_first (grant_reply_at policy setup (committed_grants []) event o) ≡ true
   unfolding committed_grants phase_of phase_in entries_of
   first_at setup event None = refl
   first_at setup (Begin call expires_in) (Some i) = begin_first (begin_fits setup (as_signer (committed_grants {K = K} [])) call)
@@ -92,12 +100,16 @@ module _ {K D : Type 0} (policy : Policy K D) where
   first_at setup (Granted call now answer) (Some i) = refl
   first_at setup (Cancel call) (Some i) = refl
 
-  first_expected : (setup : Setup D) (event : GrantEvent K) → is_first (expected_grant_reply policy setup (committed_grants []) event) ≡ true
+  first_expected : (setup : Setup D) (event : GrantEvent K)
+      → is_first (expected_grant_reply policy setup (committed_grants []) event) ≡ true
   unfolding expected_grant_reply
   first_expected setup event = first_at setup event (cache_of setup (grant_call_of event))
 
   -- a committed step of a desk that represents the empty transcript is a begin
-  committed_begun : (setup : Setup D) (event : GrantEvent K) (reply : GrantReply K) → is_out_of_memory (as_reply reply) ≡ false → is_not_now (as_reply reply) ≡ false → IsLegalGrantEntry policy setup (committed_grants []) (record { event = event; reply = reply }) → is_begun (as_reply reply) ≡ true
+  committed_begun : (setup : Setup D) (event : GrantEvent K) (reply : GrantReply K)
+      → is_out_of_memory (as_reply reply) ≡ false → is_not_now (as_reply reply) ≡ false
+      → IsLegalGrantEntry policy setup (committed_grants []) (record { event = event; reply = reply })
+      → is_begun (as_reply reply) ≡ true
   committed_begun setup event reply m n (inr l) = let c : is_out_of_memory (as_reply reply) ≡ true = ap (λ (r : GrantReply K). is_out_of_memory (as_reply r)) l.0 in absurd (cc)
   committed_begun setup event reply m n (inl l) =
       let either : is_first reply ≡ true = ap is_first l ∙ first_expected setup event in
@@ -105,7 +117,8 @@ module _ {K D : Type 0} (policy : Policy K D) where
 
   module _ (old new : GrantState K D) (event : GrantEvent K) (reply : GrantReply K) (d : IsGrantDesk policy old) (setup : setup_of new ≡ setup_of old)
       (next : GrantRepresents policy new (d.entries ++ record { event = event; reply = reply } ∷ [])) where
-    committed_begins : is_out_of_memory (as_reply reply) ≡ false → is_not_now (as_reply reply) ≡ false → new.started ≡ false → ⊥
+    committed_begins : is_out_of_memory (as_reply reply) ≡ false → is_not_now (as_reply reply) ≡ false
+        → new.started ≡ false → ⊥
     committed_begins m n h =
         let e : GrantEntry K = record { event = event; reply = reply } in
         let before : List (GrantEntry K) = committed_grants d.entries in
@@ -119,7 +132,8 @@ module _ {K D : Type 0} (policy : Policy K D) where
         let no : is_begun (as_reply reply) ≡ false = or_right (was_begun (as_signer (committed_grants d.entries))) (is_begun (as_reply reply)) begun in
         absurd (cc)
 
-    desk-committed : is_out_of_memory (as_reply reply) ≡ false → is_not_now (as_reply reply) ≡ false → IsGrantDesk policy new
+    desk-committed : is_out_of_memory (as_reply reply) ≡ false → is_not_now (as_reply reply) ≡ false
+        → IsGrantDesk policy new
     desk-committed m n = record {
       set_up = subst IsWellFormedSetup (sym setup) d.set_up;
       entries = d.entries ++ record { event = event; reply = reply } ∷ [];
@@ -128,8 +142,10 @@ module _ {K D : Type 0} (policy : Policy K D) where
     }
 
   -- a step keeps what holds of every desk
-  pub grant_desk-step : (old new : GrantState K D) (event : GrantEvent K) (reply : GrantReply K) (d : IsGrantDesk policy old) → setup_of new ≡ setup_of old → GrantUnchangedBy reply old new
-      → GrantRepresents policy new (d.entries ++ record { event = event; reply = reply } ∷ []) → IsGrantDesk policy new
+  pub grant_desk-step : (old new : GrantState K D) (event : GrantEvent K) (reply : GrantReply K)
+      (d : IsGrantDesk policy old) → setup_of new ≡ setup_of old → GrantUnchangedBy reply old new
+      → GrantRepresents policy new (d.entries ++ record { event = event; reply = reply } ∷ [])
+      → IsGrantDesk policy new
   grant_desk-step old new event NotNow d s u next = subst (IsGrantDesk policy) (sym u) d
   grant_desk-step old new event OutOfMemory d s u next = subst (IsGrantDesk policy) (sym u) d
   grant_desk-step old new event Begun d s u next = desk-committed old new event Begun d s next refl refl

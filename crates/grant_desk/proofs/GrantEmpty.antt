@@ -37,7 +37,8 @@ module _ {K D : Type 0} (policy : Policy K D) where
   unfolding committed_grants
   no_number h = refl
 
-  nobody : (call : CallId) → option_map granted_view None ≡ live_call (as_signer (committed_grants {K = K} [])) call
+  nobody : (call : CallId)
+      → option_map granted_view None ≡ live_call (as_signer (committed_grants {K = K} [])) call
   unfolding committed_grants phase_of phase_in entries_of begin_in answers_in
   nobody call = refl
 
@@ -86,7 +87,8 @@ module _ {K D : Type 0} (policy : Policy K D) where
     }
 
     -- with one more handle
-    pub grant_represents-with_handle : (cache rule : ℕ) → GrantRepresents policy (with_handle cache rule old) []
+    pub grant_represents-with_handle : (cache rule : ℕ)
+        → GrantRepresents policy (with_handle cache rule old) []
     grant_represents-with_handle cache rule =
         let handle : Handle = record { cache = cache; rule = rule } in
         record {

@@ -25,11 +25,13 @@ module _ {K D : Type 0} (policy : Policy K D) (old : GrantState K D) (entries : 
   before = committed_grants entries
 
   -- a call without a record is not live
-  pub grant_not_live : (call : CallId) → find_call call old.calls ≡ None → is_live (grant_phase_of before call) ≡ false
+  pub grant_not_live : (call : CallId) → find_call call old.calls ≡ None
+      → is_live (grant_phase_of before call) ≡ false
   grant_not_live call f = not_live_grant policy (setup_of old) before (grants_ran policy old entries stood) call (sym (stood.calls call) ∙ ap (option_map granted_view) f)
 
   -- an event under no handle does not fit
-  pub grant_unset : (event : GrantEvent K) → slice_get old.handles (grant_call_of event).handle ≡ None → expected_grant_reply policy (setup_of old) before event ≡ NotNow
+  pub grant_unset : (event : GrantEvent K) → slice_get old.handles (grant_call_of event).handle ≡ None
+      → expected_grant_reply policy (setup_of old) before event ≡ NotNow
   grant_unset event h = grant_misfit-unset policy (setup_of old) before event (ap (option_map (λ (x : Handle). x.cache)) h)
 
   module _ (call : CallId) (h : Handle) (r : GrantRecord) (lives : Lives old call h r) where
@@ -46,7 +48,8 @@ module _ {K D : Type 0} (policy : Policy K D) (old : GrantState K D) (entries : 
     grant_cached = stood.caches h.cache ∙ ap (option_map (λ _. grant_source (setup_of old) before h.cache)) lives.loads
 
     -- what the transcript says of it
-    pub grant_says : RecordSays (granted_view r) (grant_phase_of before call) (length (answers_of (as_signer before) call)) (begin_of (as_signer before) call)
+    pub grant_says : RecordSays (granted_view r) (grant_phase_of before call)
+        (length (answers_of (as_signer before) call)) (begin_of (as_signer before) call)
     grant_says = record_says (granted_view r) (grant_phase_of before call) (length (answers_of (as_signer before) call)) (begin_of (as_signer before) call) (ap (option_map granted_view) (sym lives.found) ∙ stood.calls call)
 
     -- its phase
@@ -54,5 +57,7 @@ module _ {K D : Type 0} (policy : Policy K D) (old : GrantState K D) (entries : 
     grant_phase-is p e = grant_says.phase ∙ e
 
     -- the look on what the desk keeps is that of the transcript
-    pub grant_look-is : (now : ℤ) → desk_lookup policy old now (stored_view call h r) ≡ look_at policy (setup_of old) before h.cache call now
+    pub grant_look-is : (now : ℤ)
+        → desk_lookup policy old now (stored_view call h r)
+        ≡ look_at policy (setup_of old) before h.cache call now
     grant_look-is now = rw (lives.loads, grant_cached, lives.ruled, grant_rule, grant_says.begin) refl

@@ -35,13 +35,17 @@ use Rattle.desk_parts.proofs.LoadAsks.{load-asks, look-asks}
 
 module _ {K D : Type 0} (policy : Policy K D) (k : ℕ) (loader : Loader) where
   -- a look asks where the load after no answers does
-  look_asks : (cache : Option K) (rule : Option D) (begin : Option BeginInput) (now : ℤ) → hold_progress policy cache (Some loader) (input_by rule begin (Some now) []) ≡ Some (Asking k) → 0 < provider_count loader
+  look_asks : (cache : Option K) (rule : Option D) (begin : Option BeginInput) (now : ℤ)
+      → hold_progress policy cache (Some loader) (input_by rule begin (Some now) []) ≡ Some (Asking k)
+      → 0 < provider_count loader
   look_asks cache None begin now h = absurd (cc)
   look_asks cache (Some rule) None now h = absurd (cc)
   look_asks cache (Some rule) (Some begin) now h = look-asks cache k (check_refreshed policy rule begin.duration) loader [] (cache_lookup policy cache rule begin.duration now) (cc)
 
   -- and so does a load
-  answers_ask : (rule : Option D) (begin : Option BeginInput) (answers : List (Answer K × ℤ)) → load_by policy (Some loader) rule begin answers ≡ Some (Asking k) → length answers < provider_count loader
+  answers_ask : (rule : Option D) (begin : Option BeginInput) (answers : List (Answer K × ℤ))
+      → load_by policy (Some loader) rule begin answers ≡ Some (Asking k)
+      → length answers < provider_count loader
   answers_ask None begin answers h = absurd (cc)
   answers_ask (Some rule) None answers h = absurd (cc)
   answers_ask (Some rule) (Some begin) answers h =
@@ -64,15 +68,19 @@ module _ {K D : Type 0} (policy : Policy K D) (setup : Setup D) where
     abbrev IsFew : List (GrantEntry K) → CallId → Type 0
     IsFew es call = length (answers_of (as_signer es) call) < provider_count loader
 
-    unpolled_answers : (call : CallId) → GrantCallInvariant entries call Unpolled → answers_of (as_signer entries) call ≡ []
+    unpolled_answers : (call : CallId) → GrantCallInvariant entries call Unpolled
+        → answers_of (as_signer entries) call ≡ []
     unpolled_answers call (unpolled_grant u) = u.answers
 
     -- a call that waits was answered nothing
-    waiting_answers : (call : CallId) → is_waiting (grant_phase_of entries call) ≡ true → answers_of (as_signer entries) call ≡ []
+    waiting_answers : (call : CallId) → is_waiting (grant_phase_of entries call) ≡ true
+        → answers_of (as_signer entries) call ≡ []
     waiting_answers call w = unpolled_answers call (subst (GrantCallInvariant entries call) (run_grant_unpolled policy setup entries run call w) (grant_stands policy setup entries run call))
 
     -- a poll that asks looked, and an answer that asks loads on
-    poll_asks : (call : CallId) (now : ℤ) (k : ℕ) (w : Bool) → is_waiting (grant_phase_of entries call) ≡ w → Ask k ≡ cond w (grant_progress_reply (look_at policy setup entries i call now)) Pending → IsFew (after (Poll call now) (Ask k)) call
+    poll_asks : (call : CallId) (now : ℤ) (k : ℕ) (w : Bool) → is_waiting (grant_phase_of entries call) ≡ w
+        → Ask k ≡ cond w (grant_progress_reply (look_at policy setup entries i call now)) Pending
+        → IsFew (after (Poll call now) (Ask k)) call
     poll_asks call now k false w h = absurd (cc)
     poll_asks call now k true w h =
         let none : answers_of (as_signer (entries ++ record { event = Poll call now; reply = Ask k } ∷ [])) call ≡ [] = grant_answers-own_none entries (record { event = Poll call now; reply = Ask k }) call (same_call-refl call) refl ∙ waiting_answers call w in
@@ -80,17 +88,21 @@ module _ {K D : Type 0} (policy : Policy K D) (setup : Setup D) where
         ap (λ (l : Option Loader). hold_progress policy (grant_source setup entries i) l (input_by (rule_of setup call) (begin_of (as_signer entries) call) (Some now) [])) (sym there) ∙ asks k (look_at policy setup entries i call now) h in
         rw none (look_asks policy k loader (grant_source setup entries i) (rule_of setup call) (begin_of (as_signer entries) call) now look)
 
-    answer_asks : (call : CallId) (now : ℤ) (answer : Answer K) (k : ℕ) → Ask k ≡ grant_progress_reply (load_at policy setup entries i call (answer, now)) → IsFew (after (Provided call now answer) (Ask k)) call
+    answer_asks : (call : CallId) (now : ℤ) (answer : Answer K) (k : ℕ)
+        → Ask k ≡ grant_progress_reply (load_at policy setup entries i call (answer, now))
+        → IsFew (after (Provided call now answer) (Ask k)) call
     answer_asks call now answer k h =
         let load : load_by policy (Some loader) (rule_of setup call) (begin_of (as_signer entries) call) (answers_of (as_signer entries) call ++ (answer, now) ∷ []) ≡ Some (Asking k) =
         ap (λ (l : Option Loader). load_by policy l (rule_of setup call) (begin_of (as_signer entries) call) (answers_of (as_signer entries) call ++ (answer, now) ∷ [])) (sym there) ∙ asks k (load_at policy setup entries i call (answer, now)) h in
         rw (answers_after-provided entries call now answer (Ask k) refl) (answers_ask policy k loader (rule_of setup call) (begin_of (as_signer entries) call) (answers_of (as_signer entries) call ++ (answer, now) ∷ []) load)
 
-    checked_not : (k : ℕ) (now : ℤ) (c : K) (v : Bool) → Ask k ≡ cond v (let r : GrantReply K = Given c in r) (Refused (Stale now)) → ⊥
+    checked_not : (k : ℕ) (now : ℤ) (c : K) (v : Bool)
+        → Ask k ≡ cond v (let r : GrantReply K = Given c in r) (Refused (Stale now)) → ⊥
     checked_not k now c true h = cc
     checked_not k now c false h = cc
 
-    fitting_asks : (event : GrantEvent K) (k : ℕ) → Ask k ≡ fitting_grant_reply policy setup entries i event → IsFew (after event (Ask k)) (grant_call_of event)
+    fitting_asks : (event : GrantEvent K) (k : ℕ) → Ask k ≡ fitting_grant_reply policy setup entries i event
+        → IsFew (after event (Ask k)) (grant_call_of event)
     fitting_asks (Begin call expires_in) k h = absurd (cc)
     fitting_asks (Poll call now) k h = poll_asks call now k (is_waiting (grant_phase_of entries call)) refl h
     fitting_asks (Provided call now answer) k h = answer_asks call now answer k h
@@ -99,17 +111,25 @@ module _ {K D : Type 0} (policy : Policy K D) (setup : Setup D) where
     fitting_asks (Cancel call) k h = absurd (cc)
 
     -- after an entry that asks the answers are few
-    asks_few : (event : GrantEvent K) (k : ℕ) → cache_of setup (grant_call_of event) ≡ Some i → Ask k ≡ expected_grant_reply policy setup entries event → IsFew (after event (Ask k)) (grant_call_of event)
+    asks_few : (event : GrantEvent K) (k : ℕ) → cache_of setup (grant_call_of event) ≡ Some i
+        → Ask k ≡ expected_grant_reply policy setup entries event
+        → IsFew (after event (Ask k)) (grant_call_of event)
     unfolding expected_grant_reply
     asks_few event k at h = by_fit (grant_event_fits setup entries event) (h ∙ ap (λ (o : Option ℕ). grant_reply_at policy setup entries event o) at)
       where
-        by_fit : (f : Bool) → Ask k ≡ cond f (fitting_grant_reply policy setup entries i event) NotNow → IsFew (after event (Ask k)) (grant_call_of event)
+        by_fit : (f : Bool) → Ask k ≡ cond f (fitting_grant_reply policy setup entries i event) NotNow
+            → IsFew (after event (Ask k)) (grant_call_of event)
         by_fit true h = fitting_asks event k h
         by_fit false h = absurd (cc)
 
     -- after an entry about the call, where it was so before
-    own_few : (event : GrantEvent K) (reply : GrantReply K) → GrantStep entries event reply → reply ≡ expected_grant_reply policy setup entries event → cache_of setup (grant_call_of event) ≡ Some i
-        → (is_loading (grant_phase_of entries (grant_call_of event)) ≡ true → IsFew entries (grant_call_of event)) → is_loading (grant_phase_of (after event reply) (grant_call_of event)) ≡ true → IsFew (after event reply) (grant_call_of event)
+    own_few : (event : GrantEvent K) (reply : GrantReply K) → GrantStep entries event reply
+        → reply ≡ expected_grant_reply policy setup entries event
+        → cache_of setup (grant_call_of event) ≡ Some i
+        → (is_loading (grant_phase_of entries (grant_call_of event)) ≡ true
+        → IsFew entries (grant_call_of event))
+        → is_loading (grant_phase_of (after event reply) (grant_call_of event)) ≡ true
+        → IsFew (after event reply) (grant_call_of event)
     own_few event reply (misfits _) expected at few l =
         let own : same_call (grant_call_of event) (grant_call_of event) ≡ true = same_call-refl (grant_call_of event) in
         rw (answers_after-not_now entries event (grant_call_of event) own) (few (ap is_loading (sym (phase_after-not_now entries event (grant_call_of event) own)) ∙ l))
@@ -123,10 +143,14 @@ module _ {K D : Type 0} (policy : Policy K D) (setup : Setup D) where
         own : same_call (grant_call_of event) (grant_call_of event) ≡ true
         own = same_call-refl (grant_call_of event)
 
-        marked : (r : GrantReply K) (p : Phase) → grant_phase_of (after event r) (grant_call_of event) ≡ p → is_loading p ≡ false → is_loading (grant_phase_of (after event r) (grant_call_of event)) ≡ true → ⊥
+        marked : (r : GrantReply K) (p : Phase) → grant_phase_of (after event r) (grant_call_of event) ≡ p
+            → is_loading p ≡ false → is_loading (grant_phase_of (after event r) (grant_call_of event)) ≡ true
+            → ⊥
         marked r p e n l = let no : is_loading (grant_phase_of (after event r) (grant_call_of event)) ≡ false = ap is_loading e ∙ n in cc
 
-        by_reply : (r : GrantReply K) → goes_on r ≡ true → r ≡ expected_grant_reply policy setup entries event → is_loading (grant_phase_of (after event r) (grant_call_of event)) ≡ true → IsFew (after event r) (grant_call_of event)
+        by_reply : (r : GrantReply K) → goes_on r ≡ true → r ≡ expected_grant_reply policy setup entries event
+            → is_loading (grant_phase_of (after event r) (grant_call_of event)) ≡ true
+            → IsFew (after event r) (grant_call_of event)
         by_reply (Ask k) g h l = asks_few event k at h
         by_reply (Grant source) g h l = absurd (marked (Grant source) _ (phase_after-grant entries event (grant_call_of event) own source) refl l)
         by_reply (Refused cause) g h l = absurd (marked (Refused cause) _ (phase_after-refused entries event (grant_call_of event) own cause) refl l)
@@ -137,8 +161,11 @@ module _ {K D : Type 0} (policy : Policy K D) (setup : Setup D) where
         by_reply NotNow g h l = absurd (cc)
         by_reply OutOfMemory g h l = absurd (cc)
 
-    few_by : (call : CallId) → cache_of setup call ≡ Some i → (event : GrantEvent K) (reply : GrantReply K) → reply ≡ expected_grant_reply policy setup entries event → (is_loading (grant_phase_of entries call) ≡ true → IsFew entries call)
-        → (s : Bool) → same_call call (grant_call_of event) ≡ s → is_loading (grant_phase_of (after event reply) call) ≡ true → IsFew (after event reply) call
+    few_by : (call : CallId) → cache_of setup call ≡ Some i → (event : GrantEvent K) (reply : GrantReply K)
+        → reply ≡ expected_grant_reply policy setup entries event
+        → (is_loading (grant_phase_of entries call) ≡ true → IsFew entries call) → (s : Bool)
+        → same_call call (grant_call_of event) ≡ s
+        → is_loading (grant_phase_of (after event reply) call) ≡ true → IsFew (after event reply) call
     few_by call at event reply expected few true s l =
         let same : call ≡ grant_call_of event = same_call-eq call (grant_call_of event) s in
         subst (IsFew (after event reply)) (sym same)
@@ -147,13 +174,16 @@ module _ {K D : Type 0} (policy : Policy K D) (setup : Setup D) where
     few_by call at event reply expected few false s l =
         rw (grant_answers-other entries (record { event = event; reply = reply }) call s) (few (ap is_loading (sym (grant_phase-other entries (record { event = event; reply = reply }) call s)) ∙ l))
 
-  none_loads : (call : CallId) (n : ℕ) → is_loading (grant_phase_of {K = K} [] call) ≡ true → length (answers_of (as_signer {K = K} []) call) < n
+  none_loads : (call : CallId) (n : ℕ) → is_loading (grant_phase_of {K = K} [] call) ≡ true
+      → length (answers_of (as_signer {K = K} []) call) < n
   unfolding phase_of phase_in entries_of
   none_loads call n h = absurd (cc)
 
   -- a call that loads had fewer answers than there are providers
-  pub grant_loads_few : (entries : List (GrantEntry K)) → IsGrantRun policy setup entries → (call : CallId) (i : ℕ) → cache_of setup call ≡ Some i → (loader : Loader) → slice_get setup.loaders i ≡ Some loader
-      → is_loading (grant_phase_of entries call) ≡ true → length (answers_of (as_signer entries) call) < provider_count loader
+  pub grant_loads_few : (entries : List (GrantEntry K)) → IsGrantRun policy setup entries
+      → (call : CallId) (i : ℕ) → cache_of setup call ≡ Some i → (loader : Loader)
+      → slice_get setup.loaders i ≡ Some loader → is_loading (grant_phase_of entries call) ≡ true
+      → length (answers_of (as_signer entries) call) < provider_count loader
   grant_loads_few _ start call i at loader there h = none_loads call (provider_count loader) h
   grant_loads_few _ (more entries event reply run expected) call i at loader there h =
       few_by entries run i loader there call at event reply expected (grant_loads_few entries run call i at loader there) (same_call call (grant_call_of event)) refl h

@@ -34,12 +34,14 @@ module _ {K D : Type 0} (policy : Policy K D) (desk : GrantState K D) (entries :
     at : cache_of (setup_of desk) call ≡ Some h.cache
     at = ap (option_map (λ (x : Handle). x.cache)) under
 
-    few : r.stage ≡ stage.Loading → IfSome (slice_get desk.loaders h.cache) (λ loader. r.answers < provider_count loader)
+    few : r.stage ≡ stage.Loading
+        → IfSome (slice_get desk.loaders h.cache) (λ loader. r.answers < provider_count loader)
     few s =
         if-some (λ loader. r.answers < provider_count loader) (slice_get desk.loaders h.cache)
         (λ loader e. subst (λ n. n < provider_count loader) recorded.answers (grant_loads_few policy (setup_of desk) before (grants_ran policy desk entries stood) call h.cache at loader e (ap is_loading (recorded.phase ∙ ap phase_of_stage s))))
 
-    placed : (h.cache < length desk.loaders) × (h.rule < length desk.rules) → IsGrantPlaced desk (stored_view call h r)
+    placed : (h.cache < length desk.loaders) × (h.rule < length desk.rules)
+        → IsGrantPlaced desk (stored_view call h r)
     placed p =
         let loader : is_some (slice_get desk.loaders h.cache) ≡ true = place-there desk.loaders h.cache p.0 in
         record {

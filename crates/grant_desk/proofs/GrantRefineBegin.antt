@@ -30,15 +30,20 @@ use Rattle.grant_desk.specs.GrantDeskState.{GrantState, GrantRecord, granted_vie
 use Rattle.grant_desk.proofs.GrantRefine.{GrantFollows, GrantRefines, grants_ran, grant_refines-more, grant_refines-lost, grant_refines-not_now, sources_same}
 
 -- reads by a handle that is there
-handle_by : (number : ℕ) (n : Option ℕ) (o : Option Handle) → (is_some o && is_new_at number (option_map (λ _. n) o)) ≡ (is_some (option_map (λ (h : Handle). h.cache) o) && is_above number n)
+handle_by : (number : ℕ) (n : Option ℕ) (o : Option Handle)
+    → (is_some o && is_new_at number (option_map (λ _. n) o))
+    ≡ (is_some (option_map (λ (h : Handle). h.cache) o) && is_above number n)
 handle_by number n None = refl
 handle_by number n (Some x) = refl
 
-greatest_here : (n : ℕ) (o : Option Handle) (g : Option ℕ) → is_some (option_map (λ (h : Handle). h.cache) o) ≡ true → g ≡ Some n → Some (Some n) ≡ option_map (λ _. g) o
+greatest_here : (n : ℕ) (o : Option Handle) (g : Option ℕ)
+    → is_some (option_map (λ (h : Handle). h.cache) o) ≡ true → g ≡ Some n
+    → Some (Some n) ≡ option_map (λ _. g) o
 greatest_here n None g s e = absurd (cc)
 greatest_here n (Some x) g s e = ap Some (sym e)
 
-there_both : (o : Option Handle) (g : Option ℕ) → is_some (option_map (λ (h : Handle). h.cache) o) ≡ true → is_some (option_map (λ _. g) o) ≡ true
+there_both : (o : Option Handle) (g : Option ℕ) → is_some (option_map (λ (h : Handle). h.cache) o) ≡ true
+    → is_some (option_map (λ _. g) o) ≡ true
 there_both None g h = cc
 there_both (Some x) g h = refl
 
@@ -68,7 +73,9 @@ module _ {K D : Type 0} (policy : Policy K D) (old : GrantState K D) (entries : 
     new_number = and_right _ _ fits
 
     -- the greatest numbers after it
-    greatest_begins : (h : ℕ) (s : Bool) → (call.handle == h) ≡ s → slice_get (slice_set old.greatest call.handle (Some call.number)) h ≡ option_map (λ _. greatest_begun h (as_signer after)) (slice_get old.handles h)
+    greatest_begins : (h : ℕ) (s : Bool) → (call.handle == h) ≡ s
+        → slice_get (slice_set old.greatest call.handle (Some call.number)) h
+        ≡ option_map (λ _. greatest_begun h (as_signer after)) (slice_get old.handles h)
     greatest_begins h true s =
         let here : is_some (slice_get old.greatest call.handle) ≡ true = ap is_some (stood.greatest call.handle) ∙ there_both (slice_get old.handles call.handle) (greatest_begun call.handle (as_signer before)) there in
         let above : is_above call.number (greatest_begun call.handle (as_signer before)) ≡ true = sym (is_new_number-is (as_signer before) call) ∙ new_number in
@@ -106,7 +113,9 @@ module _ {K D : Type 0} (policy : Policy K D) (old : GrantState K D) (entries : 
     phase_begun : grant_phase_of after call ≡ Unpolled
     phase_begun = phase_after-begun before (Begin call expires_in) call (same_call-refl call) (run_grant_blank policy (setup_of old) before (grants_ran policy old entries stood) call new_number).waited
 
-    begin_refines : (new : GrantState K D) → ChangesOnlyCall (with_number call old) call (Some (new_record tt expires_in)) new → (o : Option ℕ) → cache_of (setup_of old) call ≡ o → is_some o ≡ true → GrantRefines policy old entries begins new
+    begin_refines : (new : GrantState K D)
+        → ChangesOnlyCall (with_number call old) call (Some (new_record tt expires_in)) new → (o : Option ℕ)
+        → cache_of (setup_of old) call ≡ o → is_some o ≡ true → GrantRefines policy old entries begins new
     begin_refines new changes None at s = absurd (cc)
     begin_refines new changes (Some i) at s =
         let counted : length (live_calls (as_signer after)) ≡ length (live_calls (as_signer before)) + 1 = live_grants-begun policy (setup_of old) before begins refl new_number (ap is_live phase_begun) in
@@ -114,18 +123,24 @@ module _ {K D : Type 0} (policy : Policy K D) (old : GrantState K D) (entries : 
         grant_refines-more policy old entries stood begins (sym (expected_begin policy (setup_of old) before call i at expires_in new_number)) refl refl (with_number call old) new begin_follows
         (Some (new_record tt expires_in)) changes (sym (live_after-begun policy (setup_of old) before (grants_ran policy old entries stood) call expires_in new_number)) (omega (arith, counted, none))
 
-    begin_lost : (o : Option ℕ) → cache_of (setup_of old) call ≡ o → is_some o ≡ true → GrantRefines policy old entries (record { event = Begin call expires_in; reply = OutOfMemory }) old
+    begin_lost : (o : Option ℕ) → cache_of (setup_of old) call ≡ o → is_some o ≡ true
+        → GrantRefines policy old entries (record { event = Begin call expires_in; reply = OutOfMemory }) old
     begin_lost None at s = absurd (cc)
     begin_lost (Some i) at s = grant_refines-lost policy old entries stood (Begin call expires_in) (begin_allocates policy (setup_of old) before call i at expires_in new_number)
 
   begin_at : (b : Bool) → can_begin old call ≡ b → (reply : GrantReply K) (new : GrantState K D)
-      → GrantPerforms (cond b (Allocates (record { reply = Begun; desk = with_number call old; live = Some (new_record tt expires_in) })) (Leaves NotNow)) call old reply new
+      → GrantPerforms
+      (cond b
+      (Allocates (record { reply = Begun; desk = with_number call old; live = Some (new_record tt expires_in) }))
+      (Leaves NotNow))
+      call old reply new
       → GrantRefines policy old entries (record { event = Begin call expires_in; reply = reply }) new
   begin_at true c reply new (inl m) = rw (m.0) (begin_refines (sym fits_same ∙ c) new m.1 (cache_of (setup_of old) call) refl (and_left _ _ (sym fits_same ∙ c)))
   begin_at true c reply new (inr m) = rw (m.0, m.1) (begin_lost (sym fits_same ∙ c) (cache_of (setup_of old) call) refl (and_left _ _ (sym fits_same ∙ c)))
   begin_at false c reply new m = rw (m.0, m.1) (grant_refines-not_now policy old entries stood (Begin call expires_in) (grant_misfit policy (setup_of old) before (Begin call expires_in) (sym fits_same ∙ c)))
 
   -- what is done at a begin
-  pub grant_refines-begin : (reply : GrantReply K) (new : GrantState K D) → GrantPerforms (grant_begin_action old call (new_record tt expires_in)) call old reply new
+  pub grant_refines-begin : (reply : GrantReply K) (new : GrantState K D)
+      → GrantPerforms (grant_begin_action old call (new_record tt expires_in)) call old reply new
       → GrantRefines policy old entries (record { event = Begin call expires_in; reply = reply }) new
   grant_refines-begin reply new m = begin_at (can_begin old call) refl reply new m

@@ -43,15 +43,20 @@ module _ {K D : Type 0} (policy : Policy K D) (old : GrantState K D) (entries : 
     answered answer reply = record { event = Granted call now answer; reply = reply }
 
     -- an answer to a call that is not at the granter does not fit
-    unfit : (answer : MadeOrFailed K) (s : Stage) → r.stage ≡ s → is_signing (phase_of_stage s) ≡ false → GrantRefines policy old entries (answered answer NotNow) old
+    unfit : (answer : MadeOrFailed K) (s : Stage) → r.stage ≡ s → is_signing (phase_of_stage s) ≡ false
+        → GrantRefines policy old entries (answered answer NotNow) old
     unfit answer s e l =
         grant_refines-not_now policy old entries stood (Granted call now answer)
         (grant_misfit policy (setup_of old) before (Granted call now answer) (ap is_signing (grant_phase-is policy old entries stood call h r lives (phase_of_stage s) (ap phase_of_stage e)) ∙ l))
 
     module _ (signing : grant_phase_of before call ≡ Signing) where
       -- a credential that was made, by whether it is valid now
-      refines-made : (c : K) (v : Bool) → policy.valid_at c now now ≡ v → (reply : GrantReply K) (new : GrantState K D)
-          → GrantPerforms (cond v (Allocates (end_effect old (Given c))) (Does (end_effect old (Refused (Stale now))))) call old reply new → GrantRefines policy old entries (answered (Made c) reply) new
+      refines-made : (c : K) (v : Bool) → policy.valid_at c now now ≡ v
+          → (reply : GrantReply K) (new : GrantState K D)
+          → GrantPerforms
+          (cond v (Allocates (end_effect old (Given c))) (Does (end_effect old (Refused (Stale now))))) call
+          old reply new
+          → GrantRefines policy old entries (answered (Made c) reply) new
       refines-made c true v reply new (inl m) =
           grant_refines-end policy old entries stood (Granted call now (Made c)) h r lives (Given c)
           (record { expected = expected_check policy (setup_of old) before call h.cache at now c signing ∙ ap (λ (b : Bool). cond b (Given c) (Refused (Stale now))) v; committed = refl; fits = refl; no_begin = refl })
@@ -63,7 +68,10 @@ module _ {K D : Type 0} (policy : Policy K D) (old : GrantState K D) (entries : 
           (grant_follows-same policy old entries stood (answered (Made c) (Refused (Stale now))) refl refl) (phase_after-refused before (Granted call now (Made c)) call own (Stale now)) reply new m
 
     -- the granter's answer to a live call
-    pub grant_refines-granted : (answer : MadeOrFailed K) (s : Stage) → r.stage ≡ s → (reply : GrantReply K) (new : GrantState K D) → GrantPerforms (granted_action policy old now answer s) call old reply new → GrantRefines policy old entries (answered answer reply) new
+    pub grant_refines-granted : (answer : MadeOrFailed K) (s : Stage) → r.stage ≡ s
+        → (reply : GrantReply K) (new : GrantState K D)
+        → GrantPerforms (granted_action policy old now answer s) call old reply new
+        → GrantRefines policy old entries (answered answer reply) new
     grant_refines-granted (Made c) stage.Signing e reply new m = refines-made (grant_phase-is policy old entries stood call h r lives Signing (ap phase_of_stage e)) c (policy.valid_at c now now) refl reply new m
     grant_refines-granted (Failed x) stage.Signing e reply new m =
         grant_refines-end policy old entries stood (Granted call now (Failed x)) h r lives (Refused (Service x))
@@ -77,7 +85,9 @@ module _ {K D : Type 0} (policy : Policy K D) (old : GrantState K D) (entries : 
     grant_refines-granted (Failed x) stage.Loading e reply new m = rw (m.0, m.1) (unfit (Failed x) stage.Loading e refl)
 
   -- a cancel of a live call
-  pub grant_refines-cancel : (reply : GrantReply K) (new : GrantState K D) → TakesEffect (end_effect old Cancelled) call reply new → GrantRefines policy old entries (record { event = Cancel call; reply = reply }) new
+  pub grant_refines-cancel : (reply : GrantReply K) (new : GrantState K D)
+      → TakesEffect (end_effect old Cancelled) call reply new
+      → GrantRefines policy old entries (record { event = Cancel call; reply = reply }) new
   grant_refines-cancel reply new m =
       let e : GrantEntry K = record { event = Cancel call; reply = Cancelled } in
       grant_refines-end policy old entries stood (Cancel call) h r lives Cancelled

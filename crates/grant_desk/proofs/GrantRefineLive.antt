@@ -1,4 +1,5 @@
--- An effect on a granter's live call is one more entry of the transcript, where what is kept beside the calls follows the
+-- An effect on a granter's live call is one more entry of the transcript, where what is kept beside the calls
+-- follows the
 -- entry; and so is what is done by how far a look or a load gets.
 use Rattle.std.proofs.Common.{◌≡◌, ℕ, true, false, List, [], ◌∷◌, ◌++◌, Option, Some, None, option_map, length, refl, sym, ◌∙◌, ap, subst, inl, inr, IsTrue}
 use Rattle.wake_lock.specs.declared.CallId.{CallId}
@@ -62,9 +63,13 @@ module _ {K D : Type 0} (policy : Policy K D) (old : GrantState K D) (entries : 
   own = same_call-refl (grant_call_of event)
 
   -- where the call stays live
-  pub grant_refines-live : (desk : GrantState K D) (s : Stage) (answers : ℕ) (reply : GrantReply K) → IsExpected reply → GrantFollows policy old entries desk (entry reply)
-      → grant_phase_of (after reply) call ≡ phase_of_stage s → length (answers_of (as_signer (after reply)) call) ≡ answers
-      → (given : GrantReply K) (new : GrantState K D) → TakesEffect (live_effect desk (viewed call h r s answers) reply) call given new → GrantRefines policy old entries (entry given) new
+  pub grant_refines-live : (desk : GrantState K D) (s : Stage) (answers : ℕ) (reply : GrantReply K)
+      → IsExpected reply → GrantFollows policy old entries desk (entry reply)
+      → grant_phase_of (after reply) call ≡ phase_of_stage s
+      → length (answers_of (as_signer (after reply)) call) ≡ answers
+      → (given : GrantReply K) (new : GrantState K D)
+      → TakesEffect (live_effect desk (viewed call h r s answers) reply) call given new
+      → GrantRefines policy old entries (entry given) new
   grant_refines-live desk s answers reply goes follows phase count given new m =
       let kept : option_map (as_viewed (viewed call h r s answers)) (find_call call desk.calls) ≡ Some (as_viewed (viewed call h r s answers) r) =
       ap (option_map (as_viewed (viewed call h r s answers))) (ap (find_call call) follows.calls ∙ lives.found) in
@@ -76,31 +81,42 @@ module _ {K D : Type 0} (policy : Policy K D) (old : GrantState K D) (entries : 
       (grants_stay policy old entries stood (entry reply) r (as_viewed (viewed call h r s answers) r) goes.no_begin
       ((grant_says policy old entries stood call h r lives).live ∙ sym (ap is_live phase ∙ stage_lives s)) lives.found))
     where
-      live_by_stage : (s : Stage) → Some (granted_view (as_viewed (viewed call h r s answers) r)) ≡ live_in (phase_of_stage s) answers (granted_view r).begin
+      live_by_stage : (s : Stage)
+          → Some (granted_view (as_viewed (viewed call h r s answers) r))
+          ≡ live_in (phase_of_stage s) answers (granted_view r).begin
       live_by_stage stage.Unpolled = refl
       live_by_stage stage.Queued = refl
       live_by_stage stage.Loading = refl
       live_by_stage stage.Signing = refl
 
   -- where the call ends
-  pub grant_refines-end : (reply : GrantReply K) → IsExpected reply → GrantFollows policy old entries old (entry reply) → grant_phase_of (after reply) call ≡ Ended
-      → (given : GrantReply K) (new : GrantState K D) → TakesEffect (end_effect old reply) call given new → GrantRefines policy old entries (entry given) new
+  pub grant_refines-end : (reply : GrantReply K) → IsExpected reply
+      → GrantFollows policy old entries old (entry reply) → grant_phase_of (after reply) call ≡ Ended
+      → (given : GrantReply K) (new : GrantState K D) → TakesEffect (end_effect old reply) call given new
+      → GrantRefines policy old entries (entry given) new
   grant_refines-end reply goes follows phase given new m =
       rw (m.0)
       (grant_refines-more policy old entries stood (entry reply) (sym goes.expected) goes.committed goes.fits old new follows None m.1
       (sym (ended_grant-not_live (after reply) call phase))
       (grants_end policy old entries stood (entry reply) r goes.no_begin (grant_says policy old entries stood call h r lives).live (ap is_live phase) lives.found))
 
-  -- what is known of an event at which a look or a load gets this far; `handed` is the desk where a source is handed out
+  -- what is known of an event at which a look or a load gets this far; `handed` is the desk where a source is
+  -- handed out
   pub record ProgressLaw (handed : K → GrantState K D) (answers : ℕ) (progress : Option (Progress K)) : Type 0 where
     pub expected : expected_grant_reply policy (setup_of old) before event ≡ grant_progress_reply progress
-    pub answered : (reply : GrantReply K) → is_not_now (as_reply reply) ≡ false → length (answers_of (as_signer (after reply)) call) ≡ answers
-    pub handing : (source : K) (left : Option K) → progress ≡ Some (Over (HandOut source) left) → GrantFollows policy old entries (handed source) (entry (Grant source))
-    pub allocating : (source : K) (left : Option K) → progress ≡ Some (Over (HandOut source) left) → IsTrue (grant_allocates policy (setup_of old) before event)
+    pub answered : (reply : GrantReply K) → is_not_now (as_reply reply) ≡ false
+        → length (answers_of (as_signer (after reply)) call) ≡ answers
+    pub handing : (source : K) (left : Option K) → progress ≡ Some (Over (HandOut source) left)
+        → GrantFollows policy old entries (handed source) (entry (Grant source))
+    pub allocating : (source : K) (left : Option K) → progress ≡ Some (Over (HandOut source) left)
+        → IsTrue (grant_allocates policy (setup_of old) before event)
 
   -- what is done is one more entry
-  pub grant_refines-progress : (handed : K → GrantState K D) (answers : ℕ) (progress : Option (Progress K)) → ProgressLaw handed answers progress → (reply : GrantReply K) (new : GrantState K D)
-      → GrantPerforms (progress_action handed old (viewed call h r r.stage answers) progress) call old reply new → GrantRefines policy old entries (entry reply) new
+  pub grant_refines-progress : (handed : K → GrantState K D) (answers : ℕ) (progress : Option (Progress K))
+      → ProgressLaw handed answers progress → (reply : GrantReply K) (new : GrantState K D)
+      → GrantPerforms (progress_action handed old (viewed call h r r.stage answers) progress) call old reply
+      new
+      → GrantRefines policy old entries (entry reply) new
   grant_refines-progress handed answers None law reply new m = rw (m.0, m.1) (grant_refines-not_now policy old entries stood event law.expected)
   grant_refines-progress handed answers (Some (Asking provider)) law reply new m =
       grant_refines-live old stage.Loading answers (Ask provider) (record { expected = law.expected; committed = refl; fits = refl; no_begin = refl })

@@ -53,7 +53,8 @@ module _ {K D : Type 0} (policy : Policy K D) (old : GrantState K D) (entries : 
   at = grant_at policy old entries stood call h r lives
 
   -- an answer to a call that does not load does not fit
-  unfit : (s : Stage) → r.stage ≡ s → is_loading (phase_of_stage s) ≡ false → GrantRefines policy old entries (entry NotNow) old
+  unfit : (s : Stage) → r.stage ≡ s → is_loading (phase_of_stage s) ≡ false
+      → GrantRefines policy old entries (entry NotNow) old
   unfit s e l =
       grant_refines-not_now policy old entries stood (Provided call now answer)
       (grant_misfit policy (setup_of old) before (Provided call now answer) (ap is_loading (grant_phase-is policy old entries stood call h r lives (phase_of_stage s) (ap phase_of_stage e)) ∙ l))
@@ -63,7 +64,8 @@ module _ {K D : Type 0} (policy : Policy K D) (old : GrantState K D) (entries : 
   progress loader a = load_progress (check_refreshed policy lives.rule (option_map as_nanos r.expires_in)) loader None (r.answers + 1) (Some (a, now))
 
   -- on what the desk keeps
-  load_kept : (l : Loader) (a : Answer K) → slice_get old.loaders h.cache ≡ Some l → desk_load policy old now (stored_view call h r) a ≡ Some (progress l a)
+  load_kept : (l : Loader) (a : Answer K) → slice_get old.loaders h.cache ≡ Some l
+      → desk_load policy old now (stored_view call h r) a ≡ Some (progress l a)
   load_kept Single (Found c) l = rw lives.ruled refl
   load_kept (Chain n) (Found c) l = rw lives.ruled refl
   load_kept Single Missing l = rw l refl
@@ -75,28 +77,36 @@ module _ {K D : Type 0} (policy : Policy K D) (old : GrantState K D) (entries : 
   count-more = length-append (answers_of (as_signer before) call) ((answer, now) ∷ []) ∙ ap (λ (k : ℕ). k + 1) (grant_says policy old entries stood call h r lives).answers
 
   -- and by the transcript
-  load_told : load_at policy (setup_of old) before h.cache call (answer, now) ≡ Some (progress lives.loader answer)
+  load_told : load_at policy (setup_of old) before h.cache call (answer, now)
+      ≡ Some (progress lives.loader answer)
   load_told =
       rw (lives.loads, grant_rule policy old entries stood call h r lives, (grant_says policy old entries stood call h r lives).begin)
       (ap (λ (k : ℕ). Some (load_progress (check_refreshed policy lives.rule (option_map as_nanos r.expires_in)) lives.loader None k (last_of (answers_of (as_signer before) call ++ (answer, now) ∷ [])))) count-more
       ∙ ap (λ (o : Option (Answer K × ℤ)). Some (load_progress (check_refreshed policy lives.rule (option_map as_nanos r.expires_in)) lives.loader None (r.answers + 1) o)) (last_of-more (answers_of (as_signer before) call) (answer, now)))
 
   module _ (loading : grant_phase_of before call ≡ Loading) where
-    loads : expected_grant_reply policy (setup_of old) before (Provided call now answer) ≡ grant_progress_reply (desk_load policy old now (stored_view call h r) answer)
+    loads : expected_grant_reply policy (setup_of old) before (Provided call now answer)
+        ≡ grant_progress_reply (desk_load policy old now (stored_view call h r) answer)
     loads = expected_load policy (setup_of old) before call h.cache at now answer loading ∙ ap grant_progress_reply (load_told ∙ sym (load_kept lives.loader answer lives.loads))
 
     -- a source that is handed out is the one found
-    found : (c : K) (left : Option K) → desk_load policy old now (stored_view call h r) answer ≡ Some (Over (HandOut c) left) → answer ≡ Found c
+    found : (c : K) (left : Option K)
+        → desk_load policy old now (stored_view call h r) answer ≡ Some (Over (HandOut c) left)
+        → answer ≡ Found c
     found c left e = found_grant_is_handed_out policy (setup_of old) before call now answer c (loads ∙ ap grant_progress_reply e)
 
     -- and it is cached
-    stores : (c : K) → GrantFollows policy old entries (with_cached c (stored_view call h r) old) (record { event = Provided call now (Found c); reply = Grant c })
+    stores : (c : K)
+        → GrantFollows policy old entries (with_cached c (stored_view call h r) old)
+        (record { event = Provided call now (Found c); reply = Grant c })
     stores c =
         let e : GrantEntry K = record { event = Provided call now (Found c); reply = Grant c } in
         let within : h.cache < length old.caches = slice_get_within old.caches h.cache _ (grant_cached policy old entries stood call h r lives) in
         grant_follows-cached policy old entries stood e (slice_set old.caches h.cache (Some c)) refl (refl, caches-stored call c old (with_cached c (stored_view call h r) old) h.cache at within refl) (sources_stored policy old entries stood e c h.cache at refl within)
 
-    law : ProgressLaw policy old entries stood (Provided call now answer) h r lives (λ c. with_cached c (stored_view call h r) old) (r.answers + 1) (desk_load policy old now (stored_view call h r) answer)
+    law : ProgressLaw policy old entries stood (Provided call now answer) h r lives
+        (λ c. with_cached c (stored_view call h r) old) (r.answers + 1)
+        (desk_load policy old now (stored_view call h r) answer)
     law = record {
       expected = loads;
       answered = λ reply n. ap length (answers_after-provided before call now answer reply n) ∙ count-more;
@@ -104,12 +114,18 @@ module _ {K D : Type 0} (policy : Policy K D) (old : GrantState K D) (entries : 
       allocating = λ c left e. subst (λ (a : Answer K). IsTrue (grant_allocates policy (setup_of old) before (Provided call now a))) (sym (found c left e)) (found_allocates policy (setup_of old) before call h.cache at now c loading);
     }
 
-    refines-load : (reply : GrantReply K) (new : GrantState K D) → GrantPerforms (grant_load_action policy old now answer (stored_view call h r)) call old reply new → GrantRefines policy old entries (entry reply) new
+    refines-load : (reply : GrantReply K) (new : GrantState K D)
+        → GrantPerforms (grant_load_action policy old now answer (stored_view call h r)) call old reply new
+        → GrantRefines policy old entries (entry reply) new
     refines-load reply new m =
         grant_refines-progress policy old entries stood (Provided call now answer) h r lives (λ c. with_cached c (stored_view call h r) old) (r.answers + 1) (desk_load policy old now (stored_view call h r) answer) law reply new m
 
   -- a provider's answer to a live call
-  pub grant_refines-provided : (s : Stage) → r.stage ≡ s → (reply : GrantReply K) (new : GrantState K D) → GrantPerforms (grant_provided_action (grant_load_action policy old now answer (stored_view call h r)) s) call old reply new → GrantRefines policy old entries (entry reply) new
+  pub grant_refines-provided : (s : Stage) → r.stage ≡ s → (reply : GrantReply K) (new : GrantState K D)
+      → GrantPerforms
+      (grant_provided_action (grant_load_action policy old now answer (stored_view call h r)) s) call old
+      reply new
+      → GrantRefines policy old entries (entry reply) new
   grant_refines-provided stage.Unpolled e reply new m = rw (m.0, m.1) (unfit stage.Unpolled e refl)
   grant_refines-provided stage.Queued e reply new m = rw (m.0, m.1) (unfit stage.Queued e refl)
   grant_refines-provided stage.Signing e reply new m = rw (m.0, m.1) (unfit stage.Signing e refl)

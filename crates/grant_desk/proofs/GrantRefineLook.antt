@@ -49,10 +49,12 @@ module _ {K D : Type 0} (policy : Policy K D) (old : GrantState K D) (entries : 
 
   -- a poll of a call that has not looked yet
   module _ (waiting : is_waiting (grant_phase_of before call) ≡ true) where
-    looks : expected_grant_reply policy (setup_of old) before (Poll call now) ≡ grant_progress_reply (desk_lookup policy old now (stored_view call h r))
+    looks : expected_grant_reply policy (setup_of old) before (Poll call now)
+        ≡ grant_progress_reply (desk_lookup policy old now (stored_view call h r))
     looks = expected_look policy (setup_of old) before call h.cache (grant_at policy old entries stood call h r lives) now waiting ∙ ap grant_progress_reply (sym (grant_look-is policy old entries stood call h r lives now))
 
-    law : ProgressLaw policy old entries stood (Poll call now) h r lives (λ c. old) r.answers (desk_lookup policy old now (stored_view call h r))
+    law : ProgressLaw policy old entries stood (Poll call now) h r lives (λ c. old) r.answers
+        (desk_lookup policy old now (stored_view call h r))
     law = record {
       expected = looks;
       answered = λ reply n. ap length (grant_answers-own_none before (entry reply) call (same_call-refl call) refl) ∙ (grant_says policy old entries stood call h r lives).answers;
@@ -60,11 +62,16 @@ module _ {K D : Type 0} (policy : Policy K D) (old : GrantState K D) (entries : 
       allocating = λ c left e. look_allocates policy (setup_of old) before call h.cache (grant_at policy old entries stood call h r lives) now c waiting (looks ∙ ap grant_progress_reply e);
     }
 
-    refines-look : (reply : GrantReply K) (new : GrantState K D) → GrantPerforms (look_action policy old now (stored_view call h r)) call old reply new → GrantRefines policy old entries (entry reply) new
+    refines-look : (reply : GrantReply K) (new : GrantState K D)
+        → GrantPerforms (look_action policy old now (stored_view call h r)) call old reply new
+        → GrantRefines policy old entries (entry reply) new
     refines-look reply new m = grant_refines-progress policy old entries stood (Poll call now) h r lives (λ c. old) r.answers (desk_lookup policy old now (stored_view call h r)) law reply new m
 
   -- a poll of a live call
-  pub grant_refines-poll : (s : Stage) → r.stage ≡ s → (reply : GrantReply K) (new : GrantState K D) → GrantPerforms (grant_poll_action (look_action policy old now (stored_view call h r)) s) call old reply new → GrantRefines policy old entries (entry reply) new
+  pub grant_refines-poll : (s : Stage) → r.stage ≡ s → (reply : GrantReply K) (new : GrantState K D)
+      → GrantPerforms (grant_poll_action (look_action policy old now (stored_view call h r)) s) call old reply
+      new
+      → GrantRefines policy old entries (entry reply) new
   grant_refines-poll stage.Unpolled e reply new m = refines-look (ap is_waiting (grant_phase-is policy old entries stood call h r lives _ (ap phase_of_stage e))) reply new m
   grant_refines-poll stage.Queued e reply new m = refines-look (ap is_waiting (grant_phase-is policy old entries stood call h r lives _ (ap phase_of_stage e))) reply new m
   grant_refines-poll stage.Loading e reply new m = rw (m.0, m.1) (waits (ap is_busy (grant_phase-is policy old entries stood call h r lives _ (ap phase_of_stage e))))

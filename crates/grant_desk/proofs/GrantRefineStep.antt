@@ -33,12 +33,18 @@ use Rattle.grant_desk.proofs.GrantRefineEnd.{grant_refines-granted, grant_refine
 module _ {K D : Type 0} (policy : Policy K D) (old : GrantState K D) (entries : List (GrantEntry K)) (stood : GrantRepresents policy old entries) (set_up : IsWellFormedSetup (setup_of old)) where
   -- events of a call, but for a begin, with what is done at them where the call is live
   data IsOfCall : GrantEvent K → (LiveCallView → GrantAction K D) → Type 0 where
-    poll : (call : CallId) (now : ℤ) → IsOfCall (Poll call now) (λ view. grant_poll_action (look_action policy old now view) view.stage)
-    provided : (call : CallId) (now : ℤ) (answer : Answer K) → IsOfCall (Provided call now answer) (λ view. grant_provided_action (grant_load_action policy old now answer view) view.stage)
-    granted : (call : CallId) (now : ℤ) (answer : MadeOrFailed K) → IsOfCall (Granted call now answer) (λ view. granted_action policy old now answer view.stage)
+    poll : (call : CallId) (now : ℤ)
+        → IsOfCall (Poll call now) (λ view. grant_poll_action (look_action policy old now view) view.stage)
+    provided : (call : CallId) (now : ℤ) (answer : Answer K)
+        → IsOfCall (Provided call now answer)
+        (λ view. grant_provided_action (grant_load_action policy old now answer view) view.stage)
+    granted : (call : CallId) (now : ℤ) (answer : MadeOrFailed K)
+        → IsOfCall (Granted call now answer) (λ view. granted_action policy old now answer view.stage)
     cancel : (call : CallId) → IsOfCall (Cancel call) (λ view. Does (end_effect old Cancelled))
 
-  unfit_of : (event : GrantEvent K) (action : LiveCallView → GrantAction K D) → IsOfCall event action → is_live (grant_phase_of (committed_grants entries) (grant_call_of event)) ≡ false → grant_event_fits (setup_of old) (committed_grants entries) event ≡ false
+  unfit_of : (event : GrantEvent K) (action : LiveCallView → GrantAction K D) → IsOfCall event action
+      → is_live (grant_phase_of (committed_grants entries) (grant_call_of event)) ≡ false
+      → grant_event_fits (setup_of old) (committed_grants entries) event ≡ false
   unfit_of event action (poll call now) l = l
   unfit_of event action (provided call now answer) l = not_loading (grant_phase_of (committed_grants entries) call) l
   unfit_of event action (granted call now answer) l = not_signing (grant_phase_of (committed_grants entries) call) l
@@ -52,20 +58,24 @@ module _ {K D : Type 0} (policy : Policy K D) (old : GrantState K D) (entries : 
     abbrev IsEntry : GrantEvent K → Type 0
     IsEntry event = GrantRefines policy old entries (record { event = event; reply = reply }) new
 
-    at_live : (event : GrantEvent K) (action : LiveCallView → GrantAction K D) → IsOfCall event action → (h : Handle) (r : GrantRecord) → Lives old (grant_call_of event) h r → IsDone event (action (stored_view (grant_call_of event) h r)) → IsEntry event
+    at_live : (event : GrantEvent K) (action : LiveCallView → GrantAction K D) → IsOfCall event action
+        → (h : Handle) (r : GrantRecord) → Lives old (grant_call_of event) h r
+        → IsDone event (action (stored_view (grant_call_of event) h r)) → IsEntry event
     at_live event action (poll call now) h r lives m = grant_refines-poll policy old entries stood call h r lives now r.stage refl reply new m
     at_live event action (provided call now answer) h r lives m = grant_refines-provided policy old entries stood call h r lives now answer r.stage refl reply new m
     at_live event action (granted call now answer) h r lives m = grant_refines-granted policy old entries stood call h r lives now answer r.stage refl reply new m
     at_live event action (cancel call) h r lives m = grant_refines-cancel policy old entries stood call h r lives reply new m
 
-    by_call : (event : GrantEvent K) (action : LiveCallView → GrantAction K D) → IsOfCall event action → IsDone event (live_grant_action action (find_view old (grant_call_of event))) → IsEntry event
+    by_call : (event : GrantEvent K) (action : LiveCallView → GrantAction K D) → IsOfCall event action
+        → IsDone event (live_grant_action action (find_view old (grant_call_of event))) → IsEntry event
     by_call event action of m =
         lives-cases old set_up (grant_call_of event) (λ v. IsDone event (live_grant_action action v) → IsEntry event)
         (λ under k. unfit (grant_unset policy old entries stood event under) k)
         (λ h under found k. unfit (grant_misfit policy (setup_of old) (committed_grants entries) event (unfit_of event action of (grant_not_live policy old entries stood (grant_call_of event) found))) k)
         (λ h r lives k. at_live event action of h r lives k) m
       where
-        unfit : expected_grant_reply policy (setup_of old) (committed_grants entries) event ≡ NotNow → IsDone event (live_grant_action action None) → IsEntry event
+        unfit : expected_grant_reply policy (setup_of old) (committed_grants entries) event ≡ NotNow
+            → IsDone event (live_grant_action action None) → IsEntry event
         unfit expected k = rw (k.0, k.1) (grant_refines-not_now policy old entries stood event expected)
 
     refines-event : (event : GrantEvent K) → GrantTransition policy event old reply new → IsEntry event
@@ -76,5 +86,7 @@ module _ {K D : Type 0} (policy : Policy K D) (old : GrantState K D) (entries : 
     refines-event (Cancel call) m = by_call (Cancel call) _ (cancel call) m
 
   -- what a step does is one more entry
-  pub grant_refines-step : (event : GrantEvent K) (reply : GrantReply K) (new : GrantState K D) → GrantTransition policy event old reply new → GrantRefines policy old entries (record { event = event; reply = reply }) new
+  pub grant_refines-step : (event : GrantEvent K) (reply : GrantReply K) (new : GrantState K D)
+      → GrantTransition policy event old reply new
+      → GrantRefines policy old entries (record { event = event; reply = reply }) new
   grant_refines-step event reply new m = refines-event reply new event m

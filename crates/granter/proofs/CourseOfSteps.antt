@@ -19,7 +19,8 @@ module _ {K D : Type 0} where
   pub leaves-self : (call : CallId) (desk : GrantState K D) → LeavesOthers call desk desk
   leaves-self call desk = record { loaders = refl; rules = refl; handles = refl; greatest = refl; other_calls = λ other d. refl }
 
-  pub leaves-trans : {call : CallId} {old mid new : GrantState K D} → LeavesOthers call old mid → LeavesOthers call mid new → LeavesOthers call old new
+  pub leaves-trans : {call : CallId} {old mid new : GrantState K D} → LeavesOthers call old mid
+      → LeavesOthers call mid new → LeavesOthers call old new
   leaves-trans a b = record {
     loaders = b.loaders ∙ a.loaders;
     rules = b.rules ∙ a.rules;
@@ -30,8 +31,9 @@ module _ {K D : Type 0} where
 
 module _ {K D L W : Type 0} (v : PolledCall K D L W) where
   -- a desk that represents a transcript represents it with the events of the course after it
-  pub course-represents : (state : CallState K L W) (old new : GrantState K D) (run : PollRun K L W) → IsCourse v state old run new
-      → (entries : List (GrantEntry K)) → GrantRepresents v.policy old entries → GrantRepresents v.policy new (entries ++ run.entries)
+  pub course-represents : (state : CallState K L W) (old new : GrantState K D) (run : PollRun K L W)
+      → IsCourse v state old run new → (entries : List (GrantEntry K)) → GrantRepresents v.policy old entries
+      → GrantRepresents v.policy new (entries ++ run.entries)
   course-represents state old new run (stops s desk end stop) entries stood = subst (GrantRepresents v.policy desk) (sym (append-nil entries)) stood
   course-represents state old new run (ends s o n event answered end given step memory by) entries stood = step.represents entries stood
   course-represents state old new run (goes_on s next o between n event answered rest given step after course) entries stood =
@@ -40,7 +42,8 @@ module _ {K D L W : Type 0} (v : PolledCall K D L W) where
       subst (GrantRepresents v.policy new) (append_assoc entries (e ∷ []) rest.entries) more
 
   -- a step that makes no event
-  pub ends-without : (state : CallState K L W) (desk : GrantState K D) (change : StepChange K D) (end : StepEnd K L W) (by : PollEnd K L W) → change.old ≡ desk → change.new ≡ desk
+  pub ends-without : (state : CallState K L W) (desk : GrantState K D) (change : StepChange K D)
+      (end : StepEnd K L W) (by : PollEnd K L W) → change.old ≡ desk → change.new ≡ desk
       → StopsAt v.meaning state by → IsStepEnd end by → IsEndIssued v desk end → Ends v state change end
   ends-without state desk change end by was is stop ended issued = record {
     run = record { entries = []; end = by };
@@ -51,9 +54,12 @@ module _ {K D L W : Type 0} (v : PolledCall K D L W) where
   }
 
   -- a step whose event ends the poll
-  pub ends-by : (state : CallState K L W) (change : StepChange K D) (event : GrantEvent K) (answered : GrantReply K) (end : StepEnd K L W) (by : PollEnd K L W)
-      → IsGiven v state event → IsGrantStep v.policy event change.old answered change.new → (ClonesAreFree v.clones_freely → RunsOutAtBegins event answered)
-      → EndsBy v.meaning state event answered by → IsStepEnd end by → IsEndIssued v change.new end → LeavesOthers v.begun.id change.old change.new → Ends v state change end
+  pub ends-by : (state : CallState K L W) (change : StepChange K D) (event : GrantEvent K)
+      (answered : GrantReply K) (end : StepEnd K L W) (by : PollEnd K L W) → IsGiven v state event
+      → IsGrantStep v.policy event change.old answered change.new
+      → (ClonesAreFree v.clones_freely → RunsOutAtBegins event answered)
+      → EndsBy v.meaning state event answered by → IsStepEnd end by → IsEndIssued v change.new end
+      → LeavesOthers v.begun.id change.old change.new → Ends v state change end
   ends-by state change event answered end by given step memory ends_so ended issued others = record {
     run = record { entries = record { event = event; reply = answered } ∷ []; end = by };
     course = ends state change.old change.new event answered by given step memory ends_so;
@@ -71,11 +77,13 @@ module _ {K D L W : Type 0} (v : PolledCall K D L W) where
   -- a poll that began in this state, with this desk, has come to this place
   pub record Reached (start : CallState K L W) (old : GrantState K D) (place : PollPlace K D L W) : Type 0 where
     pub entries : List (GrantEntry K)
-    pub leads : (run : PollRun K L W) (new : GrantState K D) → IsCourse v place.state place.desk run new → IsCourse v start old (record { entries = entries ++ run.entries; end = run.end }) new
+    pub leads : (run : PollRun K L W) (new : GrantState K D) → IsCourse v place.state place.desk run new
+        → IsCourse v start old (record { entries = entries ++ run.entries; end = run.end }) new
     pub others : LeavesOthers v.begun.id old place.desk
     pub issued : IsStateIssued v.meaning v.begun place.desk place.state
 
-  pub reached-start : (start : CallState K L W) (old : GrantState K D) → IsStateIssued v.meaning v.begun old start → Reached start old (record { state = start; desk = old })
+  pub reached-start : (start : CallState K L W) (old : GrantState K D)
+      → IsStateIssued v.meaning v.begun old start → Reached start old (record { state = start; desk = old })
   reached-start start old issued = record {
     entries = [];
     leads = λ run new course. course;
@@ -83,8 +91,10 @@ module _ {K D L W : Type 0} (v : PolledCall K D L W) where
     issued = issued;
   }
 
-  pub reached-on : (start : CallState K L W) (old : GrantState K D) (place : PollPlace K D L W) → Reached start old place → (change : StepChange K D) → change.old ≡ place.desk
-      → (next : CallState K L W) → GoesOn v place.state change next → Reached start old (record { state = next; desk = change.new })
+  pub reached-on : (start : CallState K L W) (old : GrantState K D) (place : PollPlace K D L W)
+      → Reached start old place → (change : StepChange K D) → change.old ≡ place.desk
+      → (next : CallState K L W) → GoesOn v place.state change next
+      → Reached start old (record { state = next; desk = change.new })
   reached-on start old place r change from next g =
       let e : GrantEntry K = record { event = g.event; reply = g.answered } in
       let step : IsGrantStep v.policy g.event place.desk g.answered change.new = subst (λ d. IsGrantStep v.policy g.event d g.answered change.new) from g.step in
@@ -106,8 +116,9 @@ module _ {K D L W : Type 0} (v : PolledCall K D L W) where
     pub issued : IsEndIssued v change.new end
     pub others : LeavesOthers v.begun.id change.old change.new
 
-  pub reached-end : (start : CallState K L W) (old : GrantState K D) (place : PollPlace K D L W) → Reached start old place → (change : StepChange K D) → change.old ≡ place.desk
-      → (end : StepEnd K L W) → Ends v place.state change end → CourseEnds start (record { old = old; new = change.new }) end
+  pub reached-end : (start : CallState K L W) (old : GrantState K D) (place : PollPlace K D L W)
+      → Reached start old place → (change : StepChange K D) → change.old ≡ place.desk → (end : StepEnd K L W)
+      → Ends v place.state change end → CourseEnds start (record { old = old; new = change.new }) end
   reached-end start old place r change from end e = record {
     run = record { entries = r.entries ++ e.run.entries; end = e.run.end };
     course = r.leads e.run change.new (subst (λ d. IsCourse v place.state d e.run change.new) from e.course);

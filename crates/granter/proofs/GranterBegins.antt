@@ -29,13 +29,16 @@ module _ {P G K C L W : Type 0} (m : Meanings P G K C L W) (old : GranterState P
   same-objects : (handle : ℕ) → objects_of (record old { desk = desk }) handle ≡ objects_of old handle
   same-objects handle = rw (b.handles, b.rules) refl
 
-  unpolled-made : begun.id.handle < length old.desk.handles → IsGrantIssuedBy m (record old { desk = desk; begun = old.begun + 1 }) (let x : Grant P G K C L C W K = record { begun = begun; state = Waiting } in x)
+  unpolled-made : begun.id.handle < length old.desk.handles
+      → IsGrantIssuedBy m (record old { desk = desk; begun = old.begun + 1 })
+      (let x : Grant P G K C L C W K = record { begun = begun; state = Waiting } in x)
   unpolled-made there =
       let found = has-objects-at old s begun.id.handle there in
       subst (λ o. IsSomeAnd o (λ (x : Objects P G C). IsStateIssued (call_meaning m begun x) begun desk Waiting)) (sym (same-objects begun.id.handle ∙ found.1)) b.at
 
   -- the granter that has begun the call is one
-  pub granter-begun : begun.id.number ≡ old.begun → IsGranter (record old { desk = desk; begun = old.begun + 1 })
+  pub granter-begun : begun.id.number ≡ old.begun
+      → IsGranter (record old { desk = desk; begun = old.begun + 1 })
   granter-begun number =
       granter-desk old s desk (old.begun + 1) b.loaders b.rules b.handles
       (rw (b.greatest, number) (above-next old.begun old.desk.greatest begun.id.handle s.numbers))
@@ -43,7 +46,8 @@ module _ {P G K C L W : Type 0} (m : Meanings P G K C L W) (old : GranterState P
   -- what it did is what a granter does that begins a call
   pub begins : (policy : Policy K G) → begun.id.handle < length old.desk.handles → begun.id.number ≡ old.begun
       → IsGrantStep policy (Begin begun.id begun.expires_in) old.desk Begun desk
-      → Begins m policy (record { old = old; new = record old { desk = desk; begun = old.begun + 1 } }) (record { begun = begun; state = Waiting })
+      → Begins m policy (record { old = old; new = record old { desk = desk; begun = old.begun + 1 } })
+      (record { begun = begun; state = Waiting })
   begins policy there number step = record {
     number = number;
     step = step;

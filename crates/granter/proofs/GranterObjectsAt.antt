@@ -22,13 +22,16 @@ module _ {P G K C : Type 0} (s : GranterState P G K C) (handle : ℕ) where
     pub ctx_is : slice_get s.contexts place ≡ Some o.ctx
     pub service_is : slice_get s.desk.rules at.rule ≡ Some o.service
 
-  without-ctx : (o : Objects P G C) (a : Option (Providers P)) (b : Option G) → objects_by a None b ≡ Some o → ⊥
+  without-ctx : (o : Objects P G C) (a : Option (Providers P)) (b : Option G) → objects_by a None b ≡ Some o
+      → ⊥
   without-ctx o None b e = cc
   without-ctx o (Some p) b e = cc
 
-  by_parts : (o : Objects P G C) (at : Handle) → slice_get s.desk.handles handle ≡ Some at → (place : ℕ) → slice_get s.context_places handle ≡ Some place
-      → (from : ℕ) → slice_get s.provider_places at.cache ≡ Some from → (a : Option (Providers P)) → slice_get s.providers from ≡ a → (b : Option C) → slice_get s.contexts place ≡ b → (r : Option G) → slice_get s.desk.rules at.rule ≡ r
-      → objects_by a b r ≡ Some o → HasObjects o
+  by_parts : (o : Objects P G C) (at : Handle) → slice_get s.desk.handles handle ≡ Some at → (place : ℕ)
+      → slice_get s.context_places handle ≡ Some place → (from : ℕ)
+      → slice_get s.provider_places at.cache ≡ Some from → (a : Option (Providers P))
+      → slice_get s.providers from ≡ a → (b : Option C) → slice_get s.contexts place ≡ b → (r : Option G)
+      → slice_get s.desk.rules at.rule ≡ r → objects_by a b r ≡ Some o → HasObjects o
   by_parts o at hi place pi from fi None ai b bi r ri e = absurd (cc)
   by_parts o at hi place pi from fi (Some p) ai None bi r ri e = absurd (cc)
   by_parts o at hi place pi from fi (Some p) ai (Some x) bi None ri e = absurd (cc)
@@ -49,16 +52,23 @@ module _ {P G K C : Type 0} (s : GranterState P G K C) (handle : ℕ) where
   without-providers : (o : Objects P G C) (b : Option C) (r : Option G) → objects_by None b r ≡ Some o → ⊥
   without-providers o b r e = cc
 
-  by_from : (o : Objects P G C) (at : Handle) → slice_get s.desk.handles handle ≡ Some at → (place : ℕ) → slice_get s.context_places handle ≡ Some place
-      → (from : Option ℕ) → slice_get s.provider_places at.cache ≡ from
-      → objects_by (option_and_then (λ (x : ℕ). slice_get s.providers x) from) (slice_get s.contexts place) (slice_get s.desk.rules at.rule) ≡ Some o
+  by_from : (o : Objects P G C) (at : Handle) → slice_get s.desk.handles handle ≡ Some at → (place : ℕ)
+      → slice_get s.context_places handle ≡ Some place → (from : Option ℕ)
+      → slice_get s.provider_places at.cache ≡ from
+      → objects_by (option_and_then (λ (x : ℕ). slice_get s.providers x) from) (slice_get s.contexts place)
+      (slice_get s.desk.rules at.rule)
+      ≡ Some o
       → HasObjects o
   by_from o at hi place pi None fi e = absurd (without-providers o (slice_get s.contexts place) (slice_get s.desk.rules at.rule) e)
   by_from o at hi place pi (Some from) fi e =
       by_parts o at hi place pi from fi (slice_get s.providers from) refl (slice_get s.contexts place) refl (slice_get s.desk.rules at.rule) refl e
 
-  by_places : (o : Objects P G C) (h : Option Handle) → slice_get s.desk.handles handle ≡ h → (p : Option ℕ) → slice_get s.context_places handle ≡ p
-      → objects_by (option_and_then (λ (x : Handle). providers_of s x.cache) h) (option_and_then (λ (place : ℕ). slice_get s.contexts place) p) (option_and_then (λ (x : Handle). slice_get s.desk.rules x.rule) h) ≡ Some o
+  by_places : (o : Objects P G C) (h : Option Handle) → slice_get s.desk.handles handle ≡ h → (p : Option ℕ)
+      → slice_get s.context_places handle ≡ p
+      → objects_by (option_and_then (λ (x : Handle). providers_of s x.cache) h)
+      (option_and_then (λ (place : ℕ). slice_get s.contexts place) p)
+      (option_and_then (λ (x : Handle). slice_get s.desk.rules x.rule) h)
+      ≡ Some o
       → HasObjects o
   by_places o None hi p pi e = absurd (cc)
   by_places o (Some at) hi None pi e = absurd (without-ctx o (providers_of s at.cache) (slice_get s.desk.rules at.rule) e)
@@ -68,7 +78,9 @@ module _ {P G K C : Type 0} (s : GranterState P G K C) (handle : ℕ) where
   has-objects o e = by_places o (slice_get s.desk.handles handle) refl (slice_get s.context_places handle) refl e
 
   -- the cache of the handle is loaded by its providers
-  pub loads-by : (o : Objects P G C) → HasObjects o → ((cache : ℕ) → slice_get s.desk.loaders cache ≡ option_map loader_for (providers_of s cache)) → loader_of s.desk handle ≡ Some (loader_for o.providers)
+  pub loads-by : (o : Objects P G C) → HasObjects o
+      → ((cache : ℕ) → slice_get s.desk.loaders cache ≡ option_map loader_for (providers_of s cache))
+      → loader_of s.desk handle ≡ Some (loader_for o.providers)
   loads-by o h loaders = rw h.handle_is (loaders h.at.cache ∙ rw h.provider_place_is (ap (option_map loader_for) h.providers_is))
 
   -- the service of the handle is the one among the objects
@@ -76,16 +88,19 @@ module _ {P G K C : Type 0} (s : GranterState P G K C) (handle : ℕ) where
   serves-by o h = rw h.handle_is h.service_is
 
 -- what holds of an object that is there holds of one
-pub for-objects : {A : Type 0} (found : Option A) (Q : A → Type 0) (R : Type 0) → IsSomeAnd found Q → ((o : A) → found ≡ Some o → Q o → R) → R
+pub for-objects : {A : Type 0} (found : Option A) (Q : A → Type 0) (R : Type 0) → IsSomeAnd found Q
+    → ((o : A) → found ≡ Some o → Q o → R) → R
 for-objects None Q R h k = absurd h
 for-objects (Some o) Q R h k = k o refl h
 
 -- what stands at a place of a list that is read
-pub index-is : {X : Type 0} (xs : List X) (i j : ℕ) (x d got : X) → slice_get xs j ≡ Some x → i ≡ j → got ≡ slice_index_or xs i d → got ≡ x
+pub index-is : {X : Type 0} (xs : List X) (i j : ℕ) (x d got : X) → slice_get xs j ≡ Some x → i ≡ j
+    → got ≡ slice_index_or xs i d → got ≡ x
 index-is xs i j x d got is same e = e ∙ ap (λ n. slice_index_or xs n d) same ∙ get_or_from_slice_get xs j x d is
 
 -- the cache of a handle that is read
-pub cache-is : (handles : Option Handle) (at : Handle) (got : Option ℕ) (cache : ℕ) → handles ≡ Some at → got ≡ option_map (λ (x : Handle). x.cache) handles → got ≡ Some cache → cache ≡ at.cache
+pub cache-is : (handles : Option Handle) (at : Handle) (got : Option ℕ) (cache : ℕ) → handles ≡ Some at
+    → got ≡ option_map (λ (x : Handle). x.cache) handles → got ≡ Some cache → cache ≡ at.cache
 cache-is handles at got cache h g is =
     let e : (let o : Option ℕ = Some cache in o) ≡ Some at.cache = sym is ∙ g ∙ ap (option_map (λ (x : Handle). x.cache)) h in
     cc

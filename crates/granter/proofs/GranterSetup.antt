@@ -1,4 +1,5 @@
--- What holds of every granter holds of a new one, of one with a handle more, and of one that has begun a call.
+-- What holds of every granter holds of a new one, of one with a handle more, and of one that has begun a
+-- call.
 use Rattle.std.proofs.Common.{◌≡◌, ℕ, zero, suc, ◌+◌, ◌<◌, ◌≤◌, nat_lt, Bool, true, ◌&&◌, List, [], ◌∷◌, ◌++◌, length, option_map, option_and_then, Option, Some, None, IfSome, slice_get, slice_set, refl, sym, ◌∙◌, ap, subst, arith}
 use Rattle.std.specs.List.{slice_index_or}
 use Rattle.std.proofs.lemmas.List.{length-append}
@@ -21,12 +22,14 @@ use Rattle.desk_parts.proofs.IsWellFormedSetup.{longer, each-more, each-by, set_
 and_both : (a b : Bool) → a ≡ true → b ≡ true → (a && b) ≡ true
 and_both a b h k = rw (h, k) refl
 
-above-none-more : (n : ℕ) (xs : List (Option ℕ)) → is_above_all n xs ≡ true → is_above_all n (xs ++ None ∷ []) ≡ true
+above-none-more : (n : ℕ) (xs : List (Option ℕ)) → is_above_all n xs ≡ true
+    → is_above_all n (xs ++ None ∷ []) ≡ true
 above-none-more n [] h = refl
 above-none-more n (x ∷ xs) h = and_both (is_above n x) (is_above_all n (xs ++ None ∷ [])) (and_left (is_above n x) (is_above_all n xs) h) (above-none-more n xs (and_right (is_above n x) (is_above_all n xs) h))
 
 -- a number above all is above the one at a place
-pub above-at : (n : ℕ) (xs : List (Option ℕ)) (i : ℕ) → is_above_all n xs ≡ true → IfSome (slice_get xs i) (λ greatest. is_above n greatest ≡ true)
+pub above-at : (n : ℕ) (xs : List (Option ℕ)) (i : ℕ) → is_above_all n xs ≡ true
+    → IfSome (slice_get xs i) (λ greatest. is_above n greatest ≡ true)
 above-at n [] i h = tt
 above-at n (x ∷ xs) zero h = and_left (is_above n x) (is_above_all n xs) h
 above-at n (x ∷ xs) (suc i) h = above-at n xs i (and_right (is_above n x) (is_above_all n xs) h)
@@ -47,7 +50,8 @@ next-above_all n (x ∷ xs) h =
     and_both (is_above (n + 1) x) (is_above_all (n + 1) xs) (next-above n x (and_left (is_above n x) (is_above_all n xs) h)) (next-above_all n xs (and_right (is_above n x) (is_above_all n xs) h))
 
 -- the next number is above all, also above the one that was begun last
-pub above-next : (n : ℕ) (xs : List (Option ℕ)) (i : ℕ) → is_above_all n xs ≡ true → is_above_all (n + 1) (slice_set xs i (Some n)) ≡ true
+pub above-next : (n : ℕ) (xs : List (Option ℕ)) (i : ℕ) → is_above_all n xs ≡ true
+    → is_above_all (n + 1) (slice_set xs i (Some n)) ≡ true
 above-next n [] i h = refl
 above-next n (x ∷ xs) zero h = and_both (is_above (n + 1) (Some n)) (is_above_all (n + 1) xs) (below-next n) (next-above_all n xs (and_right (is_above n x) (is_above_all n xs) h))
 above-next n (x ∷ xs) (suc i) h =
@@ -56,13 +60,16 @@ above-next n (x ∷ xs) (suc i) h =
 one-longer : {A : Type 0} (xs : List A) (x : A) → length (xs ++ x ∷ []) ≡ length xs + 1
 one-longer xs x = length-append xs (x ∷ [])
 
-both-longer : {A B : Type 0} (xs : List A) (ys : List B) (x : A) (y : B) → length xs ≡ length ys → length (xs ++ x ∷ []) ≡ length (ys ++ y ∷ [])
+both-longer : {A B : Type 0} (xs : List A) (ys : List B) (x : A) (y : B) → length xs ≡ length ys
+    → length (xs ++ x ∷ []) ≡ length (ys ++ y ∷ [])
 both-longer xs ys x y h = one-longer xs x ∙ ap (λ n. n + 1) h ∙ sym (one-longer ys y)
 
-both-few : {A B : Type 0} (xs : List A) (ys : List B) (x : A) (y : B) → length xs ≤ length ys → length (xs ++ x ∷ []) ≤ length (ys ++ y ∷ [])
+both-few : {A B : Type 0} (xs : List A) (ys : List B) (x : A) (y : B) → length xs ≤ length ys
+    → length (xs ++ x ∷ []) ≤ length (ys ++ y ∷ [])
 both-few xs ys x y h = omega (arith, length-append xs (x ∷ []), length-append ys (y ∷ []))
 
-still-few : {A B : Type 0} (xs : List A) (ys : List B) (y : B) → length xs ≤ length ys → length xs ≤ length (ys ++ y ∷ [])
+still-few : {A B : Type 0} (xs : List A) (ys : List B) (y : B) → length xs ≤ length ys
+    → length xs ≤ length (ys ++ y ∷ [])
 still-few xs ys y h = omega (arith, length-append ys (y ∷ []))
 
 -- what holds of each item holds of one that is there
@@ -75,13 +82,15 @@ pub if-some : {A : Type 0} (o : Option A) (x : A) (Q : A → Type 0) → o ≡ S
 if-some None x Q e q = tt
 if-some (Some y) x Q e q = let same : x ≡ y = cc in subst Q same q
 
-there-at : {A : Type 0} (xs : List A) (i : ℕ) → i < length xs → (Q : Type 0) → ((x : A) → slice_get xs i ≡ Some x → Q) → Q
+there-at : {A : Type 0} (xs : List A) (i : ℕ) → i < length xs → (Q : Type 0)
+    → ((x : A) → slice_get xs i ≡ Some x → Q) → Q
 there-at [] i h Q k = absurd (omega (arith, h))
 there-at (x ∷ xs) zero h Q k = k x refl
 there-at (x ∷ xs) (suc i) h Q k = there-at xs i (omega (arith, h)) Q k
 
 -- an item that was there before is there where one was added
-get-more : {A : Type 0} (xs : List A) (x : A) (i : ℕ) → i < length xs → slice_get (xs ++ x ∷ []) i ≡ slice_get xs i
+get-more : {A : Type 0} (xs : List A) (x : A) (i : ℕ) → i < length xs
+    → slice_get (xs ++ x ∷ []) i ≡ slice_get xs i
 get-more [] x i h = absurd (omega (arith, h))
 get-more (y ∷ ys) x zero h = refl
 get-more (y ∷ ys) x (suc i) h = get-more ys x i (omega (arith, h))
@@ -92,8 +101,10 @@ get-last [] x = refl
 get-last (y ∷ ys) x = get-last ys x
 
 -- two lists that agree at each place agree where both are one longer
-both-more : {A B : Type 0} (f : Option A → Option B) → f None ≡ None → (xs : List B) (ys : List A) (x : B) (y : A) → length ys ≡ length xs → Some x ≡ f (Some y)
-    → ((i : ℕ) → slice_get xs i ≡ f (slice_get ys i)) → (i : ℕ) → slice_get (xs ++ x ∷ []) i ≡ f (slice_get (ys ++ y ∷ []) i)
+both-more : {A B : Type 0} (f : Option A → Option B) → f None ≡ None
+    → (xs : List B) (ys : List A) (x : B) (y : A) → length ys ≡ length xs → Some x ≡ f (Some y)
+    → ((i : ℕ) → slice_get xs i ≡ f (slice_get ys i)) → (i : ℕ)
+    → slice_get (xs ++ x ∷ []) i ≡ f (slice_get (ys ++ y ∷ []) i)
 both-more f none [] [] x y same last each zero = last
 both-more f none [] [] x y same last each (suc i) = sym none
 both-more f none [] (b ∷ ys) x y same last each i = absurd (omega (arith, same))
@@ -106,7 +117,8 @@ abbrev loads_from : {P : Type 0} → List (Providers P) → Option ℕ → Optio
 loads_from providers from = option_map loader_for (option_and_then (λ place. slice_get providers place) from)
 
 -- what is read at a place that is there
-pub read-at : {X : Type 0} (xs : List X) (i : ℕ) (d got : X) → i < length xs → got ≡ slice_index_or xs i d → slice_get xs i ≡ Some got
+pub read-at : {X : Type 0} (xs : List X) (i : ℕ) (d got : X) → i < length xs → got ≡ slice_index_or xs i d
+    → slice_get xs i ≡ Some got
 read-at xs i d got h read = there-at xs i h (slice_get xs i ≡ Some got) (λ x is. is ∙ ap Some (sym (index-is xs i i x d got is refl read)))
 
 module _ {P G K C : Type 0} (old : GranterState P G K C) (s : IsGranter old) (handle : ℕ) (like : Handle) (there : slice_get old.desk.handles handle ≡ Some like) where
@@ -117,7 +129,8 @@ module _ {P G K C : Type 0} (old : GranterState P G K C) (s : IsGranter old) (ha
   its-rule = (of-there (λ (x : Handle). (x.cache < length old.desk.loaders) × (x.rule < length old.desk.rules)) (slice_get old.desk.handles handle) like there (s.set_up.handles handle)).1
 
   -- one more handle, with a context and a cache of its own
-  pub granter-context : length old.desk.handles < 4294967295 → (place : ℕ) (providers : Providers P) → slice_get old.providers place ≡ Some providers → place < length old.providers → (ctx : C)
+  pub granter-context : length old.desk.handles < 4294967295 → (place : ℕ) (providers : Providers P)
+      → slice_get old.providers place ≡ Some providers → place < length old.providers → (ctx : C)
       → IsGranter (with_context_handle like (loader_for providers) place ctx old)
   granter-context few place providers at has ctx =
       let more : Handle = record { cache = length old.desk.loaders; rule = like.rule } in
@@ -139,7 +152,8 @@ module _ {P G K C : Type 0} (old : GranterState P G K C) (s : IsGranter old) (ha
       }
 
   -- one more handle, with a service of its own
-  pub granter-service : length old.desk.handles < 4294967295 → (place : ℕ) → place < length old.contexts → (service : G) → IsGranter (with_service_handle like place service old)
+  pub granter-service : length old.desk.handles < 4294967295 → (place : ℕ) → place < length old.contexts
+      → (service : G) → IsGranter (with_service_handle like place service old)
   granter-service few place has service =
       let more : Handle = record { cache = like.cache; rule = length old.desk.rules } in
       let ruled = set_up-rule (setup_of old.desk) s.set_up service (omega (arith, s.rules_few, few)) in
@@ -157,12 +171,14 @@ module _ {P G K C : Type 0} (old : GranterState P G K C) (s : IsGranter old) (ha
       }
 
   -- providers that are there load as before where others are added
-  loads-still : (loader : Providers P) (from : Option ℕ) → IfSome from (λ place. place < length old.providers) → loads_from old.providers from ≡ loads_from (old.providers ++ loader ∷ []) from
+  loads-still : (loader : Providers P) (from : Option ℕ) → IfSome from (λ place. place < length old.providers)
+      → loads_from old.providers from ≡ loads_from (old.providers ++ loader ∷ []) from
   loads-still loader None h = refl
   loads-still loader (Some place) h = ap (option_map loader_for) (sym (get-more old.providers loader place h))
 
   -- one more handle, with a cache and providers of its own
-  pub granter-cache : length old.desk.handles < 4294967295 → (place : ℕ) → place < length old.contexts → (loader : Providers P) → AreFew loader → IsGranter (with_cache_handle like place loader old)
+  pub granter-cache : length old.desk.handles < 4294967295 → (place : ℕ) → place < length old.contexts
+      → (loader : Providers P) → AreFew loader → IsGranter (with_cache_handle like place loader old)
   granter-cache few place has loader loader-few =
       let more : Handle = record { cache = length old.desk.loaders; rule = like.rule } in
       let loads = loader_for loader in
@@ -186,15 +202,18 @@ module _ {P G K C : Type 0} (old : GranterState P G K C) (s : IsGranter old) (ha
 
 module _ {P G K C : Type 0} (old : GranterState P G K C) (s : IsGranter old) where
   -- the context of a handle is one of the contexts
-  pub its-context : (handle place : ℕ) → slice_get old.context_places handle ≡ Some place → place < length old.contexts
+  pub its-context : (handle place : ℕ) → slice_get old.context_places handle ≡ Some place
+      → place < length old.contexts
   its-context handle place is = of-there (λ x. x < length old.contexts) (slice_get old.context_places handle) place is (s.contexts handle)
 
   -- the providers of a cache are among the providers
-  pub its-providers : (cache place : ℕ) → slice_get old.provider_places cache ≡ Some place → place < length old.providers
+  pub its-providers : (cache place : ℕ) → slice_get old.provider_places cache ≡ Some place
+      → place < length old.providers
   its-providers cache place is = of-there (λ x. x < length old.providers) (slice_get old.provider_places cache) place is (s.providers cache)
 
   -- a desk with the same setup, where the next number is above all that were begun, has a granter round it
-  pub granter-desk : (desk : GrantState K G) (begun : ℕ) → desk.loaders ≡ old.desk.loaders → desk.rules ≡ old.desk.rules → desk.handles ≡ old.desk.handles
+  pub granter-desk : (desk : GrantState K G) (begun : ℕ) → desk.loaders ≡ old.desk.loaders
+      → desk.rules ≡ old.desk.rules → desk.handles ≡ old.desk.handles
       → is_above_all begun desk.greatest ≡ true → IsGranter (record old { desk = desk; begun = begun })
   granter-desk desk begun loaders rules handles numbers = record {
     set_up = rw (loaders, rules, handles) s.set_up;
@@ -210,15 +229,18 @@ module _ {P G K C : Type 0} (old : GranterState P G K C) (s : IsGranter old) whe
   }
 
   -- the context of a handle, where its place is read
-  pub context-read : (handle : ℕ) → handle < length old.desk.handles → (got d : ℕ) → got ≡ slice_index_or old.context_places handle d → got < length old.contexts
+  pub context-read : (handle : ℕ) → handle < length old.desk.handles → (got d : ℕ)
+      → got ≡ slice_index_or old.context_places handle d → got < length old.contexts
   context-read handle h got d read = its-context handle got (read-at old.context_places handle d got (rw s.places h) read)
 
   -- the providers of a cache, where their place is read
-  pub provider-read : (cache : ℕ) → cache < length old.desk.loaders → (got d : ℕ) → got ≡ slice_index_or old.provider_places cache d → got < length old.providers
+  pub provider-read : (cache : ℕ) → cache < length old.desk.loaders → (got d : ℕ)
+      → got ≡ slice_index_or old.provider_places cache d → got < length old.providers
   provider-read cache h got d read = its-providers cache got (read-at old.provider_places cache d got (rw s.provider_places h) read)
 
   -- a handle that is there has its objects
-  pub has-objects-at : (handle : ℕ) → handle < length old.desk.handles → (o : Objects P G C) × (objects_of old handle ≡ Some o)
+  pub has-objects-at : (handle : ℕ) → handle < length old.desk.handles
+      → (o : Objects P G C) × (objects_of old handle ≡ Some o)
   has-objects-at handle h =
       there-at old.desk.handles handle h _ (λ at at_is.
       there-at old.context_places handle (rw s.places h) _ (λ place place_is.
@@ -232,26 +254,34 @@ none-there : {A : Type 0} (xs : List A) → ((i : ℕ) → slice_get xs i ≡ No
 none-there [] h = refl
 none-there (x ∷ xs) h = let e = h zero in absurd (cc)
 
-first-place : {A : Type 0} (x : A) (i : ℕ) → IfSome (slice_get (zero ∷ []) i) (λ place. place < length (x ∷ []))
+first-place : {A : Type 0} (x : A) (i : ℕ)
+    → IfSome (slice_get (zero ∷ []) i) (λ place. place < length (x ∷ []))
 first-place x zero = omega arith
 first-place x (suc i) = tt
 
-first-handle : {X Y : Type 0} (x : X) (y : Y) (i : ℕ) → IfSome (slice_get (let h : Handle = record { cache = zero; rule = zero } in h ∷ []) i) (λ h. (h.cache < length (x ∷ [])) × (h.rule < length (y ∷ [])))
+first-handle : {X Y : Type 0} (x : X) (y : Y) (i : ℕ)
+    → IfSome (slice_get (let h : Handle = record { cache = zero; rule = zero } in h ∷ []) i)
+    (λ h. (h.cache < length (x ∷ [])) × (h.rule < length (y ∷ [])))
 first-handle x y zero = (omega arith, omega arith)
 first-handle x y (suc i) = tt
 
-first-loads : {P : Type 0} (loader : Providers P) (i : ℕ) → slice_get (loader_for loader ∷ []) i ≡ loads_from (loader ∷ []) (slice_get (zero ∷ []) i)
+first-loads : {P : Type 0} (loader : Providers P) (i : ℕ)
+    → slice_get (loader_for loader ∷ []) i ≡ loads_from (loader ∷ []) (slice_get (zero ∷ []) i)
 first-loads loader zero = refl
 first-loads loader (suc i) = refl
 
-first-few : {P : Type 0} (loader : Providers P) → AreFew loader → (i : ℕ) → IfSome (slice_get (loader ∷ []) i) AreFew
+first-few : {P : Type 0} (loader : Providers P) → AreFew loader → (i : ℕ)
+    → IfSome (slice_get (loader ∷ []) i) AreFew
 first-few loader h zero = h
 first-few loader h (suc i) = tt
 
 module _ {P G K C : Type 0} (policy : Policy K G) (desk : GrantState K G) (loader : Providers P) (ctx : C) (service : G) where
   -- a desk with one cache and no calls, with its first handle, has a granter round it
-  pub granter-new : AreFew loader → setup_of desk ≡ record { loaders = loader_for loader ∷ []; rules = []; handles = [] } → GrantRepresents policy desk []
-      → IsGranter (let s : GranterState P G K C = record { desk = with_handle 0 (length desk.rules) (with_rule service desk); providers = loader ∷ []; provider_places = 0 ∷ []; contexts = ctx ∷ []; context_places = 0 ∷ []; begun = 0 } in s)
+  pub granter-new : AreFew loader
+      → setup_of desk ≡ record { loaders = loader_for loader ∷ []; rules = []; handles = [] }
+      → GrantRepresents policy desk []
+      → IsGranter
+      (let s : GranterState P G K C = record { desk = with_handle 0 (length desk.rules) (with_rule service desk); providers = loader ∷ []; provider_places = 0 ∷ []; contexts = ctx ∷ []; context_places = 0 ∷ []; begun = 0 } in s)
   granter-new few setup stood =
       let loaders : desk.loaders ≡ loader_for loader ∷ [] = ap (λ (x : Setup G). x.loaders) setup in
       let rules : desk.rules ≡ [] = ap (λ (x : Setup G). x.rules) setup in

@@ -19,7 +19,8 @@ use Rattle.granter.specs.declared.step_outcome.StepEnd.TheVariants.{Pending, Giv
 use Rattle.granter.proofs.CourseOfSteps.{CourseEnds}
 
 module _ (P G C : Type 0) {K L W : Type 0} (begun : BegunCall) where
-  end-answers : (end : StepEnd K L W) (by : PollEnd K L W) → IsStepEnd end by → IsEnd (answer_by {P = P} {G = G} {C = C} begun end) by
+  end-answers : (end : StepEnd K L W) (by : PollEnd K L W) → IsStepEnd end by
+      → IsEnd (answer_by {P = P} {G = G} {C = C} begun end) by
   end-answers (Pending state) (Pends left) h = h
   end-answers (Pending state) (Gives credential) h = absurd h
   end-answers (Pending state) (Refuses why) h = absurd h
@@ -38,13 +39,15 @@ module _ (P G C : Type 0) {K L W : Type 0} (begun : BegunCall) where
   end-answers (OutOfMemory state) (RunsOut left) h = h
 
 module _ (P G C : Type 0) {K D L W : Type 0} (v : PolledCall K D L W) where
-  issued-answers : (end : StepEnd K L W) (desk : GrantState K D) → IsEndIssued v desk end → IsAnswerIssued v.meaning v.begun desk (answer_by {P = P} {G = G} {C = C} v.begun end)
+  issued-answers : (end : StepEnd K L W) (desk : GrantState K D) → IsEndIssued v desk end
+      → IsAnswerIssued v.meaning v.begun desk (answer_by {P = P} {G = G} {C = C} v.begun end)
   issued-answers (Pending state) desk h = (refl, h)
   issued-answers (Given credential) desk h = tt
   issued-answers (Refused why) desk h = tt
   issued-answers (OutOfMemory state) desk h = (refl, h)
 
-  pub driven : (start : CallState K L W) (change : StepChange K D) (end : StepEnd K L W) → CourseEnds v start change end
+  pub driven : (start : CallState K L W) (change : StepChange K D) (end : StepEnd K L W)
+      → CourseEnds v start change end
       → IsDriven v start change.old change.new (answer_by {P = P} {G = G} {C = C} v.begun end)
   driven start change end e = record {
     run = e.run;
@@ -65,7 +68,8 @@ module _ {K D L W : Type 0} (v : PolledCall K D L W) (desk : GrantState K D) (lo
   few provider h = subst (λ o. IsSomeAnd o (λ (l : Loader). provider < provider_count l)) loads h
 
   -- each step leaves fewer
-  pub fewer : (state next : CallState K L W) → IsStateIssued v.meaning v.begun desk next → ComesLater state next → steps_left loader next < steps_left loader state
+  pub fewer : (state next : CallState K L W) → IsStateIssued v.meaning v.begun desk next
+      → ComesLater state next → steps_left loader next < steps_left loader state
   fewer Waiting Waiting new later = absurd later
   fewer Waiting (Loading provider l) new later = omega arith
   fewer Waiting (Granting source w) new later = omega arith
@@ -77,7 +81,8 @@ module _ {K D L W : Type 0} (v : PolledCall K D L W) (desk : GrantState K D) (lo
   fewer (Granting source w) next new later = absurd later
 
 -- a provider that the loader counts is there
-pub provider-there : {P : Type 0} (p : Providers P) (number : ℕ) → number < provider_count (loader_for p) → IsSome (provider_at p number)
+pub provider-there : {P : Type 0} (p : Providers P) (number : ℕ) → number < provider_count (loader_for p)
+    → IsSome (provider_at p number)
 provider-there (providers.Single provider) zero h = refl
 provider-there (providers.Single provider) (suc n) h = absurd (omega arith)
 provider-there (providers.Chain chain) number h = place-there chain number h

@@ -20,7 +20,8 @@ pub record SameObjects {K G : Type 0} (handle : ℕ) (old new : GrantState K G) 
   pub service : service_of new handle ≡ service_of old handle
   pub loader : loader_of new handle ≡ loader_of old handle
 
-pub leaves-objects : {K G : Type 0} (old new : GrantState K G) {call : CallId} → LeavesOthers call old new → (handle : ℕ) → SameObjects handle old new
+pub leaves-objects : {K G : Type 0} (old new : GrantState K G) {call : CallId} → LeavesOthers call old new
+    → (handle : ℕ) → SameObjects handle old new
 leaves-objects old new l handle = record {
   service = rw (l.handles, l.rules) refl;
   loader = rw (l.handles, l.loaders) refl;
@@ -29,7 +30,8 @@ leaves-objects old new l handle = record {
 module _ {P G K C L W : Type 0} (d : PollContext P G K C L W) (start : PollPlace K G L W) where
   -- the poll has come to this place
   pub record PollInvariant (place : PollPlace K G L W) : Type 0 where
-    pub reached : (service : G) → IsService d start.desk service → Reached (call_with d service) start.state start.desk place
+    pub reached : (service : G) → IsService d start.desk service
+        → Reached (call_with d service) start.state start.desk place
     pub objects : SameObjects d.begun.id.handle start.desk place.desk
 
   pub invariant-start : IsIssuedFor d start.desk start.state → PollInvariant start
@@ -50,7 +52,8 @@ module _ {P G K C L W : Type 0} (d : PollContext P G K C L W) (start : PollPlace
     there-here = subst (λ o. IsSome o) (sym u.objects.service) there
 
     module _ (new : GrantState K G) where
-      pub invariant-on : (flow : StepFlow K L W) (next : CallState K L W) → flow ≡ On next → IsOutcomeWith d place.state (record { old = place.desk; new = new }) flow
+      pub invariant-on : (flow : StepFlow K L W) (next : CallState K L W) → flow ≡ On next
+          → IsOutcomeWith d place.state (record { old = place.desk; new = new }) flow
           → PollInvariant (record { state = next; desk = new })
       invariant-on flow next is_on step =
           let change : StepChange K G = record { old = place.desk; new = new } in
@@ -65,9 +68,11 @@ module _ {P G K C L W : Type 0} (d : PollContext P G K C L W) (start : PollPlace
           })
 
       -- and the poll has fewer steps before it
-      pub invariant-fewer : loader_of start.desk d.begun.id.handle ≡ Some (loader_for d.objects.providers.now) → (flow : StepFlow K L W) (next : CallState K L W) → flow ≡ On next
+      pub invariant-fewer : loader_of start.desk d.begun.id.handle ≡ Some (loader_for d.objects.providers.now)
+          → (flow : StepFlow K L W) (next : CallState K L W) → flow ≡ On next
           → IsOutcomeWith d place.state (record { old = place.desk; new = new }) flow
-          → steps_left (loader_for d.objects.providers.now) next < steps_left (loader_for d.objects.providers.now) place.state
+          → steps_left (loader_for d.objects.providers.now) next
+          < steps_left (loader_for d.objects.providers.now) place.state
       invariant-fewer loads flow next is_on step =
           let change : StepChange K G = record { old = place.desk; new = new } in
           for-service (service_of start.desk d.begun.id.handle) (steps_left (loader_for d.objects.providers.now) next < steps_left (loader_for d.objects.providers.now) place.state) there
@@ -76,7 +81,8 @@ module _ {P G K C L W : Type 0} (d : PollContext P G K C L W) (start : PollPlace
           let o = leaves-objects place.desk new goes.others d.begun.id.handle in
           fewer (call_with d service) new (loader_for d.objects.providers.now) (o.loader ∙ u.objects.loader ∙ loads) place.state next goes.issued goes.later)
 
-      pub invariant-end : (flow : StepFlow K L W) (end : StepEnd K L W) → flow ≡ Over end → IsOutcomeWith d place.state (record { old = place.desk; new = new }) flow
+      pub invariant-end : (flow : StepFlow K L W) (end : StepEnd K L W) → flow ≡ Over end
+          → IsOutcomeWith d place.state (record { old = place.desk; new = new }) flow
           → IsDrivenFrom d start.state start.desk new (answer_by d.begun end)
       invariant-end flow end is_over step service is =
           let change : StepChange K G = record { old = place.desk; new = new } in

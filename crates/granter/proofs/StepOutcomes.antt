@@ -31,28 +31,33 @@ use Rattle.granter.specs.declared.step_outcome.StepEnd.TheVariants as end
 use Rattle.granter.proofs.CourseOfSteps.{ends-without, ends-by}
 
 module _ {K L : Type 0} (gives : Polled (Option K) → Type 0) where
-  found-given : (l : LoadState K L) (found : K) → gives (polled.Ready (Some found)) → KeepsLoad l (load.Found found) → IsAnswerGiven gives l (Found found)
+  found-given : (l : LoadState K L) (found : K) → gives (polled.Ready (Some found))
+      → KeepsLoad l (load.Found found) → IsAnswerGiven gives l (Found found)
   found-given load.Unstarted found h keeps = h
   found-given (load.Started x) found h keeps = h
   found-given (load.Found kept) found h keeps = let same : found ≡ kept = cc in ap Found same
 
-  missing-given : (l : LoadState K L) → gives (polled.Ready None) → IsLoadOpen l → IsAnswerGiven gives l Missing
+  missing-given : (l : LoadState K L) → gives (polled.Ready None) → IsLoadOpen l
+      → IsAnswerGiven gives l Missing
   missing-given load.Unstarted h unanswered = h
   missing-given (load.Started x) h unanswered = h
   missing-given (load.Found kept) h unanswered = absurd unanswered
 
-  failed-given : (l : LoadState K L) (n : ℕ) (e : ErrorParts) → gives (polled.Failed e) → IsLoadOpen l → IsAnswerGiven gives l (Failed n)
+  failed-given : (l : LoadState K L) (n : ℕ) (e : ErrorParts) → gives (polled.Failed e) → IsLoadOpen l
+      → IsAnswerGiven gives l (Failed n)
   failed-given load.Unstarted n e h unanswered = (e, h)
   failed-given (load.Started x) n e h unanswered = (e, h)
   failed-given (load.Found kept) n e h unanswered = absurd unanswered
 
 module _ {K W : Type 0} (gives : Polled K → Type 0) where
-  made-given : (w : WorkState K W) (credential : K) → gives (polled.Ready credential) → KeepsWork w (work.Made credential) → IsMadeGiven gives w (made.Made credential)
+  made-given : (w : WorkState K W) (credential : K) → gives (polled.Ready credential)
+      → KeepsWork w (work.Made credential) → IsMadeGiven gives w (made.Made credential)
   made-given work.Unstarted credential h keeps = h
   made-given (work.Started x) credential h keeps = h
   made-given (work.Made kept) credential h keeps = let same : credential ≡ kept = cc in ap made.Made same
 
-  unmade-given : (w : WorkState K W) (n : ℕ) (e : ErrorParts) → gives (polled.Failed e) → IsWorkOpen w → IsMadeGiven gives w (made.Failed n)
+  unmade-given : (w : WorkState K W) (n : ℕ) (e : ErrorParts) → gives (polled.Failed e) → IsWorkOpen w
+      → IsMadeGiven gives w (made.Failed n)
   unmade-given work.Unstarted n e h unanswered = (e, h)
   unmade-given (work.Started x) n e h unanswered = (e, h)
   unmade-given (work.Made kept) n e h unanswered = absurd unanswered
@@ -62,7 +67,8 @@ module _ {K D L W : Type 0} (v : PolledCall K D L W) (change : StepChange K D) w
   abbrev pub HasCause : GrantEvent K → GrantReply K → Type 0
   HasCause event answered = ClonesAreFree v.clones_freely → RunsOutAtBegins event answered
 
-  refuses-look : (cause : GrantWhy) → IsTrue (is_of_look cause) → IsRefusal v.meaning Waiting cause (plain_refusal cause)
+  refuses-look : (cause : GrantWhy) → IsTrue (is_of_look cause)
+      → IsRefusal v.meaning Waiting cause (plain_refusal cause)
   refuses-look why.Missing h = tt
   refuses-look why.Range h = tt
   refuses-look (why.Short deadline) h = absurd (cc)
@@ -70,8 +76,11 @@ module _ {K D L W : Type 0} (v : PolledCall K D L W) (change : StepChange K D) w
   refuses-look (why.Service n) h = absurd (cc)
   refuses-look (why.Stale moment) h = absurd (cc)
 
-  pub poll-taken : (answered : GrantReply K) → IsUnpolled v.begun change.old → IsGrantStep v.policy (Poll v.begun.id v.now) change.old answered change.new
-      → HasCause (Poll v.begun.id v.now) answered → AfterPoll v.begun answered change.new → LeavesOthers v.begun.id change.old change.new → IsStepOutcome v Waiting change (flow_after_poll answered)
+  pub poll-taken : (answered : GrantReply K) → IsUnpolled v.begun change.old
+      → IsGrantStep v.policy (Poll v.begun.id v.now) change.old answered change.new
+      → HasCause (Poll v.begun.id v.now) answered → AfterPoll v.begun answered change.new
+      → LeavesOthers v.begun.id change.old change.new
+      → IsStepOutcome v Waiting change (flow_after_poll answered)
   poll-taken reply.OutOfMemory unpolled step memory after others =
       ends-by v Waiting change (Poll v.begun.id v.now) reply.OutOfMemory (end.OutOfMemory Waiting) (RunsOut Waiting) (refl, refl) step memory tt refl after others
   poll-taken (reply.Ask provider) unpolled step memory after others = record {
@@ -104,7 +113,8 @@ module _ {K D L W : Type 0} (v : PolledCall K D L W) (change : StepChange K D) w
   poll-taken reply.Cancelled unpolled step memory after others = absurd after
 
   module _ (provider : ℕ) (l : LoadState K L) where
-    refuses-check : (cause : GrantWhy) → IsTrue (is_of_check cause) → IsRefusal v.meaning (Loading provider l) cause (plain_refusal cause)
+    refuses-check : (cause : GrantWhy) → IsTrue (is_of_check cause)
+        → IsRefusal v.meaning (Loading provider l) cause (plain_refusal cause)
     refuses-check why.Missing h = absurd (cc)
     refuses-check why.Range h = tt
     refuses-check (why.Short deadline) h = refl
@@ -112,21 +122,26 @@ module _ {K D L W : Type 0} (v : PolledCall K D L W) (change : StepChange K D) w
     refuses-check (why.Service n) h = absurd (cc)
     refuses-check (why.Stale moment) h = absurd (cc)
 
-    pub load-pending : (started : L) → change.new ≡ change.old → IsAsking v.begun provider change.old → v.meaning.load_started provider started
+    pub load-pending : (started : L) → change.new ≡ change.old → IsAsking v.begun provider change.old
+        → v.meaning.load_started provider started
         → IsLoadPending (v.meaning.load_started provider) (v.meaning.load_ready provider) l
         → Ends v (Loading provider l) change (end.Pending (Loading provider (load.Started started)))
     load-pending started still asking issued pending =
         ends-without v (Loading provider l) change.old change (end.Pending (Loading provider (load.Started started))) (Pends (Loading provider (load.Started started))) refl still (refl, pending) refl (asking, issued)
 
-    pub load-without-memory : (kept : LoadState K L) → change.new ≡ change.old → IsAsking v.begun provider change.old → IsLoadMade v.meaning provider kept → LoadRunsOut (v.meaning.load_gives provider) l kept
+    pub load-without-memory : (kept : LoadState K L) → change.new ≡ change.old
+        → IsAsking v.begun provider change.old → IsLoadMade v.meaning provider kept
+        → LoadRunsOut (v.meaning.load_gives provider) l kept
         → Ends v (Loading provider l) change (end.OutOfMemory (Loading provider kept))
     load-without-memory kept still asking issued left =
         ends-without v (Loading provider l) change.old change (end.OutOfMemory (Loading provider kept)) (RunsOut (Loading provider kept)) refl still (refl, left) refl (asking, issued)
 
-    pub found-taken : (found : K) (answered : GrantReply K) → IsAsking v.begun provider change.old → v.meaning.load_gives provider (polled.Ready (Some found)) → KeepsLoad l (load.Found found)
+    pub found-taken : (found : K) (answered : GrantReply K) → IsAsking v.begun provider change.old
+        → v.meaning.load_gives provider (polled.Ready (Some found)) → KeepsLoad l (load.Found found)
         → IsGrantStep v.policy (Provided v.begun.id v.now (Found found)) change.old answered change.new
-        → HasCause (Provided v.begun.id v.now (Found found)) answered → AfterFound v.begun provider answered change.new
-        → LeavesOthers v.begun.id change.old change.new → IsStepOutcome v (Loading provider l) change (flow_after_found provider found answered)
+        → HasCause (Provided v.begun.id v.now (Found found)) answered
+        → AfterFound v.begun provider answered change.new → LeavesOthers v.begun.id change.old change.new
+        → IsStepOutcome v (Loading provider l) change (flow_after_found provider found answered)
     found-taken found (reply.Grant source) asking gives keeps step memory after others = record {
       event = Provided v.begun.id v.now (Found found);
       answered = reply.Grant source;
@@ -150,9 +165,12 @@ module _ {K D L W : Type 0} (v : PolledCall K D L W) (change : StepChange K D) w
     found-taken found (reply.Given credential) asking gives keeps step memory after others = absurd after
     found-taken found reply.Cancelled asking gives keeps step memory after others = absurd after
 
-    pub missing-taken : (answered : GrantReply K) → v.meaning.load_gives provider (polled.Ready None) → IsLoadOpen l
-        → IsGrantStep v.policy (Provided v.begun.id v.now Missing) change.old answered change.new → AfterNone v.begun provider why.Missing answered change.new
-        → LeavesOthers v.begun.id change.old change.new → IsStepOutcome v (Loading provider l) change (flow_after_none refusal.Missing answered)
+    pub missing-taken : (answered : GrantReply K) → v.meaning.load_gives provider (polled.Ready None)
+        → IsLoadOpen l
+        → IsGrantStep v.policy (Provided v.begun.id v.now Missing) change.old answered change.new
+        → AfterNone v.begun provider why.Missing answered change.new
+        → LeavesOthers v.begun.id change.old change.new
+        → IsStepOutcome v (Loading provider l) change (flow_after_none refusal.Missing answered)
     missing-taken (reply.Ask next) gives unanswered step after others = record {
       event = Provided v.begun.id v.now Missing;
       answered = reply.Ask next;
@@ -179,9 +197,12 @@ module _ {K D L W : Type 0} (v : PolledCall K D L W) (change : StepChange K D) w
     missing-taken (reply.Given c) gives unanswered step after others = absurd after
     missing-taken reply.Cancelled gives unanswered step after others = absurd after
 
-    pub failed-taken : (n : ℕ) (e : ErrorParts) (answered : GrantReply K) → v.meaning.load_gives provider (polled.Failed e) → IsLoadOpen l
-        → IsGrantStep v.policy (Provided v.begun.id v.now (Failed n)) change.old answered change.new → AfterNone v.begun provider (why.Loader n) answered change.new
-        → LeavesOthers v.begun.id change.old change.new → IsStepOutcome v (Loading provider l) change (flow_after_none (refusal.Loader e) answered)
+    pub failed-taken : (n : ℕ) (e : ErrorParts) (answered : GrantReply K)
+        → v.meaning.load_gives provider (polled.Failed e) → IsLoadOpen l
+        → IsGrantStep v.policy (Provided v.begun.id v.now (Failed n)) change.old answered change.new
+        → AfterNone v.begun provider (why.Loader n) answered change.new
+        → LeavesOthers v.begun.id change.old change.new
+        → IsStepOutcome v (Loading provider l) change (flow_after_none (refusal.Loader e) answered)
     failed-taken n e (reply.Ask next) gives unanswered step after others = record {
       event = Provided v.begun.id v.now (Failed n);
       answered = reply.Ask next;
@@ -212,27 +233,35 @@ module _ {K D L W : Type 0} (v : PolledCall K D L W) (change : StepChange K D) w
 
   module _ (source : K) (w : WorkState K W) where
     pub work-pending : (started : W) → change.new ≡ change.old → IsSigning v.begun change.old
-        → v.meaning.work_started source started → IsWorkPending (v.meaning.work_started source) v.meaning.work_ready w
+        → v.meaning.work_started source started
+        → IsWorkPending (v.meaning.work_started source) v.meaning.work_ready w
         → Ends v (Granting source w) change (end.Pending (Granting source (work.Started started)))
     work-pending started still granting issued pending =
         ends-without v (Granting source w) change.old change (end.Pending (Granting source (work.Started started))) (Pends (Granting source (work.Started started))) refl still (refl, pending) refl (granting, issued)
 
-    pub work-without-memory : (kept : WorkState K W) → change.new ≡ change.old → IsSigning v.begun change.old → IsWorkMade v.meaning source kept → WorkRunsOut (v.meaning.work_gives source) w kept
+    pub work-without-memory : (kept : WorkState K W) → change.new ≡ change.old → IsSigning v.begun change.old
+        → IsWorkMade v.meaning source kept → WorkRunsOut (v.meaning.work_gives source) w kept
         → Ends v (Granting source w) change (end.OutOfMemory (Granting source kept))
     work-without-memory kept still granting issued left =
         ends-without v (Granting source w) change.old change (end.OutOfMemory (Granting source kept)) (RunsOut (Granting source kept)) refl still (refl, left) refl (granting, issued)
 
     pub unmade-taken : (n : ℕ) (e : ErrorParts) → v.meaning.work_gives source (polled.Failed e) → IsWorkOpen w
-        → IsGrantStep v.policy (Granted v.begun.id v.now (made.Failed n)) change.old (reply.Refused (why.Service n)) change.new → LeavesOthers v.begun.id change.old change.new
+        → IsGrantStep v.policy (Granted v.begun.id v.now (made.Failed n)) change.old
+        (reply.Refused (why.Service n)) change.new
+        → LeavesOthers v.begun.id change.old change.new
         → Ends v (Granting source w) change (end.Refused (refusal.Service e))
     unmade-taken n e gives unanswered step others =
         ends-by v (Granting source w) change (Granted v.begun.id v.now (made.Failed n)) (reply.Refused (why.Service n)) (end.Refused (refusal.Service e)) (Refuses (refusal.Service e))
         (refl, refl, unmade-given (v.meaning.work_gives source) w n e gives unanswered) step (λ free out. absurd (cc)) (gives, unanswered) refl tt others
 
-    pub made-taken : (credential : K) (answered : GrantReply K) → IsSigning v.begun change.old → v.meaning.work_gives source (polled.Ready credential) → KeepsWork w (work.Made credential)
-        → IsGrantStep v.policy (Granted v.begun.id v.now (made.Made credential)) change.old answered change.new
-        → HasCause (Granted v.begun.id v.now (made.Made credential)) answered → AfterMade v.begun v.now credential answered change.new
-        → LeavesOthers v.begun.id change.old change.new → IsStepOutcome v (Granting source w) change (flow_after_made source credential answered)
+    pub made-taken : (credential : K) (answered : GrantReply K) → IsSigning v.begun change.old
+        → v.meaning.work_gives source (polled.Ready credential) → KeepsWork w (work.Made credential)
+        → IsGrantStep v.policy (Granted v.begun.id v.now (made.Made credential)) change.old answered
+        change.new
+        → HasCause (Granted v.begun.id v.now (made.Made credential)) answered
+        → AfterMade v.begun v.now credential answered change.new
+        → LeavesOthers v.begun.id change.old change.new
+        → IsStepOutcome v (Granting source w) change (flow_after_made source credential answered)
     made-taken credential (reply.Given handed) granting gives keeps step memory after others =
         ends-by v (Granting source w) change (Granted v.begun.id v.now (made.Made credential)) (reply.Given handed) (end.Given handed) (Gives credential)
         (refl, refl, made-given (v.meaning.work_gives source) w credential gives keeps) step memory (after, refl) after tt others

@@ -12,7 +12,8 @@ length-masking f xs i =
     let same : length (map f (take i xs)) ≡ length (take i xs) = length-map (take i xs) f in
     omega (arith, whole, parts, now, same)
 
-pub masking_more : (f : ℕ → ℕ) (xs ys : List ℕ) (i : ℕ) → i < length xs → ys ≡ map f (take i xs) ++ drop i xs → set ys i (f (get_or ys i 0)) ≡ map f (take (i + 1) xs) ++ drop (i + 1) xs
+pub masking_more : (f : ℕ → ℕ) (xs ys : List ℕ) (i : ℕ) → i < length xs → ys ≡ map f (take i xs) ++ drop i xs
+    → set ys i (f (get_or ys i 0)) ≡ map f (take (i + 1) xs) ++ drop (i + 1) xs
 masking_more f xs ys i within so_far =
     let long : length ys ≡ length xs = ap length so_far ∙ length-masking f xs i in
     map_over_more f xs ys i (get_or ys i 0) within so_far (get_or_default ys i 0 (get_or ys i 0) (omega (arith, within, long)))

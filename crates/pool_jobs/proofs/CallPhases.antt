@@ -53,7 +53,8 @@ begun_signs_not K false = refl
 
 module _ {K : Type 0} (entries : List (Entry K)) (call : CallId) where
   -- the phase is read from the call's own entries
-  pub phase-own : (e : Entry K) → same_call call (call_of e.event) ≡ true → phase_of (entries ++ e ∷ []) call ≡ phase_in (entries_of entries call ++ e ∷ [])
+  pub phase-own : (e : Entry K) → same_call call (call_of e.event) ≡ true
+      → phase_of (entries ++ e ∷ []) call ≡ phase_in (entries_of entries call ++ e ∷ [])
   unfolding phase_of
   phase-own e own = ap phase_in (entries_of-own entries call e own)
 

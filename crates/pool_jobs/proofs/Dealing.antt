@@ -35,13 +35,15 @@ module _ {X : Type 0} (item : ℕ → ℕ → X) (lists : ℕ) where
   abbrev pub dealt : ℕ → List (List X)
   dealt n = map (dealt_to n) (range_with_len 0 lists)
 
-  split : (n list : ℕ) → dealt_to (n + 1) list ≡ dealt_to n list ++ map (item list) (filter (λ j. j % lists == list) (n ∷ []))
+  split : (n list : ℕ)
+      → dealt_to (n + 1) list ≡ dealt_to n list ++ map (item list) (filter (λ j. j % lists == list) (n ∷ []))
   split n list =
       ap (λ l. map (item list) (filter (λ j. j % lists == list) l)) (one_more n)
       ∙ ap (map (item list)) (filter-append (λ j. j % lists == list) (range_with_len 0 n) (n ∷ []))
       ∙ map_append (item list) (filter (λ j. j % lists == list) (range_with_len 0 n)) (filter (λ j. j % lists == list) (n ∷ []))
 
-  gets : (n list : ℕ) → (n % lists == list) ≡ true → dealt_to (n + 1) list ≡ dealt_to n list ++ item list n ∷ []
+  gets : (n list : ℕ) → (n % lists == list) ≡ true
+      → dealt_to (n + 1) list ≡ dealt_to n list ++ item list n ∷ []
   gets n list t = split n list ∙ rw t refl
 
   keeps : (n list : ℕ) → (n % lists == list) ≡ false → dealt_to (n + 1) list ≡ dealt_to n list
@@ -64,7 +66,8 @@ module _ {X : Type 0} (item : ℕ → ℕ → X) (lists : ℕ) where
       new : List X
       new = get_or (dealt n) next [] ++ item next n ∷ []
 
-      by_test : (k : ℕ) → k < lists → (b : Bool) → (n % lists == k) ≡ b → get_or (dealt (n + 1)) k [] ≡ get_or (set (dealt n) next new) k []
+      by_test : (k : ℕ) → k < lists → (b : Bool) → (n % lists == k) ≡ b
+          → get_or (dealt (n + 1)) k [] ≡ get_or (set (dealt n) next new) k []
       by_test k kl true t =
           let e : k ≡ next = grind (arith, nat_tests) in
           at (n + 1) k kl ∙ gets n k t ∙ ap (λ l. l ++ item k n ∷ []) (sym (at n k kl)) ∙ ap (λ i. get_or (dealt n) i [] ++ item i n ∷ []) e

@@ -35,17 +35,22 @@ module _ {X : Type 0} (key : X → ℕ) where
   is_from n x = not (nat_lt (key x) n)
 
   -- items from a number on have that number, or are from the next one on
-  split_step : (n : ℕ) (x : X) (xs : List X) → length (filter (is_from n) xs) ≡ length (filter (is_of n) xs) + length (filter (is_from (suc n)) xs)
-      → Side n (key x) → length (filter (is_from n) (x ∷ xs)) ≡ length (filter (is_of n) (x ∷ xs)) + length (filter (is_from (suc n)) (x ∷ xs))
+  split_step : (n : ℕ) (x : X) (xs : List X)
+      → length (filter (is_from n) xs) ≡ length (filter (is_of n) xs) + length (filter (is_from (suc n)) xs)
+      → Side n (key x)
+      → length (filter (is_from n) (x ∷ xs))
+      ≡ length (filter (is_of n) (x ∷ xs)) + length (filter (is_from (suc n)) (x ∷ xs))
   split_step n x xs rest (below l e s) = rw (l, e, s) rest
   split_step n x xs rest (here l e s) = rw (l, e, s) (omega arith)
   split_step n x xs rest (above l e s) = rw (l, e, s) (omega arith)
 
-  pub split_from : (n : ℕ) (xs : List X) → length (filter (is_from n) xs) ≡ length (filter (is_of n) xs) + length (filter (is_from (suc n)) xs)
+  pub split_from : (n : ℕ) (xs : List X)
+      → length (filter (is_from n) xs) ≡ length (filter (is_of n) xs) + length (filter (is_from (suc n)) xs)
   split_from n [] = omega arith
   split_from n (x ∷ xs) = split_step n x xs (split_from n xs) (side n (key x))
 
-  all_step : (x : X) (xs : List X) → filter (is_from 0) xs ≡ xs → (l : Bool) → nat_lt (key x) 0 ≡ l → filter (is_from 0) (x ∷ xs) ≡ x ∷ xs
+  all_step : (x : X) (xs : List X) → filter (is_from 0) xs ≡ xs → (l : Bool) → nat_lt (key x) 0 ≡ l
+      → filter (is_from 0) (x ∷ xs) ≡ x ∷ xs
   all_step x xs rest false l = rw (l, rest) refl
   all_step x xs rest true l = absurd (grind (arith, nat_tests))
 
@@ -60,7 +65,8 @@ module _ {X : Type 0} (key : X → ℕ) where
   count_of first (suc n) xs = length (filter (is_of first) xs) + count_of (suc first) n xs
 
   -- where no item has a later number, they are all that there are from the first on
-  pub counts_all : (first n : ℕ) (xs : List X) → length (filter (is_from (first + n)) xs) ≡ 0 → count_of first n xs ≡ length (filter (is_from first) xs)
+  pub counts_all : (first n : ℕ) (xs : List X) → length (filter (is_from (first + n)) xs) ≡ 0
+      → count_of first n xs ≡ length (filter (is_from first) xs)
   counts_all first zero xs none =
       let e : first + zero ≡ first = omega arith in
       sym none ∙ ap (λ m. length (filter (is_from m) xs)) e
@@ -70,7 +76,8 @@ module _ {X : Type 0} (key : X → ℕ) where
       ap (λ m. length (filter (is_of first) xs) + m) rest ∙ sym (split_from first xs)
 
   -- an item from a number on has that number, or is from the next one on
-  from_cases : (n : ℕ) (x : X) → Side n (key x) → is_from n x ≡ true → (is_of n x ≡ true) ⊎ (is_from (suc n) x ≡ true)
+  from_cases : (n : ℕ) (x : X) → Side n (key x) → is_from n x ≡ true
+      → (is_of n x ≡ true) ⊎ (is_from (suc n) x ≡ true)
   from_cases n x (below l e s) h = absurd (false≢true (ap not (sym l) ∙ h))
   from_cases n x (here l e s) h = inl e
   from_cases n x (above l e s) h = inr (ap not s)

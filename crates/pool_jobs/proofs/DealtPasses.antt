@@ -1,4 +1,5 @@
--- A settled journal of passes that each have a handle of their own: the entries of a handle are those of its pass.
+-- A settled journal of passes that each have a handle of their own: the entries of a handle are those of its
+-- pass.
 use Rattle.std.proofs.Common.{◌≡◌, ℕ, suc, ◌+◌, ◌≤◌, ◌<◌, Bool, true, List, [], ◌∷◌, ◌++◌, filter, length, get_or, ap, subst, arith, length-append}
 use Rattle.std.specs.Prelude.{All}
 use Rattle.std.specs.List.{list_all}
@@ -23,7 +24,8 @@ next_place p ps h = λ i lt. let e : suc i + 1 ≡ suc (i + 1) = omega arith in 
 
 module _ {K : Type 0} (journal : List (Entry K)) (passes : Entry K → Bool) where
   -- the receipts behind one of them
-  picked_behind : (r : Receipt K) (rest : List (Receipt K)) → All (IsEntryOf journal) rest → IsStrictlyIncreasing (places (r ∷ rest)) → list_all passes (entries rest) ≡ true
+  picked_behind : (r : Receipt K) (rest : List (Receipt K)) → All (IsEntryOf journal) rest
+      → IsStrictlyIncreasing (places (r ∷ rest)) → list_all passes (entries rest) ≡ true
       → ArePicked passes journal (suc r.place) rest
   picked_behind r [] are rise pass = tt
   picked_behind r (s ∷ rest) are rise pass = (
@@ -34,7 +36,9 @@ module _ {K : Type 0} (journal : List (Entry K)) (passes : Entry K → Bool) whe
   )
 
   -- the receipts of a pass are picked out of the journal
-  pub pass_picked : (pass : List (Receipt K)) → All (IsEntryOf journal) pass → IsStrictlyIncreasing (places pass) → list_all passes (entries pass) ≡ true → ArePicked passes journal 0 pass
+  pub pass_picked : (pass : List (Receipt K)) → All (IsEntryOf journal) pass
+      → IsStrictlyIncreasing (places pass) → list_all passes (entries pass) ≡ true
+      → ArePicked passes journal 0 pass
   pass_picked [] are rise pass = tt
   pass_picked (r ∷ rest) are rise pass = (
     omega arith,
@@ -54,7 +58,8 @@ module _ {K : Type 0} (journal : List (Entry K)) where
   IsDealt first [] = length (filter (is_from handle_of first) journal) ≡ 0
   IsDealt first (pass ∷ passes) = (entries pass ≡ filter (is_of handle_of first) journal) × IsDealt (suc first) passes
 
-  few : (first : ℕ) (passes : List (List (Receipt K))) → AreOfHandles first passes → length (all_receipts passes) ≤ length (filter (is_from handle_of first) journal)
+  few : (first : ℕ) (passes : List (List (Receipt K))) → AreOfHandles first passes
+      → length (all_receipts passes) ≤ length (filter (is_from handle_of first) journal)
   few first [] h = omega arith
   few first (pass ∷ passes) h =
       let here : length pass ≤ length (filter (is_of handle_of first) journal) = picked_few (is_of handle_of first) journal 0 pass h.0 in
@@ -62,7 +67,9 @@ module _ {K : Type 0} (journal : List (Entry K)) where
       let both : length (pass ++ all_receipts passes) ≡ length pass + length (all_receipts passes) = length-append pass (all_receipts passes) in
       omega (arith, split_from handle_of first journal, both)
 
-  pub dealt : (first : ℕ) (passes : List (List (Receipt K))) → AreOfHandles first passes → length (filter (is_from handle_of first) journal) ≤ length (all_receipts passes) → IsDealt first passes
+  pub dealt : (first : ℕ) (passes : List (List (Receipt K))) → AreOfHandles first passes
+      → length (filter (is_from handle_of first) journal) ≤ length (all_receipts passes)
+      → IsDealt first passes
   dealt first [] h many = omega arith
   dealt first (pass ∷ passes) h many =
       let here : length pass ≤ length (filter (is_of handle_of first) journal) = picked_few (is_of handle_of first) journal 0 pass h.0 in
@@ -72,7 +79,8 @@ module _ {K : Type 0} (journal : List (Entry K)) where
       (picked_all (is_of handle_of first) journal 0 pass h.0 (omega arith), dealt (suc first) passes h.1 (omega arith))
 
   -- so it is where the journal has as many entries as the passes have receipts
-  pub settled_dealt : (passes : List (List (Receipt K))) → AreOfHandles 0 passes → length (all_receipts passes) ≡ length journal → IsDealt 0 passes
+  pub settled_dealt : (passes : List (List (Receipt K))) → AreOfHandles 0 passes
+      → length (all_receipts passes) ≡ length journal → IsDealt 0 passes
   settled_dealt passes h counted =
       let all : length (filter (is_from handle_of 0) journal) ≡ length journal = ap length (all_from handle_of journal) in
       dealt 0 passes h (omega arith)

@@ -11,7 +11,8 @@ use Rattle.signctl_format.specs.declared.credential.ScriptRule.{ScriptRule}
 use Rattle.pool_jobs.specs.Setup.{pool_setup}
 
 -- so many handles
-pub handles_many : (desk : DeskState ScriptCredential ScriptRule) (n : ℕ) → setup_of desk ≡ pool_setup n → length desk.handles ≡ n
+pub handles_many : (desk : DeskState ScriptCredential ScriptRule) (n : ℕ) → setup_of desk ≡ pool_setup n
+    → length desk.handles ≡ n
 handles_many desk n e = ap (λ (s : Setup ScriptRule). length s.handles) e ∙ length-replicate n (record { cache = 0; rule = 0 })
 
 -- one handle more

@@ -41,13 +41,19 @@ module _ {K : Type 0} (entries : List (Entry K)) (handle : ℕ) (call : CallId) 
   own_begin : begin_of (filter (is_of handle_of handle) entries) call ≡ begin_of entries call
   own_begin = ap begin_in own_entries
 
-  number_step : (e : Entry K) (h : Bool) → is_of handle_of handle e ≡ h → (h || (not (is_begin_under call.handle e) || nat_lt (call_of e.event).number call.number)) ≡ true
+  number_step : (e : Entry K) (h : Bool) → is_of handle_of handle e ≡ h
+      → (h || (not (is_begin_under call.handle e) || nat_lt (call_of e.event).number call.number)) ≡ true
   number_step e true h = refl
   number_step e false h =
       let other : (handle_of e == call.handle) ≡ false = other_handle (handle_of e) call.handle handle under h in
       rw (other, and_false (is_begun e.reply)) refl
 
-  numbers : (xs : List (Entry K)) → list_all (λ e. is_of handle_of handle e || (not (is_begin_under call.handle e) || nat_lt (call_of e.event).number call.number)) xs ≡ true
+  numbers : (xs : List (Entry K))
+      → list_all
+      (λ e. is_of handle_of handle e ||
+      (not (is_begin_under call.handle e) || nat_lt (call_of e.event).number call.number))
+      xs
+      ≡ true
   numbers xs = all_pass (λ e. is_of handle_of handle e || (not (is_begin_under call.handle e) || nat_lt (call_of e.event).number call.number)) (λ e. number_step e (is_of handle_of handle e) refl) xs
 
   own_numbers : is_new_number (filter (is_of handle_of handle) entries) call ≡ is_new_number entries call
@@ -55,7 +61,9 @@ module _ {K : Type 0} (entries : List (Entry K)) (handle : ℕ) (call : CallId) 
   own_numbers = list_all-left_out (λ (e : Entry K). not (is_begin_under call.handle e) || nat_lt (call_of e.event).number call.number) (is_of handle_of handle) entries (numbers entries)
 
 module _ {K D : Type 0} (policy : Policy K D) (setup : Setup D) (c : K) (moment : ℤ) (entries : List (Entry K)) (handle : ℕ) where
-  own_begun : (call : CallId) → (call.handle == handle) ≡ true → HasBegun policy setup c moment (filter (is_of handle_of handle) entries) call → HasBegun policy setup c moment entries call
+  own_begun : (call : CallId) → (call.handle == handle) ≡ true
+      → HasBegun policy setup c moment (filter (is_of handle_of handle) entries) call
+      → HasBegun policy setup c moment entries call
   own_begun call under h = record {
     cache = h.cache;
     rule = h.rule;
@@ -65,7 +73,9 @@ module _ {K D : Type 0} (policy : Policy K D) (setup : Setup D) (c : K) (moment 
     lasts = h.lasts;
   }
 
-  pub own_fits : (event : Event K) → ((call_of event).handle == handle) ≡ true → Fits policy setup c moment (filter (is_of handle_of handle) entries) event → Fits policy setup c moment entries event
+  pub own_fits : (event : Event K) → ((call_of event).handle == handle) ≡ true
+      → Fits policy setup c moment (filter (is_of handle_of handle) entries) event
+      → Fits policy setup c moment entries event
   own_fits (Begin call head expires_in) under f = (f.0, sym (own_numbers entries handle call under) ∙ f.1)
   own_fits (Poll call now) under f = (own_begun call under f.0, ap is_waiting (sym (own_phase entries handle call under)) ∙ f.1, f.2)
   own_fits (Provided call now answer) under f = (own_begun call under f.0, ap is_loading (sym (own_phase entries handle call under)) ∙ f.1, f.2, f.3)

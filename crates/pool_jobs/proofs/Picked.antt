@@ -9,10 +9,12 @@ record Around {X : Type 0} (xs : List X) (from place : ℕ) (x : X) : Type 0 whe
   pub before : List X
   pub is : drop from xs ≡ before ++ x ∷ drop (suc place) xs
 
-around_tail : {X : Type 0} (y : X) (xs : List X) (place : ℕ) (x : X) → Around xs 0 place x → Around (y ∷ xs) 0 (suc place) x
+around_tail : {X : Type 0} (y : X) (xs : List X) (place : ℕ) (x : X) → Around xs 0 place x
+    → Around (y ∷ xs) 0 (suc place) x
 around_tail y xs place x a = record { before = y ∷ a.before; is = ap (λ l. y ∷ l) a.is }
 
-around : {X : Type 0} (xs : List X) (from place : ℕ) (x : X) → from ≤ place → slice_get xs place ≡ Some x → Around xs from place x
+around : {X : Type 0} (xs : List X) (from place : ℕ) (x : X) → from ≤ place → slice_get xs place ≡ Some x
+    → Around xs from place x
 around [] from place x le at = absurd (cc)
 around (y ∷ xs) zero zero x le at = let e : y ≡ x = cc in record { before = []; is = ap (λ z. z ∷ xs) e }
 around (y ∷ xs) zero (suc place) x le at = around_tail y xs place x (around xs zero place x (omega arith) at)
@@ -25,7 +27,8 @@ no_items [] h = refl
 no_items (x ∷ xs) h = absurd (omega arith)
 
 module _ {K : Type 0} (passes : Entry K → Bool) (journal : List (Entry K)) where
-  -- the receipts name places of the journal that rise from this one on, with its entries there, and these pass the test
+  -- the receipts name places of the journal that rise from this one on, with its entries there, and these
+  -- pass the test
   abbrev pub ArePicked : ℕ → List (Receipt K) → Type 0
   ArePicked from [] = Unit {0}
   ArePicked from (r ∷ rest) =
@@ -34,10 +37,13 @@ module _ {K : Type 0} (passes : Entry K → Bool) (journal : List (Entry K)) whe
   -- what passes, from an item that does
   record Passing (from : ℕ) (r : Receipt K) : Type 0 where
     pub before : List (Entry K)
-    pub is : filter passes (drop from journal) ≡ before ++ r.entry ∷ filter passes (drop (suc r.place) journal)
-    pub many : length (filter passes (drop from journal)) ≡ length before + suc (length (filter passes (drop (suc r.place) journal)))
+    pub is : filter passes (drop from journal)
+        ≡ before ++ r.entry ∷ filter passes (drop (suc r.place) journal)
+    pub many : length (filter passes (drop from journal))
+        ≡ length before + suc (length (filter passes (drop (suc r.place) journal)))
 
-  passing : (from : ℕ) (r : Receipt K) → from ≤ r.place → slice_get journal r.place ≡ Some r.entry → passes r.entry ≡ true → Passing from r
+  passing : (from : ℕ) (r : Receipt K) → from ≤ r.place → slice_get journal r.place ≡ Some r.entry
+      → passes r.entry ≡ true → Passing from r
   passing from r le at passed =
       let a = around journal from r.place r.entry le at in
       let is : filter passes (drop from journal) ≡ filter passes a.before ++ r.entry ∷ filter passes (drop (suc r.place) journal) =
@@ -49,7 +55,8 @@ module _ {K : Type 0} (passes : Entry K → Bool) (journal : List (Entry K)) whe
       }
 
   -- there are no more of them than entries that pass
-  pub picked_few : (from : ℕ) (rs : List (Receipt K)) → ArePicked from rs → length rs ≤ length (filter passes (drop from journal))
+  pub picked_few : (from : ℕ) (rs : List (Receipt K)) → ArePicked from rs
+      → length rs ≤ length (filter passes (drop from journal))
   picked_few from [] p = omega arith
   picked_few from (r ∷ rest) p =
       let h = passing from r p.0 p.1 p.2 in
@@ -57,7 +64,8 @@ module _ {K : Type 0} (passes : Entry K → Bool) (journal : List (Entry K)) whe
       omega (arith, h.many)
 
   -- and where there are as many, they are all that pass, in order
-  pub picked_all : (from : ℕ) (rs : List (Receipt K)) → ArePicked from rs → length (filter passes (drop from journal)) ≤ length rs
+  pub picked_all : (from : ℕ) (rs : List (Receipt K)) → ArePicked from rs
+      → length (filter passes (drop from journal)) ≤ length rs
       → map (λ (r : Receipt K). r.entry) rs ≡ filter passes (drop from journal)
   picked_all from [] p many = sym (no_items (filter passes (drop from journal)) many)
   picked_all from (r ∷ rest) p many =

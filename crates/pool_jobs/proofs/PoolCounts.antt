@@ -67,14 +67,16 @@ well_not_cancelled (reply.Refused y w) h = refl
 well_not_cancelled (reply.Done d) h = refl
 
 -- items of which none passes
-none_pass : {X : Type 0} (p q : X → Bool) → ((x : X) → p x ≡ true → q x ≡ false) → (xs : List X) → list_all p xs ≡ true → filter q xs ≡ []
+none_pass : {X : Type 0} (p q : X → Bool) → ((x : X) → p x ≡ true → q x ≡ false) → (xs : List X)
+    → list_all p xs ≡ true → filter q xs ≡ []
 none_pass p q f [] h = refl
 none_pass p q f (x ∷ xs) h =
     let here : q x ≡ false = f x (and_left (p x) (list_all p xs) h) in
     rw here (none_pass p q f xs (and_right (p x) (list_all p xs) h))
 
 -- how many of what each item gives pass
-filter-map_length : {X Y : Type 0} (q : Y → Bool) (f : X → Y) (xs : List X) → length (filter q (map f xs)) ≡ length (filter (λ x. q (f x)) xs)
+filter-map_length : {X Y : Type 0} (q : Y → Bool) (f : X → Y) (xs : List X)
+    → length (filter q (map f xs)) ≡ length (filter (λ x. q (f x)) xs)
 filter-map_length q f [] = refl
 filter-map_length q f (x ∷ xs) =
     (elim (q (f x)) as (λ v. length (cond v (f x ∷ filter q (map f xs)) (filter q (map f xs))) ≡ length (cond v (x ∷ filter (λ y. q (f y)) xs) (filter (λ y. q (f y)) xs)))
@@ -82,11 +84,13 @@ filter-map_length q f (x ∷ xs) =
 
 module _ {K : Type 0} where
   -- the replies of a pass, counted among its entries
-  entries_count : (test : Reply K → Bool) (pass : List (Receipt K)) → length (filter (λ (e : Entry K). test e.reply) (entries pass)) ≡ replies test pass
+  entries_count : (test : Reply K → Bool) (pass : List (Receipt K))
+      → length (filter (λ (e : Entry K). test e.reply) (entries pass)) ≡ replies test pass
   entries_count test pass =
       filter-map_length (λ (e : Entry K). test e.reply) (λ (r : Receipt K). r.entry) pass ∙ length-filter (λ (r : Receipt K). test r.entry.reply) pass
 
-  no_replies : (test : Reply K → Bool) → ((r : Reply K) → goes_well r ≡ true → test r ≡ false) → (pass : List (Receipt K)) → all_well (entries pass) ≡ true → replies test pass ≡ 0
+  no_replies : (test : Reply K → Bool) → ((r : Reply K) → goes_well r ≡ true → test r ≡ false)
+      → (pass : List (Receipt K)) → all_well (entries pass) ≡ true → replies test pass ≡ 0
   no_replies test f pass well =
       sym (entries_count test pass) ∙ ap length (none_pass (λ (e : Entry K). goes_well e.reply) (λ e. test e.reply) (λ e h. f e.reply h) (entries pass) well)
 
@@ -99,7 +103,9 @@ pub record SignedAll (jobs : ℕ) (counts : Served) : Type 0 where
 
 module _ {K D : Type 0} (policy : Policy K D) (setup : Setup D) (c : K) (moment : ℤ) (loads : slice_get setup.loaders 0 ≡ Some Single) (gate : GateMeaning K) (prompt : AnswersAtOnce c moment gate) (turns : ℕ) (more_turns : 0 < turns) where
   -- where all went well a worker signed all its jobs
-  pub signed_all : (jobs : List Job) (pass : List (Receipt K)) (counts : Served) → IsServing gate turns jobs pass counts → counts.out_of_memory ≡ false → all_well (entries pass) ≡ true → SignedAll (length jobs) counts
+  pub signed_all : (jobs : List Job) (pass : List (Receipt K)) (counts : Served)
+      → IsServing gate turns jobs pass counts → counts.out_of_memory ≡ false → all_well (entries pass) ≡ true
+      → SignedAll (length jobs) counts
   signed_all jobs pass counts s m well =
       let refused : counts.refused ≡ 0 = s.refused ∙ no_replies is_refused (well_not_refused {K = K}) pass well in
       let not_now : counts.not_now ≡ 0 = s.not_now ∙ no_replies is_not_now (well_not_not_now {K = K}) pass well in
@@ -109,19 +115,24 @@ module _ {K D : Type 0} (policy : Policy K D) (setup : Setup D) (c : K) (moment 
 
   module _ (journal : List (Entry K)) (well : all_well journal ≡ true) where
     -- a pass of a handle went well
-    pass_well : (first : ℕ) (pass : List (Receipt K)) → entries pass ≡ filter (is_of handle_of first) journal → all_well (entries pass) ≡ true
+    pass_well : (first : ℕ) (pass : List (Receipt K)) → entries pass ≡ filter (is_of handle_of first) journal
+        → all_well (entries pass) ≡ true
     pass_well first pass e = ap (all_well {K = K}) e ∙ list_all-filter_of (λ (x : Entry K). goes_well x.reply) (is_of handle_of first) journal well
 
     -- what the workers from a handle on left
     pub record Counts (first : ℕ) (lists : List (List Job)) (served : List Served) : Type 0 where
-      pub dones : length (filter (is_from handle_of first) (filter (λ (e : Entry K). is_done e.reply) journal)) ≡ jobs_in lists
+      pub dones : length
+          (filter (is_from handle_of first) (filter (λ (e : Entry K). is_done e.reply) journal))
+          ≡ jobs_in lists
       pub done : sum_by (λ (s : Served). s.done) served ≡ jobs_in lists
       pub refused : All (λ (s : Served). s.refused ≡ 0) served
       pub not_now : All (λ (s : Served). s.not_now ≡ 0) served
       pub given_up : All (λ (s : Served). s.given_up ≡ 0) served
 
-    pub counts : (first : ℕ) (lists : List (List Job)) (passes : List (List (Receipt K))) (served : List Served) → AreServed policy setup c moment loads gate prompt turns more_turns first lists passes served → IsDealt journal first passes
-        → Counts first lists served
+    pub counts : (first : ℕ) (lists : List (List Job)) (passes : List (List (Receipt K)))
+        (served : List Served)
+        → AreServed policy setup c moment loads gate prompt turns more_turns first lists passes served
+        → IsDealt journal first passes → Counts first lists served
     counts _ _ _ _ (no_more first) d = record {
       dones =
           ap length (filter-swap (is_from handle_of first) (λ (e : Entry K). is_done e.reply) journal
@@ -149,12 +160,16 @@ module _ {K D : Type 0} (policy : Policy K D) (setup : Setup D) (c : K) (moment 
           given_up = All-cons (λ (x : Served). x.given_up ≡ 0) own served all.given_up later.given_up;
         }
 
-  no_receipts : (jobs : List Job) (pass : List (Receipt K)) → ServesAll gate turns jobs pass → length jobs ≡ 0 → pass ≡ []
+  no_receipts : (jobs : List Job) (pass : List (Receipt K)) → ServesAll gate turns jobs pass → length jobs ≡ 0
+      → pass ≡ []
   no_receipts [] pass s none = s
   no_receipts (j ∷ jobs) pass s none = absurd (omega arith)
 
   -- without jobs there are no receipts
-  pub no_jobs : (first : ℕ) (lists : List (List Job)) (passes : List (List (Receipt K))) (served : List Served) → AreServed policy setup c moment loads gate prompt turns more_turns first lists passes served → jobs_in lists ≡ 0 → length (all_receipts passes) ≡ 0
+  pub no_jobs : (first : ℕ) (lists : List (List Job)) (passes : List (List (Receipt K)))
+      (served : List Served)
+      → AreServed policy setup c moment loads gate prompt turns more_turns first lists passes served
+      → jobs_in lists ≡ 0 → length (all_receipts passes) ≡ 0
   no_jobs _ _ _ _ (no_more first) none = refl
   no_jobs _ _ _ _ (one_more first jobs lists pass passes own served a s m more) none =
       let empty : pass ≡ [] = no_receipts jobs pass (serves_all policy setup c moment loads gate prompt turns more_turns jobs pass own s m) (omega arith) in
@@ -165,11 +180,15 @@ module _ {K D : Type 0} (policy : Policy K D) (setup : Setup D) (c : K) (moment 
   once : (n : ℕ) → 1 ≡ min (suc n) 1
   once n = omega arith
 
-  asked_once : (journal : List (Entry K)) (n : ℕ) → PoolState policy setup c moment journal → length (filter (λ (e : Entry K). is_done e.reply) journal) ≡ suc n → length (filter (λ (e : Entry K). is_ask e.reply) journal) ≡ min (suc n) 1
+  asked_once : (journal : List (Entry K)) (n : ℕ) → PoolState policy setup c moment journal
+      → length (filter (λ (e : Entry K). is_done e.reply) journal) ≡ suc n
+      → length (filter (λ (e : Entry K). is_ask e.reply) journal) ≡ min (suc n) 1
   asked_once journal n (untouched empty a d idle unsigned) h = absurd (omega (arith, d, h))
   asked_once journal n (loading x atx l empty a d unsigned) h = absurd (omega (arith, d, h))
   asked_once journal n (loaded full a idle) h = a ∙ once n
 
-  pub asks_are : (journal : List (Entry K)) (n : ℕ) → PoolState policy setup c moment journal → length (filter (λ (e : Entry K). is_done e.reply) journal) ≡ n → (n ≡ 0 → journal ≡ []) → length (filter (λ (e : Entry K). is_ask e.reply) journal) ≡ min n 1
+  pub asks_are : (journal : List (Entry K)) (n : ℕ) → PoolState policy setup c moment journal
+      → length (filter (λ (e : Entry K). is_done e.reply) journal) ≡ n → (n ≡ 0 → journal ≡ [])
+      → length (filter (λ (e : Entry K). is_ask e.reply) journal) ≡ min n 1
   asks_are journal zero state h none = ap (λ (l : List (Entry K)). length (filter (λ (e : Entry K). is_ask e.reply) l)) (none refl)
   asks_are journal (suc n) state h none = asked_once journal n state h

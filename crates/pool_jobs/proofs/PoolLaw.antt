@@ -31,7 +31,8 @@ module _ {K D : Type 0} (policy : Policy K D) (setup : Setup D) (c : K) (moment 
     (gate : GateMeaning K) (at_once : AnswersAtOnce c moment gate) (turns : ℕ) (some : 0 < turns) (lists : List (List Job))
     (journal : List (Entry K)) (passes : List (List (Receipt K))) (served : List Served) where
   -- the journal of such workers is a pool's, and they signed all
-  signs_all : AreServed policy setup c moment loads gate at_once turns some 0 lists passes served → IsSettled journal passes → IsLegal policy setup journal → SignsAll (jobs_in lists) journal served
+  signs_all : AreServed policy setup c moment loads gate at_once turns some 0 lists passes served
+      → IsSettled journal passes → IsLegal policy setup journal → SignsAll (jobs_in lists) journal served
   signs_all are settled legal =
       let dealt : IsDealt journal 0 passes = dealt_journal policy setup c moment loads gate at_once turns some journal lists passes served are settled in
       let pool : IsPool policy setup c moment journal = is_pool policy setup c moment loads gate at_once turns some journal lists passes served are settled legal in
@@ -55,7 +56,8 @@ module _ {K D : Type 0} (policy : Policy K D) (setup : Setup D) (c : K) (moment 
         given_up = all.given_up;
       }
 
-pub prompt_calls_are_signed : {K D : Type 0} (policy : Policy K D) (gate : GateMeaning K) → PromptCallsAreSigned policy gate
+pub prompt_calls_are_signed : {K D : Type 0} (policy : Policy K D) (gate : GateMeaning K)
+    → PromptCallsAreSigned policy gate
 prompt_calls_are_signed policy gate setup c moment turns lists journal passes served loads at_once some are settled legal serves memory =
     signs_all policy setup c moment loads gate at_once turns some lists journal passes served
     (are_served policy setup c moment loads gate at_once turns some 0 lists passes served are serves memory) settled legal

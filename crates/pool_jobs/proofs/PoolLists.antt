@@ -1,4 +1,5 @@
--- The lists of a pool: each is of its worker's handle, with numbers that rise, and together they have all jobs.
+-- The lists of a pool: each is of its worker's handle, with numbers that rise, and together they have all
+-- jobs.
 use Rattle.std.proofs.Common.{◌≡◌, ℕ, pos, zero, suc, ◌+◌, ◌*◌, ◌/◌, ◌%◌, ◌≤◌, ◌<◌, ◌==◌, nat_lt, Bool, true, false, List, [], ◌∷◌, Some, filter, length, map, replicate, slice_get, option_map, option_and_then, refl, sym, ◌∙◌, ap, subst, arith}
 use Rattle.std.specs.List.{range_with_len}
 use Rattle.std.proofs.Math.Nat.{mul-le-mul_left}
@@ -46,7 +47,8 @@ quotient_rises n a b more lt same = by_test (nat_lt (a / n) (b / n)) refl
         absurd (omega arith)
 
 module _ (workers : ℕ) (some : 0 < workers) where
-  worker_job : (first number : ℕ) → first < workers → IsWorkerJob script_policy (pool_setup workers) pool_credential (pos 0) first (pool_job first number)
+  worker_job : (first number : ℕ) → first < workers
+      → IsWorkerJob script_policy (pool_setup workers) pool_credential (pos 0) first (pool_job first number)
   worker_job first number lt = record {
     under = refl;
     cache = ap (option_map (λ (h : Handle). h.cache)) (handle_at workers first lt);
@@ -59,14 +61,19 @@ module _ (workers : ℕ) (some : 0 < workers) where
   abbrev jobs_from : ℕ → ℕ → ℕ → List Job
   jobs_from first at n = map (λ j. pool_job first (j / workers)) (filter (λ j. j % workers == first) (range_with_len at n))
 
-  worker_jobs : (first : ℕ) → first < workers → (at n from : ℕ) → ((j : ℕ) → at ≤ j → j % workers ≡ first → from ≤ j / workers)
-      → AreWorkerJobs script_policy (pool_setup workers) pool_credential (pos 0) first from (jobs_from first at n)
+  worker_jobs : (first : ℕ) → first < workers → (at n from : ℕ)
+      → ((j : ℕ) → at ≤ j → j % workers ≡ first → from ≤ j / workers)
+      → AreWorkerJobs script_policy (pool_setup workers) pool_credential (pos 0) first from
+      (jobs_from first at n)
   worker_jobs first lt at zero from above = tt
   worker_jobs first lt at (suc n) from above = by_test (at % workers == first) refl (λ m k. worker_jobs first lt (at + 1) n m k)
     where
       by_test : (t : Bool) → (at % workers == first) ≡ t
-          → ((m : ℕ) → ((j : ℕ) → at + 1 ≤ j → j % workers ≡ first → m ≤ j / workers) → AreWorkerJobs script_policy (pool_setup workers) pool_credential (pos 0) first m (jobs_from first (at + 1) n))
-          → AreWorkerJobs script_policy (pool_setup workers) pool_credential (pos 0) first from (jobs_from first at (suc n))
+          → ((m : ℕ) → ((j : ℕ) → at + 1 ≤ j → j % workers ≡ first → m ≤ j / workers)
+          → AreWorkerJobs script_policy (pool_setup workers) pool_credential (pos 0) first m (jobs_from first
+          (at + 1) n))
+          → AreWorkerJobs script_policy (pool_setup workers) pool_credential (pos 0) first from
+          (jobs_from first at (suc n))
       by_test true t later =
           let here : at % workers ≡ first = grind (arith, nat_tests) in
           rw t (
@@ -79,7 +86,8 @@ module _ (workers : ℕ) (some : 0 < workers) where
   module _ (jobs : ℕ) where
     -- the lists from one worker on
     lists_from : (first n : ℕ) → first + n ≡ workers
-        → AreWorkerLists script_policy (pool_setup workers) pool_credential (pos 0) first (map (jobs_of_worker workers jobs) (range_with_len first n))
+        → AreWorkerLists script_policy (pool_setup workers) pool_credential (pos 0) first
+        (map (jobs_of_worker workers jobs) (range_with_len first n))
     lists_from first zero e = tt
     lists_from first (suc n) e =
         let next : first + 1 ≡ suc first = omega arith in (
@@ -88,14 +96,17 @@ module _ (workers : ℕ) (some : 0 < workers) where
               (lists_from (first + 1) n (omega arith)),
         )
 
-    pub pool_lists : AreWorkerLists script_policy (pool_setup workers) pool_credential (pos 0) 0 (pool_work workers jobs)
+    pub pool_lists : AreWorkerLists script_policy (pool_setup workers) pool_credential (pos 0) 0
+        (pool_work workers jobs)
     pool_lists = lists_from 0 workers (omega arith)
 
     -- the worker of a job
     abbrev worker_of : ℕ → ℕ
     worker_of j = j % workers
 
-    lengths_from : (first n : ℕ) → jobs_in (map (jobs_of_worker workers jobs) (range_with_len first n)) ≡ count_of worker_of first n (range_with_len 0 jobs)
+    lengths_from : (first n : ℕ)
+        → jobs_in (map (jobs_of_worker workers jobs) (range_with_len first n))
+        ≡ count_of worker_of first n (range_with_len 0 jobs)
     lengths_from first zero = refl
     lengths_from first (suc n) =
         let next : first + 1 ≡ suc first = omega arith in

@@ -48,13 +48,15 @@ well_in_memory (reply.Refused y w) h = refl
 well_in_memory (reply.Done d) h = refl
 well_in_memory (reply.Cancelled w) h = refl
 
-filter_kept : {X : Type 0} (p q : X → Bool) → ((x : X) → p x ≡ true → q x ≡ true) → (xs : List X) → list_all p xs ≡ true → filter q xs ≡ xs
+filter_kept : {X : Type 0} (p q : X → Bool) → ((x : X) → p x ≡ true → q x ≡ true) → (xs : List X)
+    → list_all p xs ≡ true → filter q xs ≡ xs
 filter_kept p q f [] h = refl
 filter_kept p q f (x ∷ xs) h =
     let here : q x ≡ true = f x (and_left (p x) (list_all p xs) h) in
     rw (here, filter_kept p q f xs (and_right (p x) (list_all p xs) h)) refl
 
-all_committed : {K : Type 0} (entries : List (Entry K)) → all_well entries ≡ true → committed_entries entries ≡ entries
+all_committed : {K : Type 0} (entries : List (Entry K)) → all_well entries ≡ true
+    → committed_entries entries ≡ entries
 unfolding committed_entries
 all_committed {K = K} entries h = filter_kept (λ (e : Entry K). goes_well e.reply) (λ e. not (is_out_of_memory e.reply)) (λ e w. ap not (well_in_memory e.reply w)) entries h
 
@@ -70,25 +72,33 @@ module _ {K D : Type 0} (policy : Policy K D) (setup : Setup D) (c : K) (moment 
     Expected before e = IsExpected policy setup c moment before e
 
     -- legal entries whose events fit leave a pool
-    grows_by : (before rest : List (Entry K)) → IsPool policy setup c moment before → IsLegalAfter policy setup before rest → EachAfter Expected before rest → IsPool policy setup c moment (before ++ rest)
+    grows_by : (before rest : List (Entry K)) → IsPool policy setup c moment before
+        → IsLegalAfter policy setup before rest → EachAfter Expected before rest
+        → IsPool policy setup c moment (before ++ rest)
     grows_by before [] pool legal fits = subst (λ (l : List (Entry K)). IsPool policy setup c moment l) (sym (append-nil before)) pool
     grows_by before (e ∷ rest) pool legal fits =
         let here : IsLegalEntry policy setup before e = subst (λ (l : List (Entry K)). IsLegalEntry policy setup l e) (all_committed before pool.well) legal.0 in
         let next : IsPool policy setup c moment (before ++ e ∷ []) = event_pool policy setup c moment loads before pool e.reply fits.0.0 e.event here (fits.0.1 pool.well) in
         subst (λ (l : List (Entry K)). IsPool policy setup c moment l) (append_assoc before (e ∷ []) rest) (grows_by (before ++ e ∷ []) rest next legal.1 fits.1)
 
-    pub journal_pool : (journal : List (Entry K)) → IsLegal policy setup journal → EachAfter Expected [] journal → IsPool policy setup c moment journal
+    pub journal_pool : (journal : List (Entry K)) → IsLegal policy setup journal
+        → EachAfter Expected [] journal → IsPool policy setup c moment journal
     unfolding IsLegal
     journal_pool journal legal fits = grows_by [] journal nothing legal fits
 
-    -- lists of jobs, each of the next handle, with the passes and the counts of their workers, none of which ran out of memory
+    -- lists of jobs, each of the next handle, with the passes and the counts of their workers, none of which
+    -- ran out of memory
     pub data AreServed : ℕ → List (List Job) → List (List (Receipt K)) → List Served → Type 0 where
       no_more : (first : ℕ) → AreServed first [] [] []
-      one_more : (first : ℕ) (jobs : List Job) (lists : List (List Job)) (pass : List (Receipt K)) (passes : List (List (Receipt K))) (counts : Served) (served : List Served)
-          → AreWorkerJobs policy setup c moment first 0 jobs → IsServing gate turns jobs pass counts → counts.out_of_memory ≡ false → AreServed (suc first) lists passes served
+      one_more : (first : ℕ) (jobs : List Job) (lists : List (List Job)) (pass : List (Receipt K))
+          (passes : List (List (Receipt K))) (counts : Served) (served : List Served)
+          → AreWorkerJobs policy setup c moment first 0 jobs → IsServing gate turns jobs pass counts
+          → counts.out_of_memory ≡ false → AreServed (suc first) lists passes served
           → AreServed first (jobs ∷ lists) (pass ∷ passes) (counts ∷ served)
 
-    pub are_served : (first : ℕ) (lists : List (List Job)) (passes : List (List (Receipt K))) (served : List Served) → AreWorkerLists policy setup c moment first lists → ServesLists gate turns lists passes served → All (λ (s : Served). s.out_of_memory ≡ false) served
+    pub are_served : (first : ℕ) (lists : List (List Job)) (passes : List (List (Receipt K)))
+        (served : List Served) → AreWorkerLists policy setup c moment first lists
+        → ServesLists gate turns lists passes served → All (λ (s : Served). s.out_of_memory ≡ false) served
         → AreServed first lists passes served
     are_served first [] [] [] a s m = no_more first
     are_served first (jobs ∷ lists) (pass ∷ passes) (counts ∷ served) a s m =
@@ -102,12 +112,16 @@ module _ {K D : Type 0} (policy : Policy K D) (setup : Setup D) (c : K) (moment 
     are_served first (j ∷ js) (p ∷ ps) [] a s m = absurd s
 
     -- a worker that did not run out of memory served all its jobs
-    pub serves_all : (jobs : List Job) (pass : List (Receipt K)) (counts : Served) → IsServing gate turns jobs pass counts → counts.out_of_memory ≡ false → ServesAll gate turns jobs pass
+    pub serves_all : (jobs : List Job) (pass : List (Receipt K)) (counts : Served)
+        → IsServing gate turns jobs pass counts → counts.out_of_memory ≡ false
+        → ServesAll gate turns jobs pass
     serves_all jobs pass counts s m = subst (λ (b : Bool). MatchBool b (StopsAtAJob gate turns jobs pass counts.given_up) (ServesAll gate turns jobs pass)) m s.course
 
     module _ (journal : List (Entry K)) where
       -- the passes are of handles of their own
-      pub of_handles : (first : ℕ) (lists : List (List Job)) (passes : List (List (Receipt K))) (served : List Served) → AreServed first lists passes served → AreEntriesOf journal passes → AreRising passes → AreOfHandles journal first passes
+      pub of_handles : (first : ℕ) (lists : List (List Job)) (passes : List (List (Receipt K)))
+          (served : List Served) → AreServed first lists passes served → AreEntriesOf journal passes
+          → AreRising passes → AreOfHandles journal first passes
       of_handles _ _ _ _ (no_more first) are rise = tt
       of_handles _ _ _ _ (one_more first jobs lists pass passes counts served a s m more) are rise = (
         pass_picked journal (is_of handle_of first) pass (All-head (All (IsEntryOf journal)) pass passes are) (All-head (λ (r : List (Receipt K)). IsStrictlyIncreasing (places r)) pass passes rise)
@@ -116,7 +130,8 @@ module _ {K D : Type 0} (policy : Policy K D) (setup : Setup D) (c : K) (moment 
       )
 
       -- each entry of a handle of theirs is expected after those before it
-      pub all_expected : (first : ℕ) (lists : List (List Job)) (passes : List (List (Receipt K))) (served : List Served) → AreServed first lists passes served → IsDealt journal first passes
+      pub all_expected : (first : ℕ) (lists : List (List Job)) (passes : List (List (Receipt K)))
+          (served : List Served) → AreServed first lists passes served → IsDealt journal first passes
           → EachAfter (Where Expected (is_from handle_of first)) [] journal
       all_expected _ _ _ _ (no_more first) d = nobody Expected (is_from handle_of first) [] journal d
       all_expected _ _ _ _ (one_more first jobs lists pass passes counts served a s m more) d =
@@ -129,10 +144,13 @@ module _ {K D : Type 0} (policy : Policy K D) (setup : Setup D) (c : K) (moment 
           either Expected (is_of handle_of first) (is_from handle_of (suc first)) (is_from handle_of first) (λ x t. from_either handle_of first x t) [] journal here (all_expected (suc first) lists passes served more d.1)
 
       -- so the whole journal is a pool's, and each pass has the entries of its handle
-      pub dealt_journal : (lists : List (List Job)) (passes : List (List (Receipt K))) (served : List Served) → AreServed 0 lists passes served → IsSettled journal passes → IsDealt journal 0 passes
+      pub dealt_journal : (lists : List (List Job)) (passes : List (List (Receipt K))) (served : List Served)
+          → AreServed 0 lists passes served → IsSettled journal passes → IsDealt journal 0 passes
       dealt_journal lists passes served are s = settled_dealt journal passes (of_handles 0 lists passes served are s.entries s.rising) s.counted
 
-      pub is_pool : (lists : List (List Job)) (passes : List (List (Receipt K))) (served : List Served) → AreServed 0 lists passes served → IsSettled journal passes → IsLegal policy setup journal → IsPool policy setup c moment journal
+      pub is_pool : (lists : List (List Job)) (passes : List (List (Receipt K))) (served : List Served)
+          → AreServed 0 lists passes served → IsSettled journal passes → IsLegal policy setup journal
+          → IsPool policy setup c moment journal
       is_pool lists passes served are s legal =
           journal_pool journal legal
           (each-weaker (Where Expected (is_from handle_of 0)) Expected (λ before x h. h (from_zero handle_of x)) [] journal (all_expected 0 lists passes served are (dealt_journal lists passes served are s)))

@@ -43,7 +43,8 @@ use Rattle.pool_jobs.proofs.ExpectedAtOneProvider.{expected_begin, expected_wait
 use Rattle.pool_jobs.proofs.FittingEvents.{all_well, HasBegun, Fits}
 
 -- a new number is of a call that was begun with nothing
-new_begins_nothing : {K : Type 0} (entries : List (Entry K)) (call : CallId) → is_new_number entries call ≡ true → is_some (begin_of entries call) ≡ false
+new_begins_nothing : {K : Type 0} (entries : List (Entry K)) (call : CallId)
+    → is_new_number entries call ≡ true → is_some (begin_of entries call) ≡ false
 unfolding begin_in
 new_begins_nothing entries call new = rw (new_is_unbegun call entries new) refl
 
@@ -64,10 +65,13 @@ module _ {K D : Type 0} (policy : Policy K D) (setup : Setup D) (c : K) (moment 
 
   -- nobody asked yet; one call asked, and is not answered; the credential is there, and nobody will ask again
   pub data PoolState (entries : List (Entry K)) : Type 0 where
-    untouched : sequential_cache policy setup entries 0 ≡ None → asks entries ≡ 0 → dones entries ≡ 0 → NobodyLoads entries → NobodySigns entries → PoolState entries
+    untouched : sequential_cache policy setup entries 0 ≡ None → asks entries ≡ 0 → dones entries ≡ 0
+        → NobodyLoads entries → NobodySigns entries → PoolState entries
     loading : (x : CallId) → cache_of setup x ≡ Some 0 → is_loading (phase_of entries x) ≡ true
-        → sequential_cache policy setup entries 0 ≡ None → asks entries ≡ 1 → dones entries ≡ 0 → NobodySigns entries → PoolState entries
-    loaded : sequential_cache policy setup entries 0 ≡ Some c → asks entries ≡ 1 → NobodyLoads entries → PoolState entries
+        → sequential_cache policy setup entries 0 ≡ None → asks entries ≡ 1 → dones entries ≡ 0
+        → NobodySigns entries → PoolState entries
+    loaded : sequential_cache policy setup entries 0 ≡ Some c → asks entries ≡ 1 → NobodyLoads entries
+        → PoolState entries
 
   -- a run in which all went well, and the state of its cache
   pub record IsPool (entries : List (Entry K)) : Type 0 where
@@ -95,7 +99,10 @@ module _ {K D : Type 0} (policy : Policy K D) (setup : Setup D) (c : K) (moment 
     dones_same h = ap length (filter-more_no (λ (e : Entry K). is_done e.reply) entries (record { event = event; reply = reply }) h)
 
     -- a mark that asks nobody leaves nobody loading where no other call loads
-    idle_mark : is_mark reply ≡ true → is_ask reply ≡ false → ((b : CallId) → cache_of setup b ≡ Some 0 → same_call b (call_of event) ≡ false → is_loading (phase_of entries b) ≡ false) → NobodyLoads next
+    idle_mark : is_mark reply ≡ true → is_ask reply ≡ false
+        → ((b : CallId) → cache_of setup b ≡ Some 0 → same_call b (call_of event) ≡ false
+        → is_loading (phase_of entries b) ≡ false)
+        → NobodyLoads next
     idle_mark m a others b at = by_call (same_call b (call_of event)) refl
       where
         by_call : (s : Bool) → same_call b (call_of event) ≡ s → is_loading (phase_of next b) ≡ false
@@ -110,7 +117,8 @@ module _ {K D : Type 0} (policy : Policy K D) (setup : Setup D) (c : K) (moment 
         by_call false s = ap is_loading (phase-other setup entries 0 (record { event = event; reply = reply }) b s) ∙ idle b at
 
     -- a mark by which no call signs leaves nobody signing
-    unsigned_mark : is_mark reply ≡ true → ((w : Bool) → is_signing (phase_by w reply) ≡ false) → NobodySigns entries → NobodySigns next
+    unsigned_mark : is_mark reply ≡ true → ((w : Bool) → is_signing (phase_by w reply) ≡ false)
+        → NobodySigns entries → NobodySigns next
     unsigned_mark m never idle b at = by_call (same_call b (call_of event)) refl
       where
         by_call : (s : Bool) → same_call b (call_of event) ≡ s → is_signing (phase_of next b) ≡ false
@@ -118,10 +126,12 @@ module _ {K D : Type 0} (policy : Policy K D) (setup : Setup D) (c : K) (moment 
         by_call false s = ap is_signing (phase-other setup entries 0 (record { event = event; reply = reply }) b s) ∙ idle b at
 
   -- nor does a poll that waits
-  unsigned_pending : (entries : List (Entry K)) (call : CallId) (now : ℤ) → NobodySigns entries → NobodySigns (next entries (Poll call now) Pending)
+  unsigned_pending : (entries : List (Entry K)) (call : CallId) (now : ℤ) → NobodySigns entries
+      → NobodySigns (next entries (Poll call now) Pending)
   unsigned_pending entries call now idle b at = by_call (same_call b call) refl
     where
-      by_call : (s : Bool) → same_call b call ≡ s → is_signing (phase_of (next entries (Poll call now) Pending) b) ≡ false
+      by_call : (s : Bool) → same_call b call ≡ s
+          → is_signing (phase_of (next entries (Poll call now) Pending) b) ≡ false
       by_call true s =
           ap is_signing (phase-own entries b (record { event = Poll call now; reply = Pending }) s ∙ phase_in-pending (entries_of entries b) call now ∙ ap to_queued (phase_is-in entries b))
           ∙ queued_signing (phase_of entries b) ∙ idle b at
@@ -129,11 +139,14 @@ module _ {K D : Type 0} (policy : Policy K D) (setup : Setup D) (c : K) (moment 
 
   module _ (loads : slice_get setup.loaders 0 ≡ Some Single) (entries : List (Entry K)) (pool : IsPool entries) where
     -- the cache holds what is handed out, or else what it held
-    cache_next : (event : Event K) (reply : Reply K) → LegalStep policy setup entries event reply → cache_of setup (call_of event) ≡ Some 0
-        → sequential_cache policy setup (next entries event reply) 0 ≡ option_or (handed_out reply) (sequential_cache policy setup entries 0)
+    cache_next : (event : Event K) (reply : Reply K) → LegalStep policy setup entries event reply
+        → cache_of setup (call_of event) ≡ Some 0
+        → sequential_cache policy setup (next entries event reply) 0
+        ≡ option_or (handed_out reply) (sequential_cache policy setup entries 0)
     cache_next event reply step at = cache_own policy setup entries pool.run event reply step 0 at
 
-    grows : (event : Event K) (reply : Reply K) → LegalStep policy setup entries event reply → goes_well reply ≡ true → PoolState (next entries event reply) → IsPool (next entries event reply)
+    grows : (event : Event K) (reply : Reply K) → LegalStep policy setup entries event reply
+        → goes_well reply ≡ true → PoolState (next entries event reply) → IsPool (next entries event reply)
     grows event reply step well state = record {
       run = more entries event reply pool.run step;
       well = list_all-more (λ (e : Entry K). goes_well e.reply) entries (record { event = event; reply = reply }) ∙ rw (pool.well, well) refl;
@@ -141,8 +154,10 @@ module _ {K D : Type 0} (policy : Policy K D) (setup : Setup D) (c : K) (moment 
     }
 
     -- a begin
-    begun_state : (call : CallId) (head : Head) (expires_in : Option Duration) → LegalStep policy setup entries (Begin call head expires_in) Begun → cache_of setup call ≡ Some 0 → is_new_number entries call ≡ true
-        → PoolState entries → PoolState (next entries (Begin call head expires_in) Begun)
+    begun_state : (call : CallId) (head : Head) (expires_in : Option Duration)
+        → LegalStep policy setup entries (Begin call head expires_in) Begun → cache_of setup call ≡ Some 0
+        → is_new_number entries call ≡ true → PoolState entries
+        → PoolState (next entries (Begin call head expires_in) Begun)
     begun_state call head expires_in step at new (untouched empty a d idle unsigned) =
         let e : Event K = Begin call head expires_in in
         untouched (cache_next e Begun step at ∙ empty) (asks_same entries e Begun refl ∙ a) (dones_same entries e Begun refl ∙ d)
@@ -160,7 +175,8 @@ module _ {K D : Type 0} (policy : Policy K D) (setup : Setup D) (c : K) (moment 
         loaded (cache_next e Begun step at ∙ full) (asks_same entries e Begun refl ∙ a) (idle_mark entries e Begun refl refl (λ b atb s. idle b atb))
 
     -- a poll before the turn
-    pending_state : (call : CallId) (now : ℤ) → LegalStep policy setup entries (Poll call now) Pending → cache_of setup call ≡ Some 0 → PoolState entries → PoolState (next entries (Poll call now) Pending)
+    pending_state : (call : CallId) (now : ℤ) → LegalStep policy setup entries (Poll call now) Pending
+        → cache_of setup call ≡ Some 0 → PoolState entries → PoolState (next entries (Poll call now) Pending)
     pending_state call now step at (untouched empty a d idle unsigned) =
         let e : Event K = Poll call now in
         untouched (cache_next e Pending step at ∙ empty) (asks_same entries e Pending refl ∙ a) (dones_same entries e Pending refl ∙ d)
@@ -169,7 +185,8 @@ module _ {K D : Type 0} (policy : Policy K D) (setup : Setup D) (c : K) (moment 
         let e : Event K = Poll call now in
         loading x atx (still (same_call x call) refl) (cache_next e Pending step at ∙ empty) (asks_same entries e Pending refl ∙ a) (dones_same entries e Pending refl ∙ d) (unsigned_pending entries call now unsigned)
       where
-        still : (s : Bool) → same_call x call ≡ s → is_loading (phase_of (next entries (Poll call now) Pending) x) ≡ true
+        still : (s : Bool) → same_call x call ≡ s
+            → is_loading (phase_of (next entries (Poll call now) Pending) x) ≡ true
         still true s = loads-own_unmarked setup entries 0 (record { event = Poll call now; reply = Pending }) x s refl ∙ l
         still false s = ap is_loading (phase-other setup entries 0 (record { event = Poll call now; reply = Pending }) x s) ∙ l
     pending_state call now step at (loaded full a idle) =
@@ -177,8 +194,9 @@ module _ {K D : Type 0} (policy : Policy K D) (setup : Setup D) (c : K) (moment 
         loaded (cache_next e Pending step at ∙ full) (asks_same entries e Pending refl ∙ a) (idle_unmarked entries e Pending refl idle)
 
     -- the first look asks
-    ask_state : (call : CallId) (now : ℤ) → LegalStep policy setup entries (Poll call now) (Ask 0) → cache_of setup call ≡ Some 0 → sequential_cache policy setup entries 0 ≡ None → asks entries ≡ 0 → dones entries ≡ 0 → NobodySigns entries
-        → PoolState (next entries (Poll call now) (Ask 0))
+    ask_state : (call : CallId) (now : ℤ) → LegalStep policy setup entries (Poll call now) (Ask 0)
+        → cache_of setup call ≡ Some 0 → sequential_cache policy setup entries 0 ≡ None → asks entries ≡ 0
+        → dones entries ≡ 0 → NobodySigns entries → PoolState (next entries (Poll call now) (Ask 0))
     ask_state call now step at empty a d unsigned =
         let e : Event K = Poll call now in
         loading call at (loads-own_mark setup entries 0 (record { event = e; reply = Ask 0 }) call (same_call-refl call) refl)
@@ -186,18 +204,24 @@ module _ {K D : Type 0} (policy : Policy K D) (setup : Setup D) (c : K) (moment 
         (unsigned_mark entries e (Ask 0) refl (λ w. refl) unsigned)
 
     -- a credential that is handed out is there for good
-    sign_state : (event : Event K) (wake : Option CallId) → LegalStep policy setup entries event (Sign c wake) → cache_of setup (call_of event) ≡ Some 0 → asks entries ≡ 1
-        → ((b : CallId) → cache_of setup b ≡ Some 0 → same_call b (call_of event) ≡ false → is_loading (phase_of entries b) ≡ false) → PoolState (next entries event (Sign c wake))
+    sign_state : (event : Event K) (wake : Option CallId) → LegalStep policy setup entries event (Sign c wake)
+        → cache_of setup (call_of event) ≡ Some 0 → asks entries ≡ 1
+        → ((b : CallId) → cache_of setup b ≡ Some 0 → same_call b (call_of event) ≡ false
+        → is_loading (phase_of entries b) ≡ false)
+        → PoolState (next entries event (Sign c wake))
     sign_state event wake step at a others =
         loaded (cache_next event (Sign c wake) step at) (asks_same entries event (Sign c wake) refl ∙ a) (idle_mark entries event (Sign c wake) refl refl others)
 
-    done_state : (event : Event K) (head : Head) → LegalStep policy setup entries event (Done head) → cache_of setup (call_of event) ≡ Some 0 → sequential_cache policy setup entries 0 ≡ Some c → asks entries ≡ 1 → NobodyLoads entries
-        → PoolState (next entries event (Done head))
+    done_state : (event : Event K) (head : Head) → LegalStep policy setup entries event (Done head)
+        → cache_of setup (call_of event) ≡ Some 0 → sequential_cache policy setup entries 0 ≡ Some c
+        → asks entries ≡ 1 → NobodyLoads entries → PoolState (next entries event (Done head))
     done_state event head step at full a idle =
         loaded (cache_next event (Done head) step at ∙ full) (asks_same entries event (Done head) refl ∙ a) (idle_mark entries event (Done head) refl refl (λ b atb s. idle b atb))
 
     -- beside a call that loads none waits at its turn, and no other loads
-    turn_alone : (x call : CallId) → cache_of setup x ≡ Some 0 → is_loading (phase_of entries x) ≡ true → cache_of setup call ≡ Some 0 → is_waiting (phase_of entries call) ≡ true → has_turn setup entries 0 call ≡ true → ⊥
+    turn_alone : (x call : CallId) → cache_of setup x ≡ Some 0 → is_loading (phase_of entries x) ≡ true
+        → cache_of setup call ≡ Some 0 → is_waiting (phase_of entries call) ≡ true
+        → has_turn setup entries 0 call ≡ true → ⊥
     turn_alone x call atx l at w t = by_call (same_call x call) refl
       where
         by_call : (s : Bool) → same_call x call ≡ s → ⊥
@@ -209,27 +233,36 @@ module _ {K D : Type 0} (policy : Policy K D) (setup : Setup D) (c : K) (moment 
             let z : Waits setup entries 0 call = run_waits policy setup entries pool.run call 0 at w in
             one_turn setup entries 0 x call s y.had.polled y.had.turn y.unfinished t z.unfinished
 
-    loads_alone : (x b : CallId) → cache_of setup x ≡ Some 0 → is_loading (phase_of entries x) ≡ true → cache_of setup b ≡ Some 0 → same_call b x ≡ false → is_loading (phase_of entries b) ≡ false
+    loads_alone : (x b : CallId) → cache_of setup x ≡ Some 0 → is_loading (phase_of entries x) ≡ true
+        → cache_of setup b ≡ Some 0 → same_call b x ≡ false → is_loading (phase_of entries b) ≡ false
     loads_alone x b atx l at s = false_by (is_loading (phase_of entries b)) (λ m.
         let y : Loads setup entries 0 x = run_loads policy setup entries pool.run x 0 atx l in
         let z : Loads setup entries 0 b = run_loads policy setup entries pool.run b 0 at m in
         one_turn setup entries 0 b x s z.had.polled z.had.turn z.unfinished y.had.turn y.unfinished)
 
     -- the entry has its expected reply
-    due : (event : Event K) (reply : Reply K) → is_out_of_memory reply ≡ false → IsLegalEntry policy setup entries (record { event = event; reply = reply }) → reply ≡ expected_reply policy setup entries event
+    due : (event : Event K) (reply : Reply K) → is_out_of_memory reply ≡ false
+        → IsLegalEntry policy setup entries (record { event = event; reply = reply })
+        → reply ≡ expected_reply policy setup entries event
     due event reply m (inl e) = e
     due event reply m (inr lost) = absurd (false≢true (sym m ∙ ap is_out_of_memory lost.0))
 
     -- with a reply that is known
-    with_reply : (event : Event K) (reply known : Reply K) → reply ≡ known → IsPool (next entries event known) → IsPool (next entries event reply)
+    with_reply : (event : Event K) (reply known : Reply K) → reply ≡ known → IsPool (next entries event known)
+        → IsPool (next entries event reply)
     with_reply event reply known e p = subst (λ (r : Reply K). IsPool (next entries event r)) (sym e) p
 
-    step_as : (event : Event K) (reply known : Reply K) → is_out_of_memory reply ≡ false → IsLegalEntry policy setup entries (record { event = event; reply = reply }) → reply ≡ known → LegalStep policy setup entries event known
+    step_as : (event : Event K) (reply known : Reply K) → is_out_of_memory reply ≡ false
+        → IsLegalEntry policy setup entries (record { event = event; reply = reply }) → reply ≡ known
+        → LegalStep policy setup entries event known
     step_as event reply known m legal e = subst (λ (r : Reply K). LegalStep policy setup entries event r) e (legal_entry_step policy setup entries (record { event = event; reply = reply }) m legal)
 
     module _ (reply : Reply K) (m : is_out_of_memory reply ≡ false) where
-      poll_turn : (call : CallId) (now : ℤ) → IsLegalEntry policy setup entries (record { event = Poll call now; reply = reply }) → HasBegun policy setup c moment entries call → is_waiting (phase_of entries call) ≡ true → now ≡ moment → has_turn setup entries 0 call ≡ true
-          → PoolState entries → IsPool (next entries (Poll call now) reply)
+      poll_turn : (call : CallId) (now : ℤ)
+          → IsLegalEntry policy setup entries (record { event = Poll call now; reply = reply })
+          → HasBegun policy setup c moment entries call → is_waiting (phase_of entries call) ≡ true
+          → now ≡ moment → has_turn setup entries 0 call ≡ true → PoolState entries
+          → IsPool (next entries (Poll call now) reply)
       poll_turn call now legal h w e t (untouched empty a d idle unsigned) =
           let is : reply ≡ Ask 0 = due (Poll call now) reply m legal ∙ asks_look policy setup loads entries call h.cache h.rule h.ruled h.begin h.begun now w t empty in
           let step : LegalStep policy setup entries (Poll call now) (Ask 0) = step_as (Poll call now) reply (Ask 0) m legal is in
@@ -242,23 +275,31 @@ module _ {K D : Type 0} (policy : Policy K D) (setup : Setup D) (c : K) (moment 
           let step : LegalStep policy setup entries (Poll call now) (Sign c given.0) = step_as (Poll call now) reply (Sign c given.0) m legal is in
           with_reply (Poll call now) reply (Sign c given.0) is (grows (Poll call now) (Sign c given.0) step refl (sign_state (Poll call now) given.0 step h.cache a (λ b atb s. idle b atb)))
 
-      poll_pool : (call : CallId) (now : ℤ) → IsLegalEntry policy setup entries (record { event = Poll call now; reply = reply }) → HasBegun policy setup c moment entries call → is_waiting (phase_of entries call) ≡ true → now ≡ moment
-          → (t : Bool) → has_turn setup entries 0 call ≡ t → IsPool (next entries (Poll call now) reply)
+      poll_pool : (call : CallId) (now : ℤ)
+          → IsLegalEntry policy setup entries (record { event = Poll call now; reply = reply })
+          → HasBegun policy setup c moment entries call → is_waiting (phase_of entries call) ≡ true
+          → now ≡ moment → (t : Bool) → has_turn setup entries 0 call ≡ t
+          → IsPool (next entries (Poll call now) reply)
       poll_pool call now legal h w e true t = poll_turn call now legal h w e t pool.state
       poll_pool call now legal h w e false t =
           let is : reply ≡ Pending = due (Poll call now) reply m legal ∙ expected_wait policy setup loads entries call h.cache now w t in
           let step : LegalStep policy setup entries (Poll call now) Pending = step_as (Poll call now) reply Pending m legal is in
           with_reply (Poll call now) reply Pending is (grows (Poll call now) Pending step refl (pending_state call now step h.cache pool.state))
 
-      begin_pool : (call : CallId) (head : Head) (expires_in : Option Duration) → IsLegalEntry policy setup entries (record { event = Begin call head expires_in; reply = reply }) → cache_of setup call ≡ Some 0 → is_new_number entries call ≡ true
+      begin_pool : (call : CallId) (head : Head) (expires_in : Option Duration)
+          → IsLegalEntry policy setup entries (record { event = Begin call head expires_in; reply = reply })
+          → cache_of setup call ≡ Some 0 → is_new_number entries call ≡ true
           → IsPool (next entries (Begin call head expires_in) reply)
       begin_pool call head expires_in legal at new =
           let is : reply ≡ Begun = due (Begin call head expires_in) reply m legal ∙ expected_begin policy setup loads entries call at head expires_in new in
           let step : LegalStep policy setup entries (Begin call head expires_in) Begun = step_as (Begin call head expires_in) reply Begun m legal is in
           with_reply (Begin call head expires_in) reply Begun is (grows (Begin call head expires_in) Begun step refl (begun_state call head expires_in step at new pool.state))
 
-      answer_pool : (call : CallId) (now : ℤ) (answer : Answer K) → IsLegalEntry policy setup entries (record { event = Provided call now answer; reply = reply }) → HasBegun policy setup c moment entries call → is_loading (phase_of entries call) ≡ true → now ≡ moment → answer ≡ Found c
-          → PoolState entries → IsPool (next entries (Provided call now answer) reply)
+      answer_pool : (call : CallId) (now : ℤ) (answer : Answer K)
+          → IsLegalEntry policy setup entries (record { event = Provided call now answer; reply = reply })
+          → HasBegun policy setup c moment entries call → is_loading (phase_of entries call) ≡ true
+          → now ≡ moment → answer ≡ Found c → PoolState entries
+          → IsPool (next entries (Provided call now answer) reply)
       answer_pool call now answer legal h l e found (untouched empty a d idle unsigned) = absurd (false≢true (sym (idle call h.cache) ∙ l))
       answer_pool call now answer legal h l e found (loaded full a idle) = absurd (false≢true (sym (idle call h.cache) ∙ l))
       answer_pool call now answer legal h l e found (loading x atx lx empty a d unsigned) =
@@ -271,7 +312,9 @@ module _ {K D : Type 0} (policy : Policy K D) (setup : Setup D) (c : K) (moment 
           with_reply (Provided call now answer) reply (Sign c given.0) is
           (grows (Provided call now answer) (Sign c given.0) step refl (sign_state (Provided call now answer) given.0 step h.cache a (λ b atb s. loads_alone call b h.cache l atb s)))
 
-      verdict_pool : (call : CallId) (verdict : Verdict) (made : Head) → IsLegalEntry policy setup entries (record { event = Signed call verdict; reply = reply }) → cache_of setup call ≡ Some 0 → is_signing (phase_of entries call) ≡ true → verdict ≡ Accepted made
+      verdict_pool : (call : CallId) (verdict : Verdict) (made : Head)
+          → IsLegalEntry policy setup entries (record { event = Signed call verdict; reply = reply })
+          → cache_of setup call ≡ Some 0 → is_signing (phase_of entries call) ≡ true → verdict ≡ Accepted made
           → PoolState entries → IsPool (next entries (Signed call verdict) reply)
       verdict_pool call verdict made legal at s is_made (untouched empty a d idle unsigned) = absurd (false≢true (sym (unsigned call at) ∙ s))
       verdict_pool call verdict made legal at s is_made (loading x atx l empty a d unsigned) = absurd (false≢true (sym (unsigned call at) ∙ s))
@@ -283,7 +326,9 @@ module _ {K D : Type 0} (policy : Policy K D) (setup : Setup D) (c : K) (moment 
           with_reply (Signed call verdict) reply (Done head) is (grows (Signed call verdict) (Done head) step refl (done_state (Signed call verdict) head step at full a idle))
 
       -- an event that fits leaves a pool
-      pub event_pool : (event : Event K) → IsLegalEntry policy setup entries (record { event = event; reply = reply }) → Fits policy setup c moment entries event → IsPool (next entries event reply)
+      pub event_pool : (event : Event K)
+          → IsLegalEntry policy setup entries (record { event = event; reply = reply })
+          → Fits policy setup c moment entries event → IsPool (next entries event reply)
       event_pool (Begin call head expires_in) legal f = begin_pool call head expires_in legal f.0 f.1
       event_pool (Poll call now) legal f = poll_pool call now legal f.0 f.1 f.2 (has_turn setup entries 0 call) refl
       event_pool (Provided call now answer) legal f = answer_pool call now answer legal f.0 f.1 f.2 f.3 pool.state

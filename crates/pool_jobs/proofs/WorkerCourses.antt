@@ -1,4 +1,5 @@
--- The receipts of a worker at a gate that answers at once: they are of its handle, and each event fits after those before it.
+-- The receipts of a worker at a gate that answers at once: they are of its handle, and each event fits after
+-- those before it.
 use Rattle.std.proofs.Common.{◌≡◌, ◌≢◌, ℕ, ℤ, suc, ◌<◌, ◌≤◌, Bool, true, false, not, ◌||◌, ◌&&◌, List, [], ◌∷◌, ◌++◌, map, refl, sym, ◌∙◌, ap, subst, nat_lt, ◌==◌, arith}
 use Rattle.std.specs.List.{list_all}
 use Rattle.std.proofs.lemmas.Bool.{false≢true}
@@ -33,14 +34,16 @@ abbrev pub entries : {K : Type 0} → List (Receipt K) → List (Entry K)
 entries receipts = map (λ r. r.entry) receipts
 
 -- what is legal piece by piece is legal in one piece
-pub legal_join : {E : Type 0} (committed : List E → List E) (legal : List E → E → Type 0) (before xs ys : List E)
-    → AreLegalAfter committed legal before xs → AreLegalAfter committed legal (before ++ xs) ys → AreLegalAfter committed legal before (xs ++ ys)
+pub legal_join : {E : Type 0} (committed : List E → List E) (legal : List E → E → Type 0)
+    (before xs ys : List E) → AreLegalAfter committed legal before xs
+    → AreLegalAfter committed legal (before ++ xs) ys → AreLegalAfter committed legal before (xs ++ ys)
 legal_join committed legal before [] ys l m = subst (λ v. AreLegalAfter committed legal v ys) (append-nil before) m
 legal_join committed legal before (x ∷ xs) ys l m =
     (l.0, legal_join committed legal (before ++ x ∷ []) xs ys l.1 (subst (λ v. AreLegalAfter committed legal v ys) (sym (append_assoc before (x ∷ []) xs)) m))
 
 -- a test that all of two lists pass
-pub list_all-append : {X : Type 0} (p : X → Bool) (xs ys : List X) → list_all p xs ≡ true → list_all p ys ≡ true → list_all p (xs ++ ys) ≡ true
+pub list_all-append : {X : Type 0} (p : X → Bool) (xs ys : List X) → list_all p xs ≡ true
+    → list_all p ys ≡ true → list_all p (xs ++ ys) ≡ true
 list_all-append p [] ys h k = k
 list_all-append p (x ∷ xs) ys h k =
     let here : p x ≡ true = and_left (p x) (list_all p xs) h in
@@ -71,7 +74,9 @@ module _ {K : Type 0} (c : K) (moment : ℤ) (gate : GateMeaning K) (prompt : An
   CourseAfter r own = (end : _) × IsCourse gate turns job (next_after r) own end × (ran_out end ≡ false)
 
   -- where no allocation failed each step is the next event
-  step_goes : (at : _) (after : _) (x : Receipt K) (rest : List (Receipt K)) (end : _) → (IsGivenUp gate turns job at → ⊥) → IsStep gate turns job at x.entry after → IsCourse gate turns job after rest end → ran_out end ≡ false
+  step_goes : (at : _) (after : _) (x : Receipt K) (rest : List (Receipt K)) (end : _)
+      → (IsGivenUp gate turns job at → ⊥) → IsStep gate turns job at x.entry after
+      → IsCourse gate turns job after rest end → ran_out end ≡ false
       → is_reply_to x.entry.event x.entry.reply ≡ true → x.entry.reply ≢ reply.OutOfMemory
       → GoesOn (IsNext gate job at x.entry.event) x (CourseAfter x.entry.reply rest)
   step_goes at after x rest end never (goes_on n a) course to_end kind kept =
@@ -82,7 +87,8 @@ module _ {K : Type 0} (c : K) (moment : ℤ) (gate : GateMeaning K) (prompt : An
       absurd (false≢true (sym to_end ∙ ap ran_out over.1))
 
   -- so a course behind a reply goes on with the event that is next after it
-  goes_after : (r : Reply K) (x : Receipt K) (rest : List (Receipt K)) → CourseAfter r (x ∷ rest) → GoesOn (IsNext gate job (next_after r) x.entry.event) x (CourseAfter x.entry.reply rest)
+  goes_after : (r : Reply K) (x : Receipt K) (rest : List (Receipt K)) → CourseAfter r (x ∷ rest)
+      → GoesOn (IsNext gate job (next_after r) x.entry.event) x (CourseAfter x.entry.reply rest)
   goes_after reply.Begun x rest (end, c, t) = step_goes _ _ x rest end (not_given_up reply.Begun) c.2.1 c.2.2 t c.0 c.1
   goes_after reply.Pending x rest (end, c, t) = step_goes _ _ x rest end (not_given_up reply.Pending) c.2.1 c.2.2 t c.0 c.1
   goes_after (reply.Ask p) x rest (end, c, t) = step_goes _ _ x rest end (not_given_up (reply.Ask p)) c.2.1 c.2.2 t c.0 c.1
@@ -106,13 +112,15 @@ module _ {K : Type 0} (c : K) (moment : ℤ) (gate : GateMeaning K) (prompt : An
     pub course : WholeCourse own
     pub serves : ServesAll gate turns jobs others
 
-  serves_first : (jobs : List Job) (added : List (Receipt K)) → ServesAll gate turns (job ∷ jobs) added → ServesFirst jobs added
+  serves_first : (jobs : List Job) (added : List (Receipt K)) → ServesAll gate turns (job ∷ jobs) added
+      → ServesFirst jobs added
   serves_first jobs added ([], others, end, is, c, t, serves) = record { own = []; others = others; added_are = is; course = tt; serves = serves }
   serves_first jobs added (x ∷ rest, others, end, is, c, t, serves) =
       record { own = x ∷ rest; others = others; added_are = is; course = step_goes _ _ x rest end (λ u. u) c.2.1 c.2.2 t c.0 c.1; serves = serves }
 
   -- each event of a course is of the job's call
-  next_call : (r : Reply K) (event : Event K) → IsNext gate job (next_after r) event → call_of event ≡ job.call
+  next_call : (r : Reply K) (event : Event K) → IsNext gate job (next_after r) event
+      → call_of event ≡ job.call
   next_call reply.Begun event n = ap call_of n.2
   next_call reply.Pending event n = ap call_of n.2
   next_call (reply.Ask p) event n = ap call_of n.4
@@ -124,14 +132,16 @@ module _ {K : Type 0} (c : K) (moment : ℤ) (gate : GateMeaning K) (prompt : An
   next_call (reply.Cancelled w) event n = absurd n
 
   module _ (p : CallId → Bool) (passed : p job.call ≡ true) where
-    calls_after : (r : Reply K) (own : List (Receipt K)) → CourseAfter r own → list_all (λ (e : Entry K). p (call_of e.event)) (entries own) ≡ true
+    calls_after : (r : Reply K) (own : List (Receipt K)) → CourseAfter r own
+        → list_all (λ (e : Entry K). p (call_of e.event)) (entries own) ≡ true
     calls_after r [] c = refl
     calls_after r (x ∷ rest) c =
         let g = goes_after r x rest c in
         let here : p (call_of x.entry.event) ≡ true = ap p (next_call r x.entry.event g.event) ∙ passed in
         rw here (calls_after x.entry.reply rest g.course)
 
-    course_calls : (own : List (Receipt K)) → WholeCourse own → list_all (λ (e : Entry K). p (call_of e.event)) (entries own) ≡ true
+    course_calls : (own : List (Receipt K)) → WholeCourse own
+        → list_all (λ (e : Entry K). p (call_of e.event)) (entries own) ≡ true
     course_calls [] c = refl
     course_calls (x ∷ rest) c =
         let here : p (call_of x.entry.event) ≡ true = ap (λ (e : Event K). p (call_of e)) c.event ∙ passed in
@@ -143,8 +153,10 @@ in_memory r kept = false_by (is_out_of_memory r) (λ h. kept (out_of_memory-is r
 module _ {K D : Type 0} (policy : Policy K D) (setup : Setup D) (c : K) (moment : ℤ) (gate : GateMeaning K) (prompt : AnswersAtOnce c moment gate) (turns : ℕ) (more : 0 < turns) where
   module _ (handle : ℕ) (job : Job) (known : IsWorkerJob policy setup c moment handle job) where
     -- the entries of a course behind a reply are expected
-    expected_after : (r : Reply K) (past : List (Entry K)) (own : List (Receipt K)) → CourseAfter c moment gate prompt turns more job r own
-        → (all_well past ≡ true → StandsAt policy setup c moment job r past) → AreLegalAfter (λ x. x) (IsExpected policy setup c moment) past (entries own)
+    expected_after : (r : Reply K) (past : List (Entry K)) (own : List (Receipt K))
+        → CourseAfter c moment gate prompt turns more job r own
+        → (all_well past ≡ true → StandsAt policy setup c moment job r past)
+        → AreLegalAfter (λ x. x) (IsExpected policy setup c moment) past (entries own)
     expected_after r past [] course stands = tt
     expected_after r past (x ∷ rest) course stands =
         let g = goes_after c moment gate prompt turns more job r x rest course in
@@ -156,7 +168,9 @@ module _ {K D : Type 0} (policy : Policy K D) (setup : Setup D) (c : K) (moment 
         (here, expected_after x.entry.reply (past ++ x.entry ∷ []) rest g.course later)
 
     -- so are those of a whole course, whose call has a new number
-    course_expected : (past : List (Entry K)) (own : List (Receipt K)) → WholeCourse c moment gate prompt turns more job own → is_new_number past job.call ≡ true → AreLegalAfter (λ x. x) (IsExpected policy setup c moment) past (entries own)
+    course_expected : (past : List (Entry K)) (own : List (Receipt K))
+        → WholeCourse c moment gate prompt turns more job own → is_new_number past job.call ≡ true
+        → AreLegalAfter (λ x. x) (IsExpected policy setup c moment) past (entries own)
     course_expected past [] course new = tt
     course_expected past (x ∷ rest) course new =
         let here : IsExpected policy setup c moment past x.entry =
@@ -180,14 +194,16 @@ module _ {K D : Type 0} (policy : Policy K D) (setup : Setup D) (c : K) (moment 
   below_le n m le k h = grind (arith, nat_tests)
 
   -- a number above all is new
-  new_above : (n : ℕ) (past : List (Entry K)) (call : CallId) → n ≤ call.number → list_all (is_numbered_below n) past ≡ true → is_new_number past call ≡ true
+  new_above : (n : ℕ) (past : List (Entry K)) (call : CallId) → n ≤ call.number
+      → list_all (is_numbered_below n) past ≡ true → is_new_number past call ≡ true
   unfolding is_new_number
   new_above n past call le below =
       list_all-by (is_numbered_below n) (λ (e : Entry K). not (is_begin_under call.handle e) || nat_lt (call_of e.event).number call.number)
       (λ e h. let lt : nat_lt (call_of e.event).number call.number ≡ true = below_le n call.number le (call_of e.event).number h in rw lt (or_true _)) past below
 
   -- the entries of a worker's pass are of its handle
-  pub pass_handle : (handle from : ℕ) (jobs : List Job) (added : List (Receipt K)) → AreWorkerJobs policy setup c moment handle from jobs → ServesAll gate turns jobs added
+  pub pass_handle : (handle from : ℕ) (jobs : List Job) (added : List (Receipt K))
+      → AreWorkerJobs policy setup c moment handle from jobs → ServesAll gate turns jobs added
       → list_all (λ (e : Entry K). (call_of e.event).handle == handle) (entries added) ≡ true
   pass_handle handle from [] added a s = ap (λ (l : List (Receipt K)). list_all (λ (e : Entry K). (call_of e.event).handle == handle) (entries l)) s
   pass_handle handle from (job ∷ jobs) added a s =
@@ -198,8 +214,10 @@ module _ {K D : Type 0} (policy : Policy K D) (setup : Setup D) (c : K) (moment 
       rw (f.added_are, map-append (λ (r : Receipt K). r.entry) f.own f.others) (list_all-append (λ (e : Entry K). (call_of e.event).handle == handle) (entries f.own) (entries f.others) first later)
 
   -- and each of them is expected after those before it
-  pub pass_expected : (handle from : ℕ) (jobs : List Job) (past : List (Entry K)) (added : List (Receipt K)) → AreWorkerJobs policy setup c moment handle from jobs → ServesAll gate turns jobs added
-      → list_all (is_numbered_below from) past ≡ true → AreLegalAfter (λ x. x) (IsExpected policy setup c moment) past (entries added)
+  pub pass_expected : (handle from : ℕ) (jobs : List Job) (past : List (Entry K)) (added : List (Receipt K))
+      → AreWorkerJobs policy setup c moment handle from jobs → ServesAll gate turns jobs added
+      → list_all (is_numbered_below from) past ≡ true
+      → AreLegalAfter (λ x. x) (IsExpected policy setup c moment) past (entries added)
   pass_expected handle from [] past added a s below = subst (λ (l : List (Receipt K)). AreLegalAfter (λ x. x) (IsExpected policy setup c moment) past (entries l)) (sym s) tt
   pass_expected handle from (job ∷ jobs) past added a s below =
       let f : ServesFirst c moment gate prompt turns more job jobs added = serves_first c moment gate prompt turns more job jobs added s in

@@ -1,4 +1,5 @@
--- What the events of a worker are at a gate that answers at once, and that each of them fits after those of its handle.
+-- What the events of a worker are at a gate that answers at once, and that each of them fits after those of
+-- its handle.
 use Rattle.std.proofs.Common.{◌≡◌, ℕ, ℤ, true, ◌||◌, List, [], ◌∷◌, ◌++◌, Option, Some, is_some, option_map, refl, sym, ◌∙◌, ap, subst}
 use Rattle.std.specs.List.{list_any}
 use Rattle.std.specs.Duration.{as_nanos}
@@ -43,16 +44,20 @@ module _ {K D : Type 0} (policy : Policy K D) (setup : Setup D) (c : K) (moment 
   StandsAt job _ past = Unit {0}
 
   module _ (handle : ℕ) (job : Job) (known : IsWorkerJob policy setup c moment handle job) where
-    has_begun : (past : List (Entry K)) → begin_of past job.call ≡ Some (job_begin job) → HasBegun policy setup c moment past job.call
+    has_begun : (past : List (Entry K)) → begin_of past job.call ≡ Some (job_begin job)
+        → HasBegun policy setup c moment past job.call
     has_begun past b = record { cache = known.cache; rule = known.rule; ruled = known.ruled; begin = job_begin job; begun = b; lasts = known.lasts }
 
     -- a begin with a new number fits
-    pub begin_fits : (past : List (Entry K)) (event : Event K) → event ≡ Begin job.call job.head job.expires_in → is_new_number past job.call ≡ true → Fits policy setup c moment past event
+    pub begin_fits : (past : List (Entry K)) (event : Event K)
+        → event ≡ Begin job.call job.head job.expires_in → is_new_number past job.call ≡ true
+        → Fits policy setup c moment past event
     begin_fits past event n new = subst (λ (e : Event K). Fits policy setup c moment past e) (sym n) (known.cache, new)
 
     module _ (gate : GateMeaning K) (prompt : AnswersAtOnce c moment gate) (past : List (Entry K)) (event : Event K) where
       -- so does the event that is next after a reply
-      pub next_fits : (r : Reply K) → IsNext gate job (next_after r) event → StandsAt job r past → Fits policy setup c moment past event
+      pub next_fits : (r : Reply K) → IsNext gate job (next_after r) event → StandsAt job r past
+          → Fits policy setup c moment past event
       next_fits Begun n s = subst (λ (e : Event K). Fits policy setup c moment past e) (sym n.2) (has_begun past s.0, s.1, prompt.tells n.0 n.1)
       next_fits Pending n s = subst (λ (e : Event K). Fits policy setup c moment past e) (sym n.2) (has_begun past s.0, s.1, prompt.tells n.0 n.1)
       next_fits (Ask provider) n s =
@@ -66,23 +71,30 @@ module _ {K D : Type 0} (policy : Policy K D) (setup : Setup D) (c : K) (moment 
       next_fits (Cancelled wake) n s = absurd n
 
   module _ (job : Job) (past : List (Entry K)) where
-    begin_kept : (e : Entry K) → same_call job.call (call_of e.event) ≡ true → begin_of past job.call ≡ Some (job_begin job) → begin_of (past ++ e ∷ []) job.call ≡ Some (job_begin job)
+    begin_kept : (e : Entry K) → same_call job.call (call_of e.event) ≡ true
+        → begin_of past job.call ≡ Some (job_begin job)
+        → begin_of (past ++ e ∷ []) job.call ≡ Some (job_begin job)
     begin_kept e own b = begin-stays setup past 0 e job.call own (ap is_some b) ∙ b
 
     begin_new : is_new_number past job.call ≡ true
-        → begin_of (past ++ record { event = Begin job.call job.head job.expires_in; reply = Begun } ∷ []) job.call ≡ Some (job_begin job)
+        → begin_of (past ++ record { event = Begin job.call job.head job.expires_in; reply = Begun } ∷ [])
+        job.call
+        ≡ Some (job_begin job)
     begin_new new =
         let made : Entry K = record { event = Begin job.call job.head job.expires_in; reply = Begun } in
         ap begin_in (entries_of-own past job.call made (same_call-refl job.call)) ∙ begin_in-new (entries_of past job.call) made (new_is_unbegun job.call past new) refl
 
-    signs_by : (e : Entry K) (k : K) (wake : Option CallId) → same_call job.call (call_of e.event) ≡ true → e.reply ≡ Sign k wake → is_signing (phase_of (past ++ e ∷ []) job.call) ≡ true
+    signs_by : (e : Entry K) (k : K) (wake : Option CallId) → same_call job.call (call_of e.event) ≡ true
+        → e.reply ≡ Sign k wake → is_signing (phase_of (past ++ e ∷ []) job.call) ≡ true
     signs_by e k wake own h =
         let mark : is_mark e.reply ≡ true = ap is_mark h in
         ap is_signing (phase-own_mark setup past 0 e job.call own mark ∙ ap (phase_by (list_any is_waiting_poll (entries_of past job.call) || is_waiting_poll e)) h)
 
     -- how far the call is after its begin, a poll, an answer of a provider, and one of the service
-    after_begin : (reply : Reply K) → is_reply_to (Begin job.call job.head job.expires_in) reply ≡ true → goes_well reply ≡ true → is_new_number past job.call ≡ true
-        → StandsAt job reply (past ++ record { event = Begin job.call job.head job.expires_in; reply = reply } ∷ [])
+    after_begin : (reply : Reply K) → is_reply_to (Begin job.call job.head job.expires_in) reply ≡ true
+        → goes_well reply ≡ true → is_new_number past job.call ≡ true
+        → StandsAt job reply
+        (past ++ record { event = Begin job.call job.head job.expires_in; reply = reply } ∷ [])
     after_begin Begun kind well s =
         let made : Entry K = record { event = Begin job.call job.head job.expires_in; reply = Begun } in (
           begin_new s,
@@ -97,7 +109,9 @@ module _ {K D : Type 0} (policy : Policy K D) (setup : Setup D) (c : K) (moment 
     after_begin (Done h) kind well s = absurd (cc)
     after_begin (Cancelled w) kind well s = absurd (cc)
 
-    after_poll : (now : ℤ) (reply : Reply K) → is_reply_to (Poll job.call now) reply ≡ true → goes_well reply ≡ true → (begin_of past job.call ≡ Some (job_begin job)) × (is_waiting (phase_of past job.call) ≡ true)
+    after_poll : (now : ℤ) (reply : Reply K) → is_reply_to (Poll job.call now) reply ≡ true
+        → goes_well reply ≡ true
+        → (begin_of past job.call ≡ Some (job_begin job)) × (is_waiting (phase_of past job.call) ≡ true)
         → StandsAt job reply (past ++ record { event = Poll job.call now; reply = reply } ∷ [])
     after_poll now Pending kind well s =
         let made : Entry K = record { event = Poll job.call now; reply = Pending } in (
@@ -116,7 +130,9 @@ module _ {K D : Type 0} (policy : Policy K D) (setup : Setup D) (c : K) (moment 
     after_poll now (Done h) kind well s = absurd (cc)
     after_poll now (Cancelled w) kind well s = absurd (cc)
 
-    after_answer : (now : ℤ) (answer : Answer K) (reply : Reply K) → is_reply_to (Provided job.call now answer) reply ≡ true → goes_well reply ≡ true → (begin_of past job.call ≡ Some (job_begin job))
+    after_answer : (now : ℤ) (answer : Answer K) (reply : Reply K)
+        → is_reply_to (Provided job.call now answer) reply ≡ true → goes_well reply ≡ true
+        → (begin_of past job.call ≡ Some (job_begin job))
         → StandsAt job reply (past ++ record { event = Provided job.call now answer; reply = reply } ∷ [])
     after_answer now answer (Ask p) kind well b =
         let made : Entry K = record { event = Provided job.call now answer; reply = Ask p } in
@@ -130,7 +146,8 @@ module _ {K D : Type 0} (policy : Policy K D) (setup : Setup D) (c : K) (moment 
     after_answer now answer (Done h) kind well b = absurd (cc)
     after_answer now answer (Cancelled w) kind well b = absurd (cc)
 
-    after_verdict : (verdict : Verdict) (reply : Reply K) → is_reply_to (Signed job.call verdict) reply ≡ true → goes_well reply ≡ true
+    after_verdict : (verdict : Verdict) (reply : Reply K) → is_reply_to (Signed job.call verdict) reply ≡ true
+        → goes_well reply ≡ true
         → StandsAt job reply (past ++ record { event = Signed job.call verdict; reply = reply } ∷ [])
     after_verdict verdict (Done h) kind well = tt
     after_verdict verdict Begun kind well = absurd (cc)
@@ -147,10 +164,12 @@ module _ {K D : Type 0} (policy : Policy K D) (setup : Setup D) (c : K) (moment 
       abbrev From : Event K → Type 0
       From e = is_reply_to e reply ≡ true → StandsAt job reply (past ++ record { event = e; reply = reply } ∷ [])
 
-      pub stands_begun : event ≡ Begin job.call job.head job.expires_in → is_new_number past job.call ≡ true → StandsAt job reply (past ++ record { event = event; reply = reply } ∷ [])
+      pub stands_begun : event ≡ Begin job.call job.head job.expires_in → is_new_number past job.call ≡ true
+          → StandsAt job reply (past ++ record { event = event; reply = reply } ∷ [])
       stands_begun n new = subst (λ (e : Event K). From e) (sym n) (λ k. after_begin reply k well new) kind
 
-      pub stands_after : (gate : GateMeaning K) (r : Reply K) → IsNext gate job (next_after r) event → StandsAt job r past → StandsAt job reply (past ++ record { event = event; reply = reply } ∷ [])
+      pub stands_after : (gate : GateMeaning K) (r : Reply K) → IsNext gate job (next_after r) event
+          → StandsAt job r past → StandsAt job reply (past ++ record { event = event; reply = reply } ∷ [])
       stands_after gate Begun n s = subst (λ (e : Event K). From e) (sym n.2) (λ k. after_poll n.0 reply k well s) kind
       stands_after gate Pending n s = subst (λ (e : Event K). From e) (sym n.2) (λ k. after_poll n.0 reply k well s) kind
       stands_after gate (Ask provider) n s = subst (λ (e : Event K). From e) (sym n.4) (λ k. after_answer n.0 n.1 reply k well s.0) kind

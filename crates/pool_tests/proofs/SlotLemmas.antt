@@ -27,11 +27,13 @@ pub all_left : {X : Type 0} (P : X → Type 0) (old new : List X) → length new
 all_left P old [] len each = All-nil P
 all_left P old (x ∷ new) len each = All-from_get_or P (x ∷ new) x (λ i below. each i x (omega (arith, len)))
 
-all_pushed : {X : Type 0} (P : X → Type 0) (xs : List X) (x : X) (ok : Bool) → All P xs → P x → All P (if ok then xs ++ x ∷ [] else xs)
+all_pushed : {X : Type 0} (P : X → Type 0) (xs : List X) (x : X) (ok : Bool) → All P xs → P x
+    → All P (if ok then xs ++ x ∷ [] else xs)
 all_pushed P xs x true h p = All-push P xs x h p
 all_pushed P xs x false h p = h
 
-all_appended : {X : Type 0} (P : X → Type 0) (xs ys : List X) (ok : Bool) → All P xs → All P ys → All P (if ok then xs ++ ys else xs)
+all_appended : {X : Type 0} (P : X → Type 0) (xs ys : List X) (ok : Bool) → All P xs → All P ys
+    → All P (if ok then xs ++ ys else xs)
 all_appended P xs ys true h l = All-append P xs ys h l
 all_appended P xs ys false h l = h
 
@@ -41,8 +43,9 @@ module _ {L X : Type 0} (P : L → X → Type 0) (before after : L) (same : afte
   handed_back handed back e h = subst (λ p. All (P p) back) (sym same) (subst (All (P before)) (sym e) h)
 
   -- the first n were handed in and back, and the others come to them
-  pub all_handed : (all handed late back : List X) (n : ℕ) (ok : Bool) → handed ≡ take n all → late ≡ drop n all → back ≡ handed
-      → All (P before) all → All (P after) (if ok then back ++ late else back)
+  pub all_handed : (all handed late back : List X) (n : ℕ) (ok : Bool) → handed ≡ take n all
+      → late ≡ drop n all → back ≡ handed → All (P before) all
+      → All (P after) (if ok then back ++ late else back)
   all_handed all handed late back n ok is_handed is_late is_back h =
       all_appended (P after) back late ok
       (handed_back handed back is_back (subst (All (P before)) (sym is_handed) (All-take (P before) n all h)))
@@ -50,9 +53,10 @@ module _ {L X : Type 0} (P : L → X → Type 0) (before after : L) (same : afte
 
 module _ {Q A : Type 0} where
   -- a slot whose seats were made one after the other
-  pub slot_more : (before between after : Slotted (Option PoolJob) (Doing PoolJob Hand) Q A) → between ≡ before → after ≡ between
-      → (slots : List Slot) (slot : Slot) (ok : Bool) → All (IsSlotOf before) slots → IsPassOf between slot.submitter.seat
-      → IsPassOf after slot.worker.seat → All (IsSlotOf after) (if ok then slots ++ slot ∷ [] else slots)
+  pub slot_more : (before between after : Slotted (Option PoolJob) (Doing PoolJob Hand) Q A)
+      → between ≡ before → after ≡ between → (slots : List Slot) (slot : Slot) (ok : Bool)
+      → All (IsSlotOf before) slots → IsPassOf between slot.submitter.seat → IsPassOf after slot.worker.seat
+      → All (IsSlotOf after) (if ok then slots ++ slot ∷ [] else slots)
   slot_more before between after first second slots slot ok h submitter worker =
       all_pushed (IsSlotOf after) slots slot ok (subst (λ q. All (IsSlotOf q) slots) (sym (second ∙ first)) h) (record {
         submitter = subst (λ q. IsPassOf q slot.submitter.seat) (sym second) submitter;
@@ -71,7 +75,8 @@ module _ {Q A : Type 0} where
         (All-weaker (IsSlotOf queue) (λ s. IsPassOf queue s.worker.seat) (λ s p. p.worker) slots h)
 
 -- what is known of what an early refusal hands back
-pub early_is : {K D : Type 0} {k : Ghosts K} {d : RuleGhosts D K} (r : FinishRefused K D k d) (pool : Pool K D k d) (ss : Vec Submitter)
+pub early_is : {K D : Type 0} {k : Ghosts K} {d : RuleGhosts D K} (r : FinishRefused K D k d)
+    (pool : Pool K D k d) (ss : Vec Submitter)
     (ws : Vec (Worker K)) (why : FinishError) (P : Pool K D k d → Vec Submitter → Vec (Worker K) → FinishError → Type 0)
     → r ≡ refused.Early pool ss ws why → IfEarly r P → P pool ss ws why
 early_is r pool ss ws why P is h = subst (λ x. IfEarly x P) is h

@@ -24,7 +24,8 @@ module _ (gate : GateMeaning ScriptCredential) where
       subst (λ k. IsAnswered gate handle k c own answer) e (subst (λ k. IsAnswered gate handle n k own answer) f h)
 
   -- one job more was served and answered
-  pub one_answer_more : (handle number before : ℕ) (answers : List Answer) (receipts own : List (Receipt ScriptCredential)) (answer : Answer)
+  pub one_answer_more : (handle number before : ℕ) (answers : List Answer)
+      (receipts own : List (Receipt ScriptCredential)) (answer : Answer)
       → ServesAnswers gate handle number before answers receipts
       → IsAnswered gate handle (number + length answers) (before + length receipts) own answer
       → ServesAnswers gate handle number before (answers ++ answer ∷ []) (receipts ++ own)
@@ -43,8 +44,8 @@ module _ (gate : GateMeaning ScriptCredential) where
       )
 
   module _ {Q A : Type 0} (queue : Slotted (Option PoolJob) (Doing PoolJob Hand) Q A) where
-    served : (before after : Worker ScriptCredential) (job : PoolJob) → IsWorker queue gate before → IsPassOf queue after.seat
-        → Serves gate 1 before after job → IsWorker queue gate after
+    served : (before after : Worker ScriptCredential) (job : PoolJob) → IsWorker queue gate before
+        → IsPassOf queue after.seat → Serves gate 1 before after job → IsWorker queue gate after
     served before after job h seat did =
         let n : length before.answers.items + 1 ≡ 1 + length before.answers.items = omega arith in
         let b : length before.pass ≡ 0 + length before.pass = omega arith in
@@ -64,8 +65,8 @@ module _ (gate : GateMeaning ScriptCredential) where
               (subst (λ l. ServesAnswers gate before.handle 1 0 (before.answers.items ++ answer ∷ []) l) (sym did.pass) made));
         }
 
-    same : (before after : Worker ScriptCredential) → IsWorker queue gate before → IsPassOf queue after.seat → IsSameWorker before after
-        → IsWorker queue gate after
+    same : (before after : Worker ScriptCredential) → IsWorker queue gate before → IsPassOf queue after.seat
+        → IsSameWorker before after → IsWorker queue gate after
     same before after h seat did = record {
       seat = seat;
       serves = subst (λ k. ServesAnswers gate k 1 0 after.answers.items after.pass) (sym did.handle)
@@ -74,8 +75,9 @@ module _ (gate : GateMeaning ScriptCredential) where
     }
 
     -- a worker who worked has served the jobs of its answers, and has its handle
-    pub works : (before after : Worker ScriptCredential) (did : Work) → IsWorker queue gate before → IsPassOf queue after.seat
-        → Works gate 1 before after did → IsWorker queue gate after × (after.handle ≡ before.handle)
+    pub works : (before after : Worker ScriptCredential) (did : Work) → IsWorker queue gate before
+        → IsPassOf queue after.seat → Works gate 1 before after did
+        → IsWorker queue gate after × (after.handle ≡ before.handle)
     works before after (work.Served ticket) h seat did = (served before after did.0 h seat did.3, did.3.handle)
     works before after work.Empty h seat did = (same before after h seat did.1, did.1.handle)
     works before after work.OutOfMemory h seat did = (same before after h seat did, did.handle)

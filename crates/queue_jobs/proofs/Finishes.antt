@@ -25,11 +25,12 @@ use Rattle.queue_jobs.specs.Run.{IsClosedQueue}
 module _ {Q A : Type 0} (queue : Slotted (Option PoolJob) (Doing PoolJob Hand) Q A) (gate : GateMeaning ScriptCredential) (count jobs : ℕ)
     (submitters : List Submitter) (workers : List (Worker ScriptCredential)) where
   -- the signer is closed with the seats' passes
-  pub closes : (plan : DeskState ScriptCredential ScriptRule) (finished : Finished ScriptCredential ScriptRule) → setup_of plan ≡ pool_setup count
+  pub closes : (plan : DeskState ScriptCredential ScriptRule)
+      (finished : Finished ScriptCredential ScriptRule) → setup_of plan ≡ pool_setup count
       → ServesQueue gate count jobs (map (λ w. w.pass) workers) (lists_of (map (λ w. w.answers) workers))
-      → AreSubmitted jobs (lists_of (map (λ s. s.jobs) submitters))
-      → IsClosed script_policy plan finished
-      → HandsOut queue submitters workers finished.settled.passes.items finished.answers.items finished.left.items finished.submitted.items
+      → AreSubmitted jobs (lists_of (map (λ s. s.jobs) submitters)) → IsClosed script_policy plan finished
+      → HandsOut queue submitters workers finished.settled.passes.items finished.answers.items
+      finished.left.items finished.submitted.items
       → IsClosedQueue gate count jobs finished
   closes plan finished setup serves submitted closed out = record {
     plan = plan;
@@ -45,8 +46,9 @@ nothing [] h = refl
 nothing (x ∷ xs) h = absurd (omega (arith, h))
 
 -- a cleared pool in which all jobs were answered has none left
-pub none_left : (gate : GateMeaning ScriptCredential) (count jobs : ℕ) (finished : Finished ScriptCredential ScriptRule)
-    → IsClosedQueue gate count jobs finished → IsClearedPool finished → finished.left.items ≡ []
+pub none_left : (gate : GateMeaning ScriptCredential) (count jobs : ℕ)
+    (finished : Finished ScriptCredential ScriptRule) → IsClosedQueue gate count jobs finished
+    → IsClearedPool finished → finished.left.items ≡ []
 none_left gate count jobs finished closed cleared =
     let answers : List Answer = joined (lists_of finished.answers.items) in
     let submitted : List PoolJob = joined (lists_of finished.submitted.items) in

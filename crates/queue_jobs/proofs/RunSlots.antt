@@ -32,11 +32,11 @@ abbrev pub jobs_lists : List Submitter → List (List PoolJob)
 jobs_lists submitters = lists_of (map (λ s. s.jobs) submitters)
 
 -- one new slot more
-pub new_slot_more : {Q A : Type 0} (first second third : Slotted (Option PoolJob) (Doing PoolJob Hand) Q A) → second ≡ first → third ≡ second
-    → (count : ℕ) (slots : List Slot) (slot : Slot) → AreNewSlots first count slots
-    → IsPassOf second slot.submitter.seat → slot.submitter.jobs.items ≡ []
-    → IsPassOf third slot.worker.seat → slot.worker.handle ≡ count → slot.worker.pass ≡ [] → slot.worker.answers.items ≡ []
-    → AreNewSlots third (count + 1) (slots ++ slot ∷ [])
+pub new_slot_more : {Q A : Type 0} (first second third : Slotted (Option PoolJob) (Doing PoolJob Hand) Q A)
+    → second ≡ first → third ≡ second → (count : ℕ) (slots : List Slot) (slot : Slot)
+    → AreNewSlots first count slots → IsPassOf second slot.submitter.seat → slot.submitter.jobs.items ≡ []
+    → IsPassOf third slot.worker.seat → slot.worker.handle ≡ count → slot.worker.pass ≡ []
+    → slot.worker.answers.items ≡ [] → AreNewSlots third (count + 1) (slots ++ slot ∷ [])
 new_slot_more {Q} {A} first second third one two count slots slot all submitter jobs worker handle pass answers =
     let Queue : Type 0 = Slotted (Option PoolJob) (Doing PoolJob Hand) Q A in
     let same : first ≡ third = sym (two ∙ one) in
@@ -67,8 +67,8 @@ module _ {Q A : Type 0} (queue : Slotted (Option PoolJob) (Doing PoolJob Hand) Q
     }
 
     module _ (workers jobs : ℕ) where
-      ran : (place : ℕ) (before after : Slot) → IsNewSlot queue place before → IsRun queue gate workers jobs place before after
-          → IsRunSlot queue gate workers jobs place after
+      ran : (place : ℕ) (before after : Slot) → IsNewSlot queue place before
+          → IsRun queue gate workers jobs place before after → IsRunSlot queue gate workers jobs place after
       ran place before after h r = record {
         state = r.goes_on.slot;
         handle = r.goes_on.handle ∙ h.handle;
@@ -77,14 +77,16 @@ module _ {Q A : Type 0} (queue : Slotted (Option PoolJob) (Doing PoolJob Hand) Q
 
       -- new slots in which their threads ran
       pub all_ran : (old new : List Slot) → AreNewSlots queue workers old → length new ≡ length old
-          → ((i : ℕ) (d : Slot) → i < length old → IsRun queue gate workers jobs i (get_or old i d) (get_or new i d))
+          → ((i : ℕ) (d : Slot) → i < length old
+          → IsRun queue gate workers jobs i (get_or old i d) (get_or new i d))
           → AreRunSlots queue gate workers jobs new
       all_ran old new all len each = record {
         len = len ∙ all.len;
         each = each_from (IsRunSlot queue gate workers jobs) 0 new (λ i d below. at i d below);
       }
         where
-          at : (i : ℕ) (d : Slot) → i < length new → IsRunSlot queue gate workers jobs (0 + i) (get_or new i d)
+          at : (i : ℕ) (d : Slot) → i < length new
+              → IsRunSlot queue gate workers jobs (0 + i) (get_or new i d)
           at i d below =
               let inside : i < length old = omega (arith, len) in
               let e : i ≡ 0 + i = omega arith in
@@ -92,15 +94,18 @@ module _ {Q A : Type 0} (queue : Slotted (Option PoolJob) (Doing PoolJob Hand) Q
               (ran i (get_or old i d) (get_or new i d) (each_here (IsNewSlot queue) old i d all.each inside) (each i d inside))
 
       handles : (n : ℕ) (slots : List Slot) → EachFrom (IsRunSlot queue gate workers jobs) n slots
-          → ServesHandles gate n (lists_of (map (λ w. w.answers) (workers_of slots))) (map (λ w. w.pass) (workers_of slots))
+          → ServesHandles gate n (lists_of (map (λ w. w.answers) (workers_of slots)))
+          (map (λ w. w.pass) (workers_of slots))
       handles n [] h = tt
       handles n (s ∷ slots) h = (
         subst (λ k. ServesAnswers gate k 1 0 s.worker.answers.items s.worker.pass) h.0.handle h.0.state.worker.serves,
         handles (suc n) slots h.1,
       )
 
-      counts : (n : ℕ) (slots : List Slot) → EachFrom (IsRunSlot queue gate workers jobs) n slots → All DidNotStop slots
-          → length (joined (jobs_lists (submitters_of slots))) ≡ dealt_from (jobs / workers) (jobs % workers) n (length slots)
+      counts : (n : ℕ) (slots : List Slot) → EachFrom (IsRunSlot queue gate workers jobs) n slots
+          → All DidNotStop slots
+          → length (joined (jobs_lists (submitters_of slots)))
+          ≡ dealt_from (jobs / workers) (jobs % workers) n (length slots)
       counts n [] h none = refl
       counts n (s ∷ slots) h none =
           omega (
@@ -116,7 +121,8 @@ module _ {Q A : Type 0} (queue : Slotted (Option PoolJob) (Doing PoolJob Hand) Q
       are_jobs n (s ∷ slots) h =
           All-append IsQueueJob s.submitter.jobs.items (joined (jobs_lists (submitters_of slots))) h.0.state.submitter.jobs (are_jobs (suc n) slots h.1)
 
-answers_count : (slots : List Slot) → length (joined (lists_of (map (λ w. w.answers) (workers_of slots)))) ≡ answered_in slots
+answers_count : (slots : List Slot)
+    → length (joined (lists_of (map (λ w. w.answers) (workers_of slots)))) ≡ answered_in slots
 answers_count [] = refl
 answers_count (s ∷ slots) =
     omega (
@@ -135,7 +141,8 @@ none_ran_out (s ∷ slots) h =
 
 module _ {Q A : Type 0} (queue : Slotted (Option PoolJob) (Doing PoolJob Hand) Q A) (gate : GateMeaning ScriptCredential) (workers jobs : ℕ) where
   serves_queue : (slots : List Slot) → AreServedSlots queue gate workers jobs slots
-      → ServesQueue gate workers jobs (map (λ w. w.pass) (workers_of slots)) (lists_of (map (λ w. w.answers) (workers_of slots)))
+      → ServesQueue gate workers jobs (map (λ w. w.pass) (workers_of slots))
+      (lists_of (map (λ w. w.answers) (workers_of slots)))
   serves_queue slots h = record {
     workers_are = length-map (workers_of slots) (λ w. w.pass) ∙ length-map slots (λ s. s.worker) ∙ h.run.len;
     serves = handles queue gate workers jobs 0 slots h.run.each;
@@ -143,19 +150,22 @@ module _ {Q A : Type 0} (queue : Slotted (Option PoolJob) (Doing PoolJob Hand) Q
     none_ran_out = none_ran_out slots h.none_ran_out;
   }
 
-  are_submitted : 0 < workers → (slots : List Slot) → AreServedSlots queue gate workers jobs slots → AreSubmitted jobs (jobs_lists (submitters_of slots))
+  are_submitted : 0 < workers → (slots : List Slot) → AreServedSlots queue gate workers jobs slots
+      → AreSubmitted jobs (jobs_lists (submitters_of slots))
   are_submitted some slots h = record {
     count = counts queue gate workers jobs 0 slots h.run.each h.none_stopped
         ∙ ap (dealt_from (jobs / workers) (jobs % workers) 0) h.run.len ∙ all_dealt workers jobs some;
     each = are_jobs queue gate workers jobs 0 slots h.run.each;
   }
 
-  submitter_seats : (slots : List Slot) → AreServedSlots queue gate workers jobs slots → All (λ s. IsPassOf queue s.seat) (submitters_of slots)
+  submitter_seats : (slots : List Slot) → AreServedSlots queue gate workers jobs slots
+      → All (λ s. IsPassOf queue s.seat) (submitters_of slots)
   submitter_seats slots h =
       All-map (λ (s : Submitter). IsPassOf queue s.seat) (λ (s : Slot). s.submitter) slots
       (each_all (IsRunSlot queue gate workers jobs) (λ (s : Slot). IsPassOf queue s.submitter.seat) (λ i s r. r.state.submitter.seat) 0 slots h.run.each)
 
-  worker_seats : (slots : List Slot) → AreServedSlots queue gate workers jobs slots → All (λ w. IsPassOf queue w.seat) (workers_of slots)
+  worker_seats : (slots : List Slot) → AreServedSlots queue gate workers jobs slots
+      → All (λ w. IsPassOf queue w.seat) (workers_of slots)
   worker_seats slots h =
       All-map (λ (w : Worker ScriptCredential). IsPassOf queue w.seat) (λ (s : Slot). s.worker) slots
       (each_all (IsRunSlot queue gate workers jobs) (λ (s : Slot). IsPassOf queue s.worker.seat) (λ i s r. r.state.worker.seat) 0 slots h.run.each)

@@ -30,12 +30,14 @@ module _ (each last : ℕ) where
       let rest : dealt_from each last (suc place) n ≡ n * each = past each last (suc place) n (omega arith) in
       rw (t, rest) (omega (arith, suc-mul n each))
 
-  upto : (place n : ℕ) → place ≤ last → last ≤ place + n → dealt_from each last place n ≡ n * each + (last - place)
+  upto : (place n : ℕ) → place ≤ last → last ≤ place + n
+      → dealt_from each last place n ≡ n * each + (last - place)
   upto place zero low high = omega arith
   upto place (suc n) low high = step place n (nat_lt place last) refl low high (λ below. upto (suc place) n (omega arith) (omega arith))
 
 -- all jobs are dealt out
-pub all_dealt : (workers jobs : ℕ) → 0 < workers → dealt_from (jobs / workers) (jobs % workers) 0 workers ≡ jobs
+pub all_dealt : (workers jobs : ℕ) → 0 < workers
+    → dealt_from (jobs / workers) (jobs % workers) 0 workers ≡ jobs
 all_dealt workers jobs some =
     upto (jobs / workers) (jobs % workers) 0 workers (omega arith) (omega (arith, mod_below jobs workers some)) ∙ whole
   where

@@ -33,18 +33,22 @@ use Rattle.sequential_signer.proofs.CacheLaw.{KeepsAnswers, keeps_unserved, cach
 module _ {K D : Type 0} (policy : Policy K D) (setup : Setup D) where
   module _ (entries : List (Entry K)) (run : IsRun policy setup entries) where
     -- a reply that serves nobody leaves who was served
-    served_same : (e : Entry K) → serves e.reply ≡ false → (call : CallId) → is_served (entries ++ e ∷ []) call ≡ is_served entries call
+    served_same : (e : Entry K) → serves e.reply ≡ false → (call : CallId)
+        → is_served (entries ++ e ∷ []) call ≡ is_served entries call
     served_same e s call = same_by (same_call call (call_of e.event)) refl
       where
-        same_by : (o : Bool) → same_call call (call_of e.event) ≡ o → is_served (entries ++ e ∷ []) call ≡ is_served entries call
+        same_by : (o : Bool) → same_call call (call_of e.event) ≡ o
+            → is_served (entries ++ e ∷ []) call ≡ is_served entries call
         same_by true o = is_served-own setup entries e call o ∙ ap (λ v. is_served entries call || v) s ∙ or_false _
         same_by false o = is_served-other setup entries e call o
 
     -- so does any reply to a call that was served before
-    served_again : (e : Entry K) → is_served entries (call_of e.event) ≡ true → (call : CallId) → is_served (entries ++ e ∷ []) call ≡ is_served entries call
+    served_again : (e : Entry K) → is_served entries (call_of e.event) ≡ true → (call : CallId)
+        → is_served (entries ++ e ∷ []) call ≡ is_served entries call
     served_again e s call = same_by (same_call call (call_of e.event)) refl
       where
-        same_by : (o : Bool) → same_call call (call_of e.event) ≡ o → is_served (entries ++ e ∷ []) call ≡ is_served entries call
+        same_by : (o : Bool) → same_call call (call_of e.event) ≡ o
+            → is_served (entries ++ e ∷ []) call ≡ is_served entries call
         same_by true o =
             let here : is_served entries call ≡ true = ap (is_served entries) (same_call-eq call (call_of e.event) o) ∙ s in
             is_served-own setup entries e call o ∙ ap (λ v. v || serves e.reply) here ∙ sym here
@@ -54,28 +58,38 @@ module _ {K D : Type 0} (policy : Policy K D) (setup : Setup D) where
     keeps_other_event e h s = answers-own_none setup entries 0 e (call_of e.event) (same_call-refl (call_of e.event)) h
 
     -- an entry that is answered `NotNow` leaves every cache
-    pub stays_not_now : (event : Event K) (i : ℕ) → sequential_cache policy setup (entries ++ record { event = event; reply = NotNow } ∷ []) i ≡ sequential_cache policy setup entries i
+    pub stays_not_now : (event : Event K) (i : ℕ)
+        → sequential_cache policy setup (entries ++ record { event = event; reply = NotNow } ∷ []) i
+        ≡ sequential_cache policy setup entries i
     stays_not_now event i =
         cache_stays policy setup entries run (record { event = event; reply = NotNow })
         (λ _. refused_answers setup entries 0 event (call_of event) (same_call-refl (call_of event)))
         (served_same (record { event = event; reply = NotNow }) refl) i
 
     -- an entry that is no answer and serves nobody leaves every cache
-    pub stays_other : (e : Entry K) → answer_in e.event ≡ None → serves e.reply ≡ false → (i : ℕ) → sequential_cache policy setup (entries ++ e ∷ []) i ≡ sequential_cache policy setup entries i
+    pub stays_other : (e : Entry K) → answer_in e.event ≡ None → serves e.reply ≡ false → (i : ℕ)
+        → sequential_cache policy setup (entries ++ e ∷ []) i ≡ sequential_cache policy setup entries i
     stays_other e a s i = cache_stays policy setup entries run e (keeps_other_event e a) (served_same e s) i
 
     -- so does one that is no answer, about a call that was served before
-    pub stays_served : (e : Entry K) → answer_in e.event ≡ None → is_served entries (call_of e.event) ≡ true → (i : ℕ) → sequential_cache policy setup (entries ++ e ∷ []) i ≡ sequential_cache policy setup entries i
+    pub stays_served : (e : Entry K) → answer_in e.event ≡ None → is_served entries (call_of e.event) ≡ true
+        → (i : ℕ)
+        → sequential_cache policy setup (entries ++ e ∷ []) i ≡ sequential_cache policy setup entries i
     stays_served e a s i = cache_stays policy setup entries run e (keeps_other_event e a) (served_again e s) i
 
     -- and one that serves nobody, about a call that was not served before
-    pub stays_unserved : (e : Entry K) → is_served entries (call_of e.event) ≡ false → serves e.reply ≡ false → (i : ℕ) → sequential_cache policy setup (entries ++ e ∷ []) i ≡ sequential_cache policy setup entries i
+    pub stays_unserved : (e : Entry K) → is_served entries (call_of e.event) ≡ false → serves e.reply ≡ false
+        → (i : ℕ)
+        → sequential_cache policy setup (entries ++ e ∷ []) i ≡ sequential_cache policy setup entries i
     stays_unserved e u s i = cache_stays policy setup entries run e (keeps_unserved policy setup entries run e u) (served_same e s) i
 
     -- the input of a hold whose turn comes by this poll
-    pub input_looked : (call : CallId) (now : ℤ) (reply : Reply K) (i : ℕ) → cache_of setup call ≡ Some i → is_fitting_poll (record { event = Poll call now; reply = reply }) ≡ true
-        → Waits setup entries i call → has_turn setup entries i call ≡ true → is_some (begin_of entries call) ≡ true
-        → hold_input {K = K} setup (entries ++ record { event = Poll call now; reply = reply } ∷ []) i call ≡ look_input setup entries call now
+    pub input_looked : (call : CallId) (now : ℤ) (reply : Reply K) (i : ℕ) → cache_of setup call ≡ Some i
+        → is_fitting_poll (record { event = Poll call now; reply = reply }) ≡ true
+        → Waits setup entries i call → has_turn setup entries i call ≡ true
+        → is_some (begin_of entries call) ≡ true
+        → hold_input {K = K} setup (entries ++ record { event = Poll call now; reply = reply } ∷ []) i call
+        ≡ look_input setup entries call now
     input_looked call now reply i at t w turn b =
         let e : Entry K = record { event = Poll call now; reply = reply } in
         let own : same_call call call ≡ true = same_call-refl call in
@@ -85,9 +99,11 @@ module _ {K D : Type 0} (policy : Policy K D) (setup : Setup D) where
         rw (begin, answers, moment) refl
 
     -- the input of a hold that gets one more answer
-    pub input_got : (call : CallId) (now : ℤ) (answer : Answer K) (reply : Reply K) (i : ℕ) → cache_of setup call ≡ Some i → is_not_now reply ≡ false
-        → Loads setup entries i call
-        → hold_input {K = K} setup (entries ++ record { event = Provided call now answer; reply = reply } ∷ []) i call ≡ answered_input setup entries i call (answer, now)
+    pub input_got : (call : CallId) (now : ℤ) (answer : Answer K) (reply : Reply K) (i : ℕ)
+        → cache_of setup call ≡ Some i → is_not_now reply ≡ false → Loads setup entries i call
+        → hold_input {K = K} setup
+        (entries ++ record { event = Provided call now answer; reply = reply } ∷ []) i call
+        ≡ answered_input setup entries i call (answer, now)
     input_got call now answer reply i at n l =
         let e : Entry K = record { event = Provided call now answer; reply = reply } in
         let own : same_call call call ≡ true = same_call-refl call in
@@ -99,7 +115,11 @@ module _ {K D : Type 0} (policy : Policy K D) (setup : Setup D) where
         rw (begin, answers, moment) refl
 
     -- an undisturbed call on the cache leaves what the hold leaves
-    left_by : (hold : HoldPoint K) (outcome : Outcome K) (left : Option K) → (g : HoldReaches policy setup entries hold (Over outcome left)) → (o : Option Loader) → o ≡ slice_get setup.loaders hold.cache → (input : Option (HoldInput K D)) → input ≡ input_by (rule_of setup hold.call) (begin_of entries hold.call) hold.moment hold.answers → cache_after policy o input (sequential_cache policy setup entries hold.cache) ≡ left
+    left_by : (hold : HoldPoint K) (outcome : Outcome K) (left : Option K)
+        → (g : HoldReaches policy setup entries hold (Over outcome left)) → (o : Option Loader)
+        → o ≡ slice_get setup.loaders hold.cache → (input : Option (HoldInput K D))
+        → input ≡ input_by (rule_of setup hold.call) (begin_of entries hold.call) hold.moment hold.answers
+        → cache_after policy o input (sequential_cache policy setup entries hold.cache) ≡ left
     left_by hold outcome left g None h input k = let l = g.loads in cc
     left_by hold outcome left g (Some loader) h None k = let l = g.inputs in cc
     left_by hold outcome left g (Some loader) h (Some input) k =
@@ -110,12 +130,24 @@ module _ {K D : Type 0} (policy : Policy K D) (setup : Setup D) where
         rw (same, these, sym g.reaches) refl
 
     -- a hold that a look ends leaves what the look leaves
-    pub serves_looked : (call : CallId) (now : ℤ) (outcome : Outcome K) (left : Option K) (wake : Option CallId) (i : ℕ)
-        → Waits setup entries i call → has_turn setup entries i call ≡ true → (g : HoldReaches policy setup entries (at_look call i now) (Over outcome left))
-        → sequential_cache policy setup (entries ++ record { event = Poll call now; reply = with_wake (progress_reply (Over outcome left)) wake } ∷ []) i ≡ left
+    pub serves_looked : (call : CallId) (now : ℤ) (outcome : Outcome K) (left : Option K)
+        (wake : Option CallId) (i : ℕ) → Waits setup entries i call → has_turn setup entries i call ≡ true
+        → (g : HoldReaches policy setup entries (at_look call i now) (Over outcome left))
+        → sequential_cache policy setup
+        (entries
+        ++ record { event = Poll call now; reply = with_wake (progress_reply (Over outcome left)) wake } ∷ [])
+        i
+        ≡ left
     serves_looked call now outcome left wake i w turn g = by_outcome outcome g
       where
-        by_outcome : (outcome : Outcome K) → (g : HoldReaches policy setup entries (at_look call i now) (Over outcome left)) → sequential_cache policy setup (entries ++ record { event = Poll call now; reply = with_wake (progress_reply (Over outcome left)) wake } ∷ []) i ≡ left
+        by_outcome : (outcome : Outcome K)
+            → (g : HoldReaches policy setup entries (at_look call i now) (Over outcome left))
+            → sequential_cache policy setup
+            (entries
+            ++ record { event = Poll call now; reply = with_wake (progress_reply (Over outcome left)) wake }
+            ∷ [])
+            i
+            ≡ left
         by_outcome (HandOut c) g =
             let e : Entry K = record { event = Poll call now; reply = Sign c wake } in
             cache_serves policy setup entries run e i g.at w.unserved w.unfinished refl (looked policy setup entries i call g.at now (Sign c wake) refl w turn).polled
@@ -126,12 +158,27 @@ module _ {K D : Type 0} (policy : Policy K D) (setup : Setup D) where
             ∙ left_by (at_look call i now) (Refuse cause) left g (slice_get setup.loaders i) refl (hold_input {K = K} setup (entries ++ e ∷ []) i call) (input_looked call now (Refused cause wake) i g.at refl w turn w.begun)
 
     -- a hold that an answer ends leaves what the answer leaves
-    pub serves_got : (call : CallId) (now : ℤ) (answer : Answer K) (outcome : Outcome K) (left : Option K) (wake : Option CallId) (i : ℕ)
-        → Loads setup entries i call → (g : HoldReaches policy setup entries (at_answer setup entries i call (answer, now)) (Over outcome left))
-        → sequential_cache policy setup (entries ++ record { event = Provided call now answer; reply = with_wake (progress_reply (Over outcome left)) wake } ∷ []) i ≡ left
+    pub serves_got : (call : CallId) (now : ℤ) (answer : Answer K) (outcome : Outcome K) (left : Option K)
+        (wake : Option CallId) (i : ℕ) → Loads setup entries i call
+        → (g : HoldReaches policy setup entries (at_answer setup entries i call (answer, now))
+        (Over outcome left))
+        → sequential_cache policy setup
+        (entries
+        ++ record { event = Provided call now answer; reply = with_wake (progress_reply (Over outcome left)) wake }
+        ∷ [])
+        i
+        ≡ left
     serves_got call now answer outcome left wake i w g = by_outcome outcome g
       where
-        by_outcome : (outcome : Outcome K) → (g : HoldReaches policy setup entries (at_answer setup entries i call (answer, now)) (Over outcome left)) → sequential_cache policy setup (entries ++ record { event = Provided call now answer; reply = with_wake (progress_reply (Over outcome left)) wake } ∷ []) i ≡ left
+        by_outcome : (outcome : Outcome K)
+            → (g : HoldReaches policy setup entries (at_answer setup entries i call (answer, now))
+            (Over outcome left))
+            → sequential_cache policy setup
+            (entries
+            ++ record { event = Provided call now answer; reply = with_wake (progress_reply (Over outcome left)) wake }
+            ∷ [])
+            i
+            ≡ left
         by_outcome (HandOut c) g =
             let e : Entry K = record { event = Provided call now answer; reply = Sign c wake } in
             cache_serves policy setup entries run e i g.at w.unserved w.unfinished refl (had-more setup entries i e call w.had).polled
@@ -142,13 +189,18 @@ module _ {K D : Type 0} (policy : Policy K D) (setup : Setup D) where
             ∙ left_by (at_answer setup entries i call (answer, now)) (Refuse cause) left g (slice_get setup.loaders i) refl (hold_input {K = K} setup (entries ++ e ∷ []) i call) (input_got call now answer (Refused cause wake) i g.at refl w)
 
 -- of two calls of a list one stands before the other
-before_either : (a b : CallId) → same_call a b ≡ false → (xs : List CallId) → list_any (same_call a) xs ≡ true → (list_any (same_call a) (before_call b xs) ≡ true) ⊎ (list_any (same_call b) (before_call a xs) ≡ true)
+before_either : (a b : CallId) → same_call a b ≡ false → (xs : List CallId) → list_any (same_call a) xs ≡ true
+    → (list_any (same_call a) (before_call b xs) ≡ true) ⊎ (list_any (same_call b) (before_call a xs) ≡ true)
 before_either a b differ [] m = cc
 before_either a b differ (x ∷ xs) m = either_by (same_call a x) refl (same_call b x) refl m (λ k. before_either a b differ xs k)
   where
-    either_by : (s : Bool) → same_call a x ≡ s → (t : Bool) → same_call b x ≡ t → (s || list_any (same_call a) xs) ≡ true
-        → (list_any (same_call a) xs ≡ true → (list_any (same_call a) (before_call b xs) ≡ true) ⊎ (list_any (same_call b) (before_call a xs) ≡ true))
-        → (list_any (same_call a) (cond (same_call b x) [] (x ∷ before_call b xs)) ≡ true) ⊎ (list_any (same_call b) (cond (same_call a x) [] (x ∷ before_call a xs)) ≡ true)
+    either_by : (s : Bool) → same_call a x ≡ s → (t : Bool) → same_call b x ≡ t
+        → (s || list_any (same_call a) xs) ≡ true
+        → (list_any (same_call a) xs ≡ true
+        → (list_any (same_call a) (before_call b xs) ≡ true) ⊎ (list_any (same_call b) (before_call a xs)
+        ≡ true))
+        → (list_any (same_call a) (cond (same_call b x) [] (x ∷ before_call b xs)) ≡ true)
+        ⊎ (list_any (same_call b) (cond (same_call a x) [] (x ∷ before_call a xs)) ≡ true)
     either_by true s true t m rest =
         let e : a ≡ x = same_call-eq a x s in
         let f : b ≡ x = same_call-eq b x t in
@@ -160,8 +212,10 @@ before_either a b differ (x ∷ xs) m = either_by (same_call a x) refl (same_cal
 
 module _ {K D : Type 0} (setup : Setup D) where
   -- of two calls whose holds are not finished only one has its turn
-  pub one_turn : (entries : List (Entry K)) (i : ℕ) (a b : CallId) → same_call a b ≡ false → is_polled setup entries i a ≡ true
-      → has_turn setup entries i a ≡ true → hold_is_finished entries a ≡ false → has_turn setup entries i b ≡ true → hold_is_finished entries b ≡ false → ⊥
+  pub one_turn : (entries : List (Entry K)) (i : ℕ) (a b : CallId) → same_call a b ≡ false
+      → is_polled setup entries i a ≡ true → has_turn setup entries i a ≡ true
+      → hold_is_finished entries a ≡ false → has_turn setup entries i b ≡ true
+      → hold_is_finished entries b ≡ false → ⊥
   unfolding has_turn
   one_turn entries i a b differ m ta fa tb fb =
       elim (before_either a b differ (poll_order setup entries i) m) [

@@ -66,8 +66,10 @@ module _ {K D : Type 0} (setup : Setup D) where
   -- how the call stands at its cache i, by its phase
   pub data CallInvariant (entries : List (Entry K)) (i : ℕ) (call : CallId) : Phase → Type 0 where
     unknown_call : IsBlank entries i call → CallInvariant entries i call Unknown
-    unpolled_call : Waits entries i call → list_any is_waiting_poll (entries_of entries call) ≡ false → is_polled setup entries i call ≡ false → CallInvariant entries i call Unpolled
-    queued_call : Waits entries i call → is_polled setup entries i call ≡ true → CallInvariant entries i call Queued
+    unpolled_call : Waits entries i call → list_any is_waiting_poll (entries_of entries call) ≡ false
+        → is_polled setup entries i call ≡ false → CallInvariant entries i call Unpolled
+    queued_call : Waits entries i call → is_polled setup entries i call ≡ true
+        → CallInvariant entries i call Queued
     loading_call : Loads entries i call → CallInvariant entries i call Loading
     signing_call : IsServed entries i call → CallInvariant entries i call Signing
     over_call : IsServed entries i call → CallInvariant entries i call Ended
@@ -84,7 +86,8 @@ module _ {K D : Type 0} (setup : Setup D) where
     }
 
   module _ (entries : List (Entry K)) (i : ℕ) (e : Entry K) (call : CallId) (other : same_call call (call_of e.event) ≡ false) where
-    -- an entry about another call leaves what the call was begun with, the answers to it, its phase, and whether it waited
+    -- an entry about another call leaves what the call was begun with, the answers to it, its phase, and
+    -- whether it waited
     pub begin-other : begin_of (entries ++ e ∷ []) call ≡ begin_of entries call
     begin-other = ap begin_in (entries_of-other entries call e other)
 
@@ -95,7 +98,8 @@ module _ {K D : Type 0} (setup : Setup D) where
     unfolding phase_of
     phase-other = ap phase_in (entries_of-other entries call e other)
 
-    waited-other : list_any is_waiting_poll (entries_of (entries ++ e ∷ []) call) ≡ list_any is_waiting_poll (entries_of entries call)
+    waited-other : list_any is_waiting_poll (entries_of (entries ++ e ∷ []) call)
+        ≡ list_any is_waiting_poll (entries_of entries call)
     waited-other = ap (list_any is_waiting_poll) (entries_of-other entries call e other)
 
     no_turn-other : HadNoTurn setup entries i call → HadNoTurn setup (entries ++ e ∷ []) i call
@@ -119,7 +123,8 @@ module _ {K D : Type 0} (setup : Setup D) where
     }
 
     -- an entry about another call changes nothing
-    pub stands-other : (p : Phase) → CallInvariant entries i call p → CallInvariant (entries ++ e ∷ []) i call p
+    pub stands-other : (p : Phase) → CallInvariant entries i call p
+        → CallInvariant (entries ++ e ∷ []) i call p
     stands-other Unknown (unknown_call b) = unknown_call (record {
       begin = begin-other ∙ b.begin;
       waited = waited-other ∙ b.waited;
@@ -150,27 +155,34 @@ module _ {K D : Type 0} (setup : Setup D) where
     pub begin-own : is_begun e.reply ≡ false → begin_of (entries ++ e ∷ []) call ≡ begin_of entries call
     begin-own h = ap begin_in (entries_of-own entries call e own) ∙ begin_in-no (entries_of entries call) e h
 
-    stays_by : (o : Option BeginInput) → begin_of entries call ≡ o → is_some o ≡ true → begin_of (entries ++ e ∷ []) call ≡ begin_of entries call
+    stays_by : (o : Option BeginInput) → begin_of entries call ≡ o → is_some o ≡ true
+        → begin_of (entries ++ e ∷ []) call ≡ begin_of entries call
     stays_by None f h = cc
     stays_by (Some b) f h = ap begin_in (entries_of-own entries call e own) ∙ begin_in-found (entries_of entries call) e b f ∙ sym f
 
     -- what a call was begun with stays
-    pub begin-stays : is_some (begin_of entries call) ≡ true → begin_of (entries ++ e ∷ []) call ≡ begin_of entries call
+    pub begin-stays : is_some (begin_of entries call) ≡ true
+        → begin_of (entries ++ e ∷ []) call ≡ begin_of entries call
     begin-stays h = stays_by (begin_of entries call) refl h
 
     -- a call that was begun stays so
-    pub begun-own : is_some (begin_of entries call) ≡ true → is_some (begin_of (entries ++ e ∷ []) call) ≡ true
+    pub begun-own : is_some (begin_of entries call) ≡ true
+        → is_some (begin_of (entries ++ e ∷ []) call) ≡ true
     begun-own h = ap is_some (begin-stays h) ∙ h
 
     -- an event that is no answer leaves the answers
-    pub answers-own_none : answer_in e.event ≡ None → answers_of (entries ++ e ∷ []) call ≡ answers_of entries call
+    pub answers-own_none : answer_in e.event ≡ None
+        → answers_of (entries ++ e ∷ []) call ≡ answers_of entries call
     answers-own_none h = ap answers_in (entries_of-own entries call e own) ∙ answers_in-no (entries_of entries call) e h
 
-    -- the call is served after the entry where it was before, or where the reply serves it; so with the end of its hold
-    pub served-own : (b : Bool) → is_served entries call ≡ b → is_served (entries ++ e ∷ []) call ≡ (b || serves e.reply)
+    -- the call is served after the entry where it was before, or where the reply serves it; so with the end
+    -- of its hold
+    pub served-own : (b : Bool) → is_served entries call ≡ b
+        → is_served (entries ++ e ∷ []) call ≡ (b || serves e.reply)
     served-own b h = is_served-own setup entries e call own ∙ ap (λ v. v || serves e.reply) h
 
-    pub finished-own : (b : Bool) → hold_is_finished entries call ≡ b → hold_is_finished (entries ++ e ∷ []) call ≡ (b || ends_hold e.reply)
+    pub finished-own : (b : Bool) → hold_is_finished entries call ≡ b
+        → hold_is_finished (entries ++ e ∷ []) call ≡ (b || ends_hold e.reply)
     finished-own b h = hold_is_finished-own setup entries e call own ∙ ap (λ v. v || ends_hold e.reply) h
 
     phase-own : phase_of (entries ++ e ∷ []) call ≡ phase_in (entries_of entries call ++ e ∷ [])
@@ -178,14 +190,18 @@ module _ {K D : Type 0} (setup : Setup D) where
     phase-own = ap phase_in (entries_of-own entries call e own)
 
     -- after a mark the phase is that of the mark
-    pub phase-own_mark : is_mark e.reply ≡ true → phase_of (entries ++ e ∷ []) call ≡ phase_by (list_any is_waiting_poll (entries_of entries call) || is_waiting_poll e) e.reply
+    pub phase-own_mark : is_mark e.reply ≡ true
+        → phase_of (entries ++ e ∷ []) call
+        ≡ phase_by (list_any is_waiting_poll (entries_of entries call) || is_waiting_poll e) e.reply
     phase-own_mark h = phase-own ∙ phase_in-mark (entries_of entries call) e h
 
     -- after a mark the call loads exactly where the mark asks; any other entry leaves whether it loads
-    pub loads-own_mark : is_mark e.reply ≡ true → is_loading (phase_of (entries ++ e ∷ []) call) ≡ is_ask e.reply
+    pub loads-own_mark : is_mark e.reply ≡ true
+        → is_loading (phase_of (entries ++ e ∷ []) call) ≡ is_ask e.reply
     loads-own_mark h = ap is_loading (phase-own_mark h) ∙ phase_by-loading (list_any is_waiting_poll (entries_of entries call) || is_waiting_poll e) e.reply
 
-    pub loads-own_unmarked : is_mark e.reply ≡ false → is_loading (phase_of (entries ++ e ∷ []) call) ≡ is_loading (phase_of entries call)
+    pub loads-own_unmarked : is_mark e.reply ≡ false
+        → is_loading (phase_of (entries ++ e ∷ []) call) ≡ is_loading (phase_of entries call)
     unfolding phase_of
     loads-own_unmarked h =
         ap is_loading (phase-own ∙ phase_in-unmarked (entries_of entries call) e h)
@@ -193,7 +209,8 @@ module _ {K D : Type 0} (setup : Setup D) where
         [ true ↦ to_queued-loading (phase_in (entries_of entries call)) | false ↦ refl ]
 
     -- the call has waited where it had before, or where this is a poll that was answered `Pending`
-    pub waited-own : list_any is_waiting_poll (entries_of (entries ++ e ∷ []) call) ≡ (list_any is_waiting_poll (entries_of entries call) || is_waiting_poll e)
+    pub waited-own : list_any is_waiting_poll (entries_of (entries ++ e ∷ []) call)
+        ≡ (list_any is_waiting_poll (entries_of entries call) || is_waiting_poll e)
     waited-own = ap (list_any is_waiting_poll) (entries_of-own entries call e own) ∙ list_any-more is_waiting_poll (entries_of entries call) e
 
     -- a call that was served stays so
@@ -206,7 +223,8 @@ module _ {K D : Type 0} (setup : Setup D) where
     }
 
     -- the call is served by this entry
-    pub now_served : is_some (begin_of entries call) ≡ true → serves e.reply ≡ true → ends_hold e.reply ≡ true → HadTurn (entries ++ e ∷ []) i call → IsServed (entries ++ e ∷ []) i call
+    pub now_served : is_some (begin_of entries call) ≡ true → serves e.reply ≡ true → ends_hold e.reply ≡ true
+        → HadTurn (entries ++ e ∷ []) i call → IsServed (entries ++ e ∷ []) i call
     now_served b s f had = record {
       begun = begun-own b;
       finished = hold_is_finished-own setup entries e call own ∙ ap (λ v. hold_is_finished entries call || v) f ∙ or_true _;
@@ -215,7 +233,8 @@ module _ {K D : Type 0} (setup : Setup D) where
     }
 
     -- a call that loads goes on loading where the reply neither ends its hold nor serves it
-    pub loads_stays : ends_hold e.reply ≡ false → serves e.reply ≡ false → Loads entries i call → Loads (entries ++ e ∷ []) i call
+    pub loads_stays : ends_hold e.reply ≡ false → serves e.reply ≡ false → Loads entries i call
+        → Loads (entries ++ e ∷ []) i call
     loads_stays f s l = record {
       begun = begun-own l.begun;
       unserved = served-own false l.unserved ∙ s;
@@ -223,7 +242,9 @@ module _ {K D : Type 0} (setup : Setup D) where
       had = had-more entries i e call l.had;
     }
 
-    waits_stays : answers_of (entries ++ e ∷ []) call ≡ answers_of entries call → ends_hold e.reply ≡ false → serves e.reply ≡ false → is_poll_at_turn setup i call (entries, e) ≡ false → Waits entries i call → Waits (entries ++ e ∷ []) i call
+    waits_stays : answers_of (entries ++ e ∷ []) call ≡ answers_of entries call → ends_hold e.reply ≡ false
+        → serves e.reply ≡ false → is_poll_at_turn setup i call (entries, e) ≡ false → Waits entries i call
+        → Waits (entries ++ e ∷ []) i call
     waits_stays a f s n w = record {
       begun = begun-own w.begun;
       answers = a ∙ w.answers;
@@ -239,15 +260,20 @@ module _ {K D : Type 0} (setup : Setup D) where
     pub no_poll-turn : is_fitting_poll e ≡ false → is_poll_at_turn setup i call (entries, e) ≡ false
     no_poll-turn h = ap (λ v. (is_about call e && v) && has_turn setup entries i call) h ∙ ap (λ v. v && has_turn setup entries i call) (and_false _)
 
-    pub unpolled-own : is_fitting_poll e ≡ false → is_polled setup (entries ++ e ∷ []) i call ≡ is_polled setup entries i call
+    pub unpolled-own : is_fitting_poll e ≡ false
+        → is_polled setup (entries ++ e ∷ []) i call ≡ is_polled setup entries i call
     unpolled-own h = ap (list_any (same_call call)) (poll_order-same setup entries i e (no_poll-at h))
 
     -- a poll that waits leaves a call that waited in the queue
-    pub waits_queued : is_poll_at setup i e ≡ true → answer_in e.event ≡ None → ends_hold e.reply ≡ false → serves e.reply ≡ false → is_poll_at_turn setup i call (entries, e) ≡ false → Waits entries i call → CallInvariant (entries ++ e ∷ []) i call Queued
+    pub waits_queued : is_poll_at setup i e ≡ true → answer_in e.event ≡ None → ends_hold e.reply ≡ false
+        → serves e.reply ≡ false → is_poll_at_turn setup i call (entries, e) ≡ false → Waits entries i call
+        → CallInvariant (entries ++ e ∷ []) i call Queued
     waits_queued p a f s n w = queued_call (waits_stays (answers-own_none a) f s n w) (subst (λ c. is_polled setup (entries ++ e ∷ []) i c ≡ true) (sym (same_call-eq call (call_of e.event) own)) (is_polled-own setup entries i e p))
 
     -- a hold that ends by a cancel before it was served
-    pub now_cancelled : is_some (begin_of entries call) ≡ true → ends_hold e.reply ≡ true → serves e.reply ≡ false → is_served entries call ≡ false → CallInvariant (entries ++ e ∷ []) i call Ended
+    pub now_cancelled : is_some (begin_of entries call) ≡ true → ends_hold e.reply ≡ true
+        → serves e.reply ≡ false → is_served entries call ≡ false
+        → CallInvariant (entries ++ e ∷ []) i call Ended
     now_cancelled b f s u = cancelled_call (record {
       begun = begun-own b;
       finished = hold_is_finished-own setup entries e call own ∙ ap (λ v. hold_is_finished entries call || v) f ∙ or_true _;
@@ -266,7 +292,8 @@ module _ {K D : Type 0} (setup : Setup D) where
     refused_poll : is_fitting_poll refused_entry ≡ false
     refused_poll = and_false (is_poll event)
 
-    refused_waited : list_any is_waiting_poll (entries_of (entries ++ refused_entry ∷ []) call) ≡ list_any is_waiting_poll (entries_of entries call)
+    refused_waited : list_any is_waiting_poll (entries_of (entries ++ refused_entry ∷ []) call)
+        ≡ list_any is_waiting_poll (entries_of entries call)
     refused_waited =
         waited-own entries i refused_entry call own
         ∙ ap (λ v. list_any is_waiting_poll (entries_of entries call) || v) (and_false (is_poll event))
@@ -275,7 +302,8 @@ module _ {K D : Type 0} (setup : Setup D) where
     refused_waits : Waits entries i call → Waits (entries ++ refused_entry ∷ []) i call
     refused_waits w = waits_stays entries i refused_entry call own refused_answers refl refl (no_poll-turn entries i refused_entry call own refused_poll) w
 
-    pub refused_stands : (p : Phase) → CallInvariant entries i call p → CallInvariant (entries ++ refused_entry ∷ []) i call p
+    pub refused_stands : (p : Phase) → CallInvariant entries i call p
+        → CallInvariant (entries ++ refused_entry ∷ []) i call p
     refused_stands Unknown (unknown_call b) = unknown_call (record {
       begin = begin-own entries i refused_entry call own refl ∙ b.begin;
       waited = refused_waited ∙ b.waited;

@@ -30,7 +30,8 @@ use Rattle.sequential_signer.proofs.CallInvariant.{HadTurn, Waits, IsBlank, Load
 
 module _ {K D : Type 0} (policy : Policy K D) (setup : Setup D) where
   -- what holds of a call that waits, in either of its phases
-  pub waiting_waits : (entries : List (Entry K)) (i : ℕ) (call : CallId) (p : Phase) → is_waiting p ≡ true → CallInvariant setup entries i call p → Waits setup entries i call
+  pub waiting_waits : (entries : List (Entry K)) (i : ℕ) (call : CallId) (p : Phase) → is_waiting p ≡ true
+      → CallInvariant setup entries i call p → Waits setup entries i call
   waiting_waits entries i call Unpolled h (unpolled_call w _ _) = w
   waiting_waits entries i call Queued h (queued_call w _) = w
   waiting_waits entries i call Unknown h s = absurd (cc)
@@ -39,7 +40,8 @@ module _ {K D : Type 0} (policy : Policy K D) (setup : Setup D) where
   waiting_waits entries i call Ended h s = absurd (cc)
 
   -- of one that loads
-  pub loading_loads : (entries : List (Entry K)) (i : ℕ) (call : CallId) (p : Phase) → is_loading p ≡ true → CallInvariant setup entries i call p → Loads setup entries i call
+  pub loading_loads : (entries : List (Entry K)) (i : ℕ) (call : CallId) (p : Phase) → is_loading p ≡ true
+      → CallInvariant setup entries i call p → Loads setup entries i call
   loading_loads entries i call Loading h (loading_call l) = l
   loading_loads entries i call Unknown h s = absurd (cc)
   loading_loads entries i call Unpolled h s = absurd (cc)
@@ -48,7 +50,8 @@ module _ {K D : Type 0} (policy : Policy K D) (setup : Setup D) where
   loading_loads entries i call Ended h s = absurd (cc)
 
   -- of one that signs
-  pub signing_served : (entries : List (Entry K)) (i : ℕ) (call : CallId) (p : Phase) → is_signing p ≡ true → CallInvariant setup entries i call p → IsServed setup entries i call
+  pub signing_served : (entries : List (Entry K)) (i : ℕ) (call : CallId) (p : Phase) → is_signing p ≡ true
+      → CallInvariant setup entries i call p → IsServed setup entries i call
   signing_served entries i call Signing h (signing_call s) = s
   signing_served entries i call Unknown h s = absurd (cc)
   signing_served entries i call Unpolled h s = absurd (cc)
@@ -57,7 +60,8 @@ module _ {K D : Type 0} (policy : Policy K D) (setup : Setup D) where
   signing_served entries i call Ended h s = absurd (cc)
 
   -- a call that was never begun got no reply but `NotNow`
-  pub unbegun_blank : (entries : List (Entry K)) (i : ℕ) (call : CallId) (p : Phase) → begin_of entries call ≡ None → CallInvariant setup entries i call p → IsBlank setup entries i call
+  pub unbegun_blank : (entries : List (Entry K)) (i : ℕ) (call : CallId) (p : Phase)
+      → begin_of entries call ≡ None → CallInvariant setup entries i call p → IsBlank setup entries i call
   unbegun_blank entries i call Unknown n (unknown_call b) = b
   unbegun_blank entries i call Unpolled n (unpolled_call w _ _) = let h = w.begun in absurd (cc)
   unbegun_blank entries i call Queued n (queued_call w _) = let h = w.begun in absurd (cc)
@@ -67,7 +71,8 @@ module _ {K D : Type 0} (policy : Policy K D) (setup : Setup D) where
   unbegun_blank entries i call Ended n (cancelled_call c) = let h = c.begun in absurd (cc)
 
   -- where no begin was accepted, there is nothing that the call was begun with
-  pub unbegun : (es : List (Entry K)) → find (λ (x : Entry K). is_begun x.reply) es ≡ None → begin_in es ≡ None
+  pub unbegun : (es : List (Entry K)) → find (λ (x : Entry K). is_begun x.reply) es ≡ None
+      → begin_in es ≡ None
   unfolding begin_in
   unbegun es n = rw n refl
 
@@ -75,16 +80,26 @@ module _ {K D : Type 0} (policy : Policy K D) (setup : Setup D) where
     at_cache : is_of_cache setup i call ≡ true
     at_cache = ap (is_number i) at ∙ number_refl i
 
-    own_turn : (now : ℤ) (reply : Reply K) → is_fitting_poll (record { event = Poll call now; reply = reply }) ≡ true → is_poll_at_turn setup i call (entries, record { event = Poll call now; reply = reply }) ≡ has_turn setup entries i call
+    own_turn : (now : ℤ) (reply : Reply K)
+        → is_fitting_poll (record { event = Poll call now; reply = reply }) ≡ true
+        → is_poll_at_turn setup i call (entries, record { event = Poll call now; reply = reply })
+        ≡ has_turn setup entries i call
     own_turn now reply t = rw (same_call-refl call, t) refl
 
     -- a first poll at the turn sets its moment
-    pub looked_moment : (now : ℤ) (reply : Reply K) → is_fitting_poll (record { event = Poll call now; reply = reply }) ≡ true → Waits setup entries i call → has_turn setup entries i call ≡ true → turn_moment setup (entries ++ record { event = Poll call now; reply = reply } ∷ []) i call ≡ Some now
+    pub looked_moment : (now : ℤ) (reply : Reply K)
+        → is_fitting_poll (record { event = Poll call now; reply = reply }) ≡ true
+        → Waits setup entries i call → has_turn setup entries i call ≡ true
+        → turn_moment setup (entries ++ record { event = Poll call now; reply = reply } ∷ []) i call
+        ≡ Some now
     looked_moment now reply t w turn =
         turn_moment-yes setup entries i (record { event = Poll call now; reply = reply }) call w.no_turn (own_turn now reply t ∙ turn)
 
     -- and so the call had its turn
-    pub looked : (now : ℤ) (reply : Reply K) → is_fitting_poll (record { event = Poll call now; reply = reply }) ≡ true → Waits setup entries i call → has_turn setup entries i call ≡ true → HadTurn setup (entries ++ record { event = Poll call now; reply = reply } ∷ []) i call
+    pub looked : (now : ℤ) (reply : Reply K)
+        → is_fitting_poll (record { event = Poll call now; reply = reply }) ≡ true
+        → Waits setup entries i call → has_turn setup entries i call ≡ true
+        → HadTurn setup (entries ++ record { event = Poll call now; reply = reply } ∷ []) i call
     looked now reply t w turn =
         let e : Entry K = record { event = Poll call now; reply = reply } in
         record {
@@ -94,8 +109,10 @@ module _ {K D : Type 0} (policy : Policy K D) (setup : Setup D) where
           at = turn_moment-yes setup entries i e call w.no_turn (own_turn now reply t ∙ turn);
         }
 
-    begins_stands : (head : Head) (expires_in : Option Duration) → is_new_number entries call ≡ true → (p : Phase) → CallInvariant setup entries i call p
-        → CallInvariant setup (entries ++ record { event = Begin call head expires_in; reply = Begun } ∷ []) i call (phase_of (entries ++ record { event = Begin call head expires_in; reply = Begun } ∷ []) call)
+    begins_stands : (head : Head) (expires_in : Option Duration) → is_new_number entries call ≡ true
+        → (p : Phase) → CallInvariant setup entries i call p
+        → CallInvariant setup (entries ++ record { event = Begin call head expires_in; reply = Begun } ∷ []) i
+        call (phase_of (entries ++ record { event = Begin call head expires_in; reply = Begun } ∷ []) call)
     begins_stands head expires_in new p st =
         let e : Entry K = record { event = Begin call head expires_in; reply = Begun } in
         let own : same_call call call ≡ true = same_call-refl call in
@@ -118,15 +135,18 @@ module _ {K D : Type 0} (policy : Policy K D) (setup : Setup D) where
       pending_entry = record { event = Poll call now; reply = Pending }
 
       -- a poll that is answered `Pending` queues its call, where it was not polled before
-      pub pending_phase : (p : Phase) → phase_of entries call ≡ p → phase_of (entries ++ record { event = Poll call now; reply = Pending } ∷ []) call ≡ to_queued p
+      pub pending_phase : (p : Phase) → phase_of entries call ≡ p
+          → phase_of (entries ++ record { event = Poll call now; reply = Pending } ∷ []) call ≡ to_queued p
       unfolding phase_of
       pending_phase p h =
           ap phase_in (entries_of-own entries call (record { event = Poll call now; reply = Pending }) (same_call-refl call))
           ∙ phase_in-pending (entries_of entries call) call now
           ∙ ap to_queued h
 
-      waits_stands : has_turn setup entries i call ≡ false → (p : Phase) → phase_of entries call ≡ p → is_waiting p ≡ true → CallInvariant setup entries i call p
-          → CallInvariant setup (entries ++ record { event = Poll call now; reply = Pending } ∷ []) i call (phase_of (entries ++ record { event = Poll call now; reply = Pending } ∷ []) call)
+      waits_stands : has_turn setup entries i call ≡ false → (p : Phase) → phase_of entries call ≡ p
+          → is_waiting p ≡ true → CallInvariant setup entries i call p
+          → CallInvariant setup (entries ++ record { event = Poll call now; reply = Pending } ∷ []) i call
+          (phase_of (entries ++ record { event = Poll call now; reply = Pending } ∷ []) call)
       waits_stands t p h w st =
           let e : Entry K = record { event = Poll call now; reply = Pending } in
           let queued : to_queued p ≡ Queued = to_queued-waiting p w in
@@ -141,8 +161,10 @@ module _ {K D : Type 0} (policy : Policy K D) (setup : Setup D) where
           to_queued-waiting Signing w = cc
           to_queued-waiting Ended w = cc
 
-      pending_stands : (p : Phase) → phase_of entries call ≡ p → is_busy p ≡ true → CallInvariant setup entries i call p
-          → CallInvariant setup (entries ++ record { event = Poll call now; reply = Pending } ∷ []) i call (phase_of (entries ++ record { event = Poll call now; reply = Pending } ∷ []) call)
+      pending_stands : (p : Phase) → phase_of entries call ≡ p → is_busy p ≡ true
+          → CallInvariant setup entries i call p
+          → CallInvariant setup (entries ++ record { event = Poll call now; reply = Pending } ∷ []) i call
+          (phase_of (entries ++ record { event = Poll call now; reply = Pending } ∷ []) call)
       pending_stands Loading h b (loading_call l) = rw (pending_phase Loading h) (loading_call (loads_stays setup entries i (record { event = Poll call now; reply = Pending }) call (same_call-refl call) refl refl l))
       pending_stands Signing h b (signing_call s) = rw (pending_phase Signing h) (signing_call (served_stays setup entries i (record { event = Poll call now; reply = Pending }) call (same_call-refl call) s))
       pending_stands Unknown h b s = absurd (cc)
@@ -151,8 +173,13 @@ module _ {K D : Type 0} (policy : Policy K D) (setup : Setup D) where
       pending_stands Ended h b s = absurd (cc)
 
       -- a look ends the hold, or it begins a load
-      looks_stands : (progress : Progress K) (wake : Option CallId) → has_turn setup entries i call ≡ true → Waits setup entries i call
-          → CallInvariant setup (entries ++ record { event = Poll call now; reply = with_wake (progress_reply progress) wake } ∷ []) i call (phase_of (entries ++ record { event = Poll call now; reply = with_wake (progress_reply progress) wake } ∷ []) call)
+      looks_stands : (progress : Progress K) (wake : Option CallId) → has_turn setup entries i call ≡ true
+          → Waits setup entries i call
+          → CallInvariant setup
+          (entries ++ record { event = Poll call now; reply = with_wake (progress_reply progress) wake } ∷ [])
+          i call
+          (phase_of (entries
+          ++ record { event = Poll call now; reply = with_wake (progress_reply progress) wake } ∷ []) call)
       looks_stands (Asking k) wake t w =
           let e : Entry K = record { event = Poll call now; reply = Ask k } in
           let own : same_call call call ≡ true = same_call-refl call in
@@ -175,8 +202,16 @@ module _ {K D : Type 0} (policy : Policy K D) (setup : Setup D) where
           (over_call (now_served setup entries i e call own w.begun refl refl (looked now (Refused cause wake) refl w t)))
 
       -- an answer ends the hold, or the next provider is asked
-      answer_stands : (answer : Answer K) (progress : Progress K) (wake : Option CallId) → Loads setup entries i call
-          → CallInvariant setup (entries ++ record { event = Provided call now answer; reply = with_wake (progress_reply progress) wake } ∷ []) i call (phase_of (entries ++ record { event = Provided call now answer; reply = with_wake (progress_reply progress) wake } ∷ []) call)
+      answer_stands : (answer : Answer K) (progress : Progress K) (wake : Option CallId)
+          → Loads setup entries i call
+          → CallInvariant setup
+          (entries
+          ++ record { event = Provided call now answer; reply = with_wake (progress_reply progress) wake }
+          ∷ [])
+          i call
+          (phase_of (entries
+          ++ record { event = Provided call now answer; reply = with_wake (progress_reply progress) wake }
+          ∷ []) call)
       answer_stands answer (Asking k) wake l =
           let e : Entry K = record { event = Provided call now answer; reply = Ask k } in
           rw (phase-own_mark setup entries i e call (same_call-refl call) refl)
@@ -190,8 +225,10 @@ module _ {K D : Type 0} (policy : Policy K D) (setup : Setup D) where
           rw (phase-own_mark setup entries i e call (same_call-refl call) refl)
           (over_call (now_served setup entries i e call (same_call-refl call) l.begun refl refl (had-more setup entries i e call l.had)))
 
-    cancels_stands : (wake : Option CallId) (p : Phase) → is_live p ≡ true → CallInvariant setup entries i call p
-        → CallInvariant setup (entries ++ record { event = Cancel call; reply = Cancelled wake } ∷ []) i call Ended
+    cancels_stands : (wake : Option CallId) (p : Phase) → is_live p ≡ true
+        → CallInvariant setup entries i call p
+        → CallInvariant setup (entries ++ record { event = Cancel call; reply = Cancelled wake } ∷ []) i call
+        Ended
     cancels_stands wake Unpolled l (unpolled_call w _ _) = now_cancelled setup entries i (record { event = Cancel call; reply = Cancelled wake }) call (same_call-refl call) w.begun refl refl w.unserved
     cancels_stands wake Queued l (queued_call w _) = now_cancelled setup entries i (record { event = Cancel call; reply = Cancelled wake }) call (same_call-refl call) w.begun refl refl w.unserved
     cancels_stands wake Loading l (loading_call w) = now_cancelled setup entries i (record { event = Cancel call; reply = Cancelled wake }) call (same_call-refl call) w.begun refl refl w.unserved
@@ -200,9 +237,11 @@ module _ {K D : Type 0} (policy : Policy K D) (setup : Setup D) where
     cancels_stands wake Ended l s = absurd (cc)
 
   -- after a legal step its call stands as its new phase says
-  own_stands : (entries : List (Entry K)) (event : Event K) (reply : Reply K) → LegalStep policy setup entries event reply → (i : ℕ) → cache_of setup (call_of event) ≡ Some i
+  own_stands : (entries : List (Entry K)) (event : Event K) (reply : Reply K)
+      → LegalStep policy setup entries event reply → (i : ℕ) → cache_of setup (call_of event) ≡ Some i
       → CallInvariant setup entries i (call_of event) (phase_of entries (call_of event))
-      → CallInvariant setup (entries ++ record { event = event; reply = reply } ∷ []) i (call_of event) (phase_of (entries ++ record { event = event; reply = reply } ∷ []) (call_of event))
+      → CallInvariant setup (entries ++ record { event = event; reply = reply } ∷ []) i (call_of event)
+      (phase_of (entries ++ record { event = event; reply = reply } ∷ []) (call_of event))
   own_stands entries event reply (not_now e) i at st =
       rw (refused_phase setup entries i e (call_of e) (same_call-refl (call_of e))) (refused_stands setup entries i e (call_of e) (same_call-refl (call_of e)) (phase_of entries (call_of e)) st)
   own_stands entries event reply (begins call head expires_in j _ new) i at st = begins_stands entries i call at head expires_in new (phase_of entries call) st
@@ -226,10 +265,12 @@ module _ {K D : Type 0} (policy : Policy K D) (setup : Setup D) where
       rw (phase-own_mark setup entries i (record { event = event; reply = reply }) call (same_call-refl call) refl)
       (cancels_stands entries i call at wake (phase_of entries call) l st)
 
-  step_stands : (entries : List (Entry K)) (event : Event K) (reply : Reply K) → LegalStep policy setup entries event reply → (call : CallId) (i : ℕ) → cache_of setup call ≡ Some i
-      → CallInvariant setup entries i call (phase_of entries call)
-      → (s : Bool) → same_call call (call_of event) ≡ s
-      → CallInvariant setup (entries ++ record { event = event; reply = reply } ∷ []) i call (phase_of (entries ++ record { event = event; reply = reply } ∷ []) call)
+  step_stands : (entries : List (Entry K)) (event : Event K) (reply : Reply K)
+      → LegalStep policy setup entries event reply → (call : CallId) (i : ℕ) → cache_of setup call ≡ Some i
+      → CallInvariant setup entries i call (phase_of entries call) → (s : Bool)
+      → same_call call (call_of event) ≡ s
+      → CallInvariant setup (entries ++ record { event = event; reply = reply } ∷ []) i call
+      (phase_of (entries ++ record { event = event; reply = reply } ∷ []) call)
   step_stands entries event reply step call i at st true s =
       let same : call_of event ≡ call = sym (same_call-eq call (call_of event) s) in
       subst (λ c. CallInvariant setup (entries ++ record { event = event; reply = reply } ∷ []) i c (phase_of (entries ++ record { event = event; reply = reply } ∷ []) c)) same
@@ -243,7 +284,8 @@ module _ {K D : Type 0} (policy : Policy K D) (setup : Setup D) where
   blank_start i call = unknown_call (record { begin = refl; waited = refl; answers = refl; unserved = refl; unfinished = refl; unpolled = refl; no_turn = record { none = refl } })
 
   -- after a run each call stands as its phase says
-  pub stands : (entries : List (Entry K)) → IsRun policy setup entries → (call : CallId) (i : ℕ) → cache_of setup call ≡ Some i → CallInvariant setup entries i call (phase_of entries call)
+  pub stands : (entries : List (Entry K)) → IsRun policy setup entries → (call : CallId) (i : ℕ)
+      → cache_of setup call ≡ Some i → CallInvariant setup entries i call (phase_of entries call)
   stands _ start call i at = blank_start i call
   stands _ (more entries event reply run step) call i at = step_stands entries event reply step call i at (stands entries run call i at) _ refl
 

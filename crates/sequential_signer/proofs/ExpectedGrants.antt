@@ -1,4 +1,5 @@
--- A granter's transcripts in which each reply is the expected one: how they grow, and that all their entries are committed.
+-- A granter's transcripts in which each reply is the expected one: how they grow, and that all their entries
+-- are committed.
 use Rattle.std.proofs.Common.{◌≡◌, List, [], ◌∷◌, ◌++◌}
 use Rattle.std.proofs.lemmas.List.Sums.{fold-append}
 use Rattle.sequential_signer.specs.Policy.{Policy}
@@ -19,5 +20,7 @@ module _ {K D : Type 0} (policy : Policy K D) (setup : Setup D) where
   expected_grant_entries-more events event = fold-append (with_expected_grant_reply policy setup) [] events (event ∷ [])
 
   -- all entries are committed
-  pub committed_grants-expected : (events : List (GrantEvent K)) → committed_grants (expected_grant_entries policy setup events) ≡ expected_grant_entries policy setup events
+  pub committed_grants-expected : (events : List (GrantEvent K))
+      → committed_grants (expected_grant_entries policy setup events)
+      ≡ expected_grant_entries policy setup events
   committed_grants-expected events = (expected_grant_replies_are_legal K D policy setup events).2

@@ -19,10 +19,13 @@ use Rattle.sequential_signer.proofs.GrantCalls.{run_grant_begun}
 
 module _ {K : Type 0} where
   -- no call is begun twice, after a step
-  begun_calls-step : (entries : List (GrantEntry K)) (event : GrantEvent K) (reply : GrantReply K) → IsOnce (begun_calls (as_signer entries)) → GrantStep entries event reply → IsOnce (begun_calls (as_signer entries ++ as_entry (grant_entry event reply) ∷ []))
+  begun_calls-step : (entries : List (GrantEntry K)) (event : GrantEvent K) (reply : GrantReply K)
+      → IsOnce (begun_calls (as_signer entries)) → GrantStep entries event reply
+      → IsOnce (begun_calls (as_signer entries ++ as_entry (grant_entry event reply) ∷ []))
   begun_calls-step entries event reply once step = by_step event reply step
     where
-      same : (event : GrantEvent K) (reply : GrantReply K) → is_begun (as_reply reply) ≡ false → IsOnce (begun_calls (as_signer entries ++ as_entry (grant_entry event reply) ∷ []))
+      same : (event : GrantEvent K) (reply : GrantReply K) → is_begun (as_reply reply) ≡ false
+          → IsOnce (begun_calls (as_signer entries ++ as_entry (grant_entry event reply) ∷ []))
       same event reply h = rw (begun_calls-same (as_signer entries) (as_entry (grant_entry event reply)) h) once
 
       unbegun : (reply : GrantReply K) → goes_on reply ≡ true → is_begun (as_reply reply) ≡ false
@@ -36,7 +39,8 @@ module _ {K : Type 0} where
       unbegun (Given credential) h = refl
       unbegun Cancelled h = refl
 
-      by_step : (event : GrantEvent K) (reply : GrantReply K) → GrantStep entries event reply → IsOnce (begun_calls (as_signer entries ++ as_entry (grant_entry event reply) ∷ []))
+      by_step : (event : GrantEvent K) (reply : GrantReply K) → GrantStep entries event reply
+          → IsOnce (begun_calls (as_signer entries ++ as_entry (grant_entry event reply) ∷ []))
       by_step event reply (misfits _) = same event NotNow refl
       by_step event reply (begins call expires_in new) =
           rw (begun_calls-begun (as_signer entries) (as_entry (grant_entry (Begin call expires_in) Begun)) refl) (once-more call (begun_calls (as_signer entries)) once (new_absent call (as_signer entries) new))
@@ -49,7 +53,8 @@ once_none K = tt
 
 module _ {K D : Type 0} (policy : Policy K D) (setup : Setup D) where
   -- no call is begun twice
-  pub grant_begun_once : (entries : List (GrantEntry K)) → IsGrantRun policy setup entries → IsOnce (begun_calls (as_signer entries))
+  pub grant_begun_once : (entries : List (GrantEntry K)) → IsGrantRun policy setup entries
+      → IsOnce (begun_calls (as_signer entries))
   grant_begun_once _ start = once_none K
   grant_begun_once _ (more entries event reply run expected) =
       rw (as_signer-more entries (record { event = event; reply = reply })) (begun_calls-step entries event reply (grant_begun_once entries run) (expected_is_step policy setup entries event reply expected))
@@ -57,7 +62,9 @@ module _ {K D : Type 0} (policy : Policy K D) (setup : Setup D) where
   -- the live calls after one more entry
   module _ (entries : List (GrantEntry K)) (e : GrantEntry K) where
     -- one more, where a begin is accepted
-    pub live_grants-begun : is_begun (as_reply e.reply) ≡ true → is_new_number (as_signer entries) (grant_call_of e.event) ≡ true → is_live (grant_phase_of (entries ++ e ∷ []) (grant_call_of e.event)) ≡ true
+    pub live_grants-begun : is_begun (as_reply e.reply) ≡ true
+        → is_new_number (as_signer entries) (grant_call_of e.event) ≡ true
+        → is_live (grant_phase_of (entries ++ e ∷ []) (grant_call_of e.event)) ≡ true
         → length (live_calls (as_signer (entries ++ e ∷ []))) ≡ length (live_calls (as_signer entries)) + 1
     live_grants-begun b new l =
         let m = as_signer-more entries e in
@@ -65,7 +72,9 @@ module _ {K D : Type 0} (policy : Policy K D) (setup : Setup D) where
         ∙ passing-more policy setup (λ _ p. is_live p) (as_signer entries) (as_entry e) b new (ap (λ es. is_live (phase_of es (grant_call_of e.event))) (sym m) ∙ l)
 
     -- the same ones, where the entry's call is live before and after, or neither
-    pub live_grants-same : is_begun (as_reply e.reply) ≡ false → is_live (grant_phase_of entries (grant_call_of e.event)) ≡ is_live (grant_phase_of (entries ++ e ∷ []) (grant_call_of e.event))
+    pub live_grants-same : is_begun (as_reply e.reply) ≡ false
+        → is_live (grant_phase_of entries (grant_call_of e.event))
+        ≡ is_live (grant_phase_of (entries ++ e ∷ []) (grant_call_of e.event))
         → live_calls (as_signer (entries ++ e ∷ [])) ≡ live_calls (as_signer entries)
     live_grants-same b l =
         let m = as_signer-more entries e in
@@ -73,7 +82,9 @@ module _ {K D : Type 0} (policy : Policy K D) (setup : Setup D) where
         ∙ passing-same policy setup (λ _ p. is_live p) (as_signer entries) (as_entry e) b (l ∙ ap (λ es. is_live (phase_of es (grant_call_of e.event))) m)
 
     -- one fewer, where it was live and is over
-    pub live_grants-fewer : IsGrantRun policy setup entries → is_begun (as_reply e.reply) ≡ false → is_live (grant_phase_of entries (grant_call_of e.event)) ≡ true → is_live (grant_phase_of (entries ++ e ∷ []) (grant_call_of e.event)) ≡ false
+    pub live_grants-fewer : IsGrantRun policy setup entries → is_begun (as_reply e.reply) ≡ false
+        → is_live (grant_phase_of entries (grant_call_of e.event)) ≡ true
+        → is_live (grant_phase_of (entries ++ e ∷ []) (grant_call_of e.event)) ≡ false
         → length (live_calls (as_signer entries)) ≡ length (live_calls (as_signer (entries ++ e ∷ []))) + 1
     live_grants-fewer run b l over =
         let m = as_signer-more entries e in

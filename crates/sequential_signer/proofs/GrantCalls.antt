@@ -48,7 +48,8 @@ module _ {K : Type 0} (entries : List (GrantEntry K)) (call : CallId) where
 
 module _ {K : Type 0} where
   -- a live call was begun
-  pub live_grant_begun : (entries : List (GrantEntry K)) (call : CallId) (p : Phase) → is_live p ≡ true → GrantCallInvariant entries call p → is_some (begin_of (as_signer entries) call) ≡ true
+  pub live_grant_begun : (entries : List (GrantEntry K)) (call : CallId) (p : Phase) → is_live p ≡ true
+      → GrantCallInvariant entries call p → is_some (begin_of (as_signer entries) call) ≡ true
   live_grant_begun entries call Unpolled l (unpolled_grant u) = u.begun
   live_grant_begun entries call Loading l (loading_grant b) = b
   live_grant_begun entries call Signing l (signing_grant b) = b
@@ -57,7 +58,8 @@ module _ {K : Type 0} where
   live_grant_begun entries call Queued l s = elim s [ ]
 
   -- a call that waits was not polled
-  pub waiting_grant_unpolled : (entries : List (GrantEntry K)) (call : CallId) (p : Phase) → is_waiting p ≡ true → GrantCallInvariant entries call p → p ≡ Unpolled
+  pub waiting_grant_unpolled : (entries : List (GrantEntry K)) (call : CallId) (p : Phase)
+      → is_waiting p ≡ true → GrantCallInvariant entries call p → p ≡ Unpolled
   waiting_grant_unpolled entries call Unpolled w s = refl
   waiting_grant_unpolled entries call Queued w s = elim s [ ]
   waiting_grant_unpolled entries call Unknown w s = absurd (cc)
@@ -66,7 +68,9 @@ module _ {K : Type 0} where
   waiting_grant_unpolled entries call Ended w s = absurd (cc)
 
   -- a call that was never begun got no reply but `NotNow`
-  pub unbegun_grant_blank : (entries : List (GrantEntry K)) (call : CallId) (p : Phase) → begin_of (as_signer entries) call ≡ None → GrantCallInvariant entries call p → IsBlankGrant entries call
+  pub unbegun_grant_blank : (entries : List (GrantEntry K)) (call : CallId) (p : Phase)
+      → begin_of (as_signer entries) call ≡ None → GrantCallInvariant entries call p
+      → IsBlankGrant entries call
   unbegun_grant_blank entries call Unknown n (unknown_grant b) = b
   unbegun_grant_blank entries call Unpolled n (unpolled_grant u) = let h = u.begun in absurd (cc)
   unbegun_grant_blank entries call Loading n (loading_grant h) = absurd (cc)
@@ -75,24 +79,31 @@ module _ {K : Type 0} where
   unbegun_grant_blank entries call Queued n s = elim s [ ]
 
   -- so of a call with a new number
-  unbegun_by : (entries : List (GrantEntry K)) (call : CallId) → is_new_number (as_signer entries) call ≡ true → begin_of (as_signer entries) call ≡ None
+  unbegun_by : (entries : List (GrantEntry K)) (call : CallId) → is_new_number (as_signer entries) call ≡ true
+      → begin_of (as_signer entries) call ≡ None
   unfolding begin_in
   unbegun_by entries call new = rw (new_is_unbegun call (as_signer entries) new) refl
 
-  pub new_grant_blank : (entries : List (GrantEntry K)) (call : CallId) → is_new_number (as_signer entries) call ≡ true → GrantCallInvariant entries call (grant_phase_of entries call) → IsBlankGrant entries call
+  pub new_grant_blank : (entries : List (GrantEntry K)) (call : CallId)
+      → is_new_number (as_signer entries) call ≡ true
+      → GrantCallInvariant entries call (grant_phase_of entries call) → IsBlankGrant entries call
   new_grant_blank entries call new s = unbegun_grant_blank entries call (grant_phase_of entries call) (unbegun_by entries call new) s
 
   module _ (entries : List (GrantEntry K)) where
-    not_now_stands : (event : GrantEvent K) (p : Phase) → GrantCallInvariant entries (grant_call_of event) p → GrantCallInvariant (entries ++ grant_entry event NotNow ∷ []) (grant_call_of event) p
+    not_now_stands : (event : GrantEvent K) (p : Phase) → GrantCallInvariant entries (grant_call_of event) p
+        → GrantCallInvariant (entries ++ grant_entry event NotNow ∷ []) (grant_call_of event) p
     not_now_stands event p s = by_phase p s
       where
         own : same_call (grant_call_of event) (grant_call_of event) ≡ true
         own = same_call-refl (grant_call_of event)
 
-        begun : is_some (begin_of (as_signer entries) (grant_call_of event)) ≡ true → is_some (begin_of (as_signer (entries ++ grant_entry event NotNow ∷ [])) (grant_call_of event)) ≡ true
+        begun : is_some (begin_of (as_signer entries) (grant_call_of event)) ≡ true
+            → is_some (begin_of (as_signer (entries ++ grant_entry event NotNow ∷ [])) (grant_call_of event))
+            ≡ true
         begun h = ap is_some (begin_after-not_now entries event (grant_call_of event) own) ∙ h
 
-        by_phase : (p : Phase) → GrantCallInvariant entries (grant_call_of event) p → GrantCallInvariant (entries ++ grant_entry event NotNow ∷ []) (grant_call_of event) p
+        by_phase : (p : Phase) → GrantCallInvariant entries (grant_call_of event) p
+            → GrantCallInvariant (entries ++ grant_entry event NotNow ∷ []) (grant_call_of event) p
         by_phase Unknown (unknown_grant b) = unknown_grant (record {
           begin = begin_after-not_now entries event (grant_call_of event) own ∙ b.begin;
           answers = answers_after-not_now entries event (grant_call_of event) own ∙ b.answers;
@@ -109,8 +120,10 @@ module _ {K : Type 0} where
         by_phase Queued s = elim s [ ]
 
     -- a begin of a new number leaves its call unpolled
-    begins_stands : (call : CallId) (expires_in : Option Duration) → is_new_number (as_signer entries) call ≡ true → IsBlankGrant entries call
-        → GrantCallInvariant (entries ++ grant_entry (Begin call expires_in) Begun ∷ []) call (grant_phase_of (entries ++ grant_entry (Begin call expires_in) Begun ∷ []) call)
+    begins_stands : (call : CallId) (expires_in : Option Duration)
+        → is_new_number (as_signer entries) call ≡ true → IsBlankGrant entries call
+        → GrantCallInvariant (entries ++ grant_entry (Begin call expires_in) Begun ∷ []) call
+        (grant_phase_of (entries ++ grant_entry (Begin call expires_in) Begun ∷ []) call)
     begins_stands call expires_in new blank =
         let e : GrantEntry K = grant_entry (Begin call expires_in) Begun in
         let own : same_call call call ≡ true = same_call-refl call in
@@ -122,14 +135,18 @@ module _ {K : Type 0} where
         }))
 
     -- a poll that waits leaves its call as it is
-    waits_stands : (call : CallId) (now : ℤ) (p : Phase) → grant_phase_of entries call ≡ p → is_busy p ≡ true → GrantCallInvariant entries call p
-        → GrantCallInvariant (entries ++ grant_entry (Poll call now) Pending ∷ []) call (grant_phase_of (entries ++ grant_entry (Poll call now) Pending ∷ []) call)
+    waits_stands : (call : CallId) (now : ℤ) (p : Phase) → grant_phase_of entries call ≡ p → is_busy p ≡ true
+        → GrantCallInvariant entries call p
+        → GrantCallInvariant (entries ++ grant_entry (Poll call now) Pending ∷ []) call
+        (grant_phase_of (entries ++ grant_entry (Poll call now) Pending ∷ []) call)
     waits_stands call now p h b s = rw (phase_after-pending entries call now (ap is_busy h ∙ b), h) (by_phase p b s)
       where
-        begun : is_some (begin_of (as_signer entries) call) ≡ true → is_some (begin_of (as_signer (entries ++ grant_entry (Poll call now) Pending ∷ [])) call) ≡ true
+        begun : is_some (begin_of (as_signer entries) call) ≡ true
+            → is_some (begin_of (as_signer (entries ++ grant_entry (Poll call now) Pending ∷ [])) call) ≡ true
         begun k = ap is_some (grant_begin-own entries (grant_entry (Poll call now) Pending) call (same_call-refl call) refl) ∙ k
 
-        by_phase : (p : Phase) → is_busy p ≡ true → GrantCallInvariant entries call p → GrantCallInvariant (entries ++ grant_entry (Poll call now) Pending ∷ []) call p
+        by_phase : (p : Phase) → is_busy p ≡ true → GrantCallInvariant entries call p
+            → GrantCallInvariant (entries ++ grant_entry (Poll call now) Pending ∷ []) call p
         by_phase Loading b (loading_grant k) = loading_grant (begun k)
         by_phase Signing b (signing_grant k) = signing_grant (begun k)
         by_phase Unknown b s = absurd (cc)
@@ -138,17 +155,23 @@ module _ {K : Type 0} where
         by_phase Ended b s = absurd (cc)
 
     -- a reply that takes its call on leaves it begun
-    takes_on_stands : (event : GrantEvent K) (reply : GrantReply K) → goes_on reply ≡ true → is_some (begin_of (as_signer entries) (grant_call_of event)) ≡ true
-        → GrantCallInvariant (entries ++ grant_entry event reply ∷ []) (grant_call_of event) (grant_phase_of (entries ++ grant_entry event reply ∷ []) (grant_call_of event))
+    takes_on_stands : (event : GrantEvent K) (reply : GrantReply K) → goes_on reply ≡ true
+        → is_some (begin_of (as_signer entries) (grant_call_of event)) ≡ true
+        → GrantCallInvariant (entries ++ grant_entry event reply ∷ []) (grant_call_of event)
+        (grant_phase_of (entries ++ grant_entry event reply ∷ []) (grant_call_of event))
     takes_on_stands event reply g b = by_reply reply g
       where
         own : same_call (grant_call_of event) (grant_call_of event) ≡ true
         own = same_call-refl (grant_call_of event)
 
-        begun : (r : GrantReply K) → is_begun (as_reply r) ≡ false → is_some (begin_of (as_signer (entries ++ grant_entry event r ∷ [])) (grant_call_of event)) ≡ true
+        begun : (r : GrantReply K) → is_begun (as_reply r) ≡ false
+            → is_some (begin_of (as_signer (entries ++ grant_entry event r ∷ [])) (grant_call_of event))
+            ≡ true
         begun r h = ap is_some (grant_begin-own entries (grant_entry event r) (grant_call_of event) own h) ∙ b
 
-        by_reply : (r : GrantReply K) → goes_on r ≡ true → GrantCallInvariant (entries ++ grant_entry event r ∷ []) (grant_call_of event) (grant_phase_of (entries ++ grant_entry event r ∷ []) (grant_call_of event))
+        by_reply : (r : GrantReply K) → goes_on r ≡ true
+            → GrantCallInvariant (entries ++ grant_entry event r ∷ []) (grant_call_of event)
+            (grant_phase_of (entries ++ grant_entry event r ∷ []) (grant_call_of event))
         by_reply (Ask provider) h = rw (phase_after-ask entries event (grant_call_of event) own provider) (loading_grant (begun (Ask provider) refl))
         by_reply (Grant source) h = rw (phase_after-grant entries event (grant_call_of event) own source) (signing_grant (begun (Grant source) refl))
         by_reply (Refused cause) h = rw (phase_after-refused entries event (grant_call_of event) own cause) (ended_grant (begun (Refused cause) refl))
@@ -159,8 +182,10 @@ module _ {K : Type 0} where
         by_reply NotNow h = absurd (cc)
         by_reply OutOfMemory h = absurd (cc)
 
-    own_stands : (event : GrantEvent K) (reply : GrantReply K) → GrantStep entries event reply → GrantCallInvariant entries (grant_call_of event) (grant_phase_of entries (grant_call_of event))
-        → GrantCallInvariant (entries ++ grant_entry event reply ∷ []) (grant_call_of event) (grant_phase_of (entries ++ grant_entry event reply ∷ []) (grant_call_of event))
+    own_stands : (event : GrantEvent K) (reply : GrantReply K) → GrantStep entries event reply
+        → GrantCallInvariant entries (grant_call_of event) (grant_phase_of entries (grant_call_of event))
+        → GrantCallInvariant (entries ++ grant_entry event reply ∷ []) (grant_call_of event)
+        (grant_phase_of (entries ++ grant_entry event reply ∷ []) (grant_call_of event))
     own_stands event reply (misfits _) s =
         rw (phase_after-not_now entries event (grant_call_of event) (same_call-refl (grant_call_of event))) (not_now_stands event (grant_phase_of entries (grant_call_of event)) s)
     own_stands event reply (begins call expires_in new) s = begins_stands call expires_in new (new_grant_blank entries call new s)
@@ -168,16 +193,19 @@ module _ {K : Type 0} where
     own_stands event reply (takes_on _ _ l g) s = takes_on_stands event reply g (live_grant_begun entries (grant_call_of event) (grant_phase_of entries (grant_call_of event)) l s)
 
     -- an entry about another call changes nothing
-    other_stands : (e : GrantEntry K) (call : CallId) → same_call call (grant_call_of e.event) ≡ false → (p : Phase) → GrantCallInvariant entries call p → GrantCallInvariant (entries ++ e ∷ []) call p
+    other_stands : (e : GrantEntry K) (call : CallId) → same_call call (grant_call_of e.event) ≡ false
+        → (p : Phase) → GrantCallInvariant entries call p → GrantCallInvariant (entries ++ e ∷ []) call p
     other_stands e call other p s = by_phase p s
       where
         begin : begin_of (as_signer (entries ++ e ∷ [])) call ≡ begin_of (as_signer entries) call
         begin = grant_begin-other entries e call other
 
-        waited : list_any is_waiting_poll (entries_of (as_signer (entries ++ e ∷ [])) call) ≡ list_any is_waiting_poll (entries_of (as_signer entries) call)
+        waited : list_any is_waiting_poll (entries_of (as_signer (entries ++ e ∷ [])) call)
+            ≡ list_any is_waiting_poll (entries_of (as_signer entries) call)
         waited = ap (list_any is_waiting_poll) (grant_entries-other entries e call other)
 
-        by_phase : (p : Phase) → GrantCallInvariant entries call p → GrantCallInvariant (entries ++ e ∷ []) call p
+        by_phase : (p : Phase) → GrantCallInvariant entries call p
+            → GrantCallInvariant (entries ++ e ∷ []) call p
         by_phase Unknown (unknown_grant b) = unknown_grant (record { begin = begin ∙ b.begin; answers = grant_answers-other entries e call other ∙ b.answers; waited = waited ∙ b.waited })
         by_phase Unpolled (unpolled_grant u) = unpolled_grant (record { begun = ap is_some begin ∙ u.begun; answers = grant_answers-other entries e call other ∙ u.answers; waited = waited ∙ u.waited })
         by_phase Loading (loading_grant h) = loading_grant (ap is_some begin ∙ h)
@@ -185,8 +213,11 @@ module _ {K : Type 0} where
         by_phase Ended (ended_grant h) = ended_grant (ap is_some begin ∙ h)
         by_phase Queued s = elim s [ ]
 
-    step_stands : (event : GrantEvent K) (reply : GrantReply K) → GrantStep entries event reply → (call : CallId) → GrantCallInvariant entries call (grant_phase_of entries call) → (s : Bool) → same_call call (grant_call_of event) ≡ s
-        → GrantCallInvariant (entries ++ grant_entry event reply ∷ []) call (grant_phase_of (entries ++ grant_entry event reply ∷ []) call)
+    step_stands : (event : GrantEvent K) (reply : GrantReply K) → GrantStep entries event reply
+        → (call : CallId) → GrantCallInvariant entries call (grant_phase_of entries call) → (s : Bool)
+        → same_call call (grant_call_of event) ≡ s
+        → GrantCallInvariant (entries ++ grant_entry event reply ∷ []) call
+        (grant_phase_of (entries ++ grant_entry event reply ∷ []) call)
     step_stands event reply step call stood true s =
         let same : grant_call_of event ≡ call = sym (same_call-eq call (grant_call_of event) s) in
         subst (λ c. GrantCallInvariant (entries ++ grant_entry event reply ∷ []) c (grant_phase_of (entries ++ grant_entry event reply ∷ []) c)) same
@@ -200,16 +231,20 @@ module _ {K : Type 0} where
 
 module _ {K D : Type 0} (policy : Policy K D) (setup : Setup D) where
   -- after a run each call stands as its phase says
-  pub grant_stands : (entries : List (GrantEntry K)) → IsGrantRun policy setup entries → (call : CallId) → GrantCallInvariant entries call (grant_phase_of entries call)
+  pub grant_stands : (entries : List (GrantEntry K)) → IsGrantRun policy setup entries → (call : CallId)
+      → GrantCallInvariant entries call (grant_phase_of entries call)
   grant_stands _ start call = blank_start call
   grant_stands _ (more entries event reply run expected) call = step_stands entries event reply (expected_is_step policy setup entries event reply expected) call (grant_stands entries run call) (same_call call (grant_call_of event)) refl
 
   module _ (entries : List (GrantEntry K)) (run : IsGrantRun policy setup entries) (call : CallId) where
-    -- so a call that is live was begun, one that waits was not polled, and one with a new number got no reply but `NotNow`
-    pub run_grant_begun : is_live (grant_phase_of entries call) ≡ true → is_some (begin_of (as_signer entries) call) ≡ true
+    -- so a call that is live was begun, one that waits was not polled, and one with a new number got no reply
+    -- but `NotNow`
+    pub run_grant_begun : is_live (grant_phase_of entries call) ≡ true
+        → is_some (begin_of (as_signer entries) call) ≡ true
     run_grant_begun l = live_grant_begun entries call (grant_phase_of entries call) l (grant_stands entries run call)
 
-    pub run_grant_unpolled : is_waiting (grant_phase_of entries call) ≡ true → grant_phase_of entries call ≡ Unpolled
+    pub run_grant_unpolled : is_waiting (grant_phase_of entries call) ≡ true
+        → grant_phase_of entries call ≡ Unpolled
     run_grant_unpolled w = waiting_grant_unpolled entries call (grant_phase_of entries call) w (grant_stands entries run call)
 
     pub run_grant_blank : is_new_number (as_signer entries) call ≡ true → IsBlankGrant entries call
@@ -217,7 +252,9 @@ module _ {K D : Type 0} (policy : Policy K D) (setup : Setup D) where
 
     -- a begin that is accepted makes a live call that was not polled
     pub live_after-begun : (expires_in : Option Duration) → is_new_number (as_signer entries) call ≡ true
-        → live_call (as_signer (entries ++ grant_entry (Begin call expires_in) Begun ∷ [])) call ≡ Some (record { phase = Unpolled; begin = record { head = no_head; duration = option_map as_nanos expires_in }; answers = 0 })
+        → live_call (as_signer (entries ++ grant_entry (Begin call expires_in) Begun ∷ [])) call
+        ≡ Some
+        (record { phase = Unpolled; begin = record { head = no_head; duration = option_map as_nanos expires_in }; answers = 0 })
     live_after-begun expires_in new =
         let own : same_call call call ≡ true = same_call-refl call in
         let blank : IsBlankGrant entries call = run_grant_blank new in
@@ -227,10 +264,12 @@ module _ {K D : Type 0} (policy : Policy K D) (setup : Setup D) where
         (begin_after-begun entries call expires_in new)
 
     -- before it the call was not live
-    pub new_grant-not_live : is_new_number (as_signer entries) call ≡ true → live_call (as_signer entries) call ≡ None
+    pub new_grant-not_live : is_new_number (as_signer entries) call ≡ true
+        → live_call (as_signer entries) call ≡ None
     new_grant-not_live new = unbegun_grant-not_live entries call (run_grant_blank new).begin
 
-    live_by_phase : (p : Phase) (n : ℕ) (o : Option BeginInput) → is_live p ≡ true → is_some o ≡ true → is_some (live_by p n o) ≡ true
+    live_by_phase : (p : Phase) (n : ℕ) (o : Option BeginInput) → is_live p ≡ true → is_some o ≡ true
+        → is_some (live_by p n o) ≡ true
     live_by_phase p n None l s = absurd (cc)
     live_by_phase Unpolled n (Some begin) l s = refl
     live_by_phase Queued n (Some begin) l s = refl
@@ -240,7 +279,8 @@ module _ {K D : Type 0} (policy : Policy K D) (setup : Setup D) where
     live_by_phase Ended n (Some begin) l s = absurd (cc)
 
     -- a call of which the transcript says nothing is in no live phase
-    pub not_live_grant : live_call (as_signer entries) call ≡ None → is_live (grant_phase_of entries call) ≡ false
+    pub not_live_grant : live_call (as_signer entries) call ≡ None
+        → is_live (grant_phase_of entries call) ≡ false
     not_live_grant h =
         false_by (is_live (grant_phase_of entries call))
         (λ l. let some : is_some (live_call (as_signer entries) call) ≡ true = live_by_phase (grant_phase_of entries call) (length (answers_of (as_signer entries) call)) (begin_of (as_signer entries) call) l (run_grant_begun l) in cc)

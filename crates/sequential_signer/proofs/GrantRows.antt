@@ -47,81 +47,105 @@ waiting_live Ended h = absurd (cc)
 
 module _ {K D : Type 0} (policy : Policy K D) (setup : Setup D) (entries : List (GrantEntry K)) where
   -- the reply to an event that does not fit how far its call is, and to one under no handle
-  misfit_by : (event : GrantEvent K) → grant_event_fits setup entries event ≡ false → (o : Option ℕ) → grant_reply_at policy setup entries event o ≡ NotNow
+  misfit_by : (event : GrantEvent K) → grant_event_fits setup entries event ≡ false → (o : Option ℕ)
+      → grant_reply_at policy setup entries event o ≡ NotNow
   misfit_by event f None = refl
   misfit_by event f (Some i) = rw f refl
 
-  pub grant_misfit : (event : GrantEvent K) → grant_event_fits setup entries event ≡ false → expected_grant_reply policy setup entries event ≡ NotNow
+  pub grant_misfit : (event : GrantEvent K) → grant_event_fits setup entries event ≡ false
+      → expected_grant_reply policy setup entries event ≡ NotNow
   unfolding expected_grant_reply
   grant_misfit event f = misfit_by event f (cache_of setup (grant_call_of event))
 
-  pub grant_misfit-unset : (event : GrantEvent K) → cache_of setup (grant_call_of event) ≡ None → expected_grant_reply policy setup entries event ≡ NotNow
+  pub grant_misfit-unset : (event : GrantEvent K) → cache_of setup (grant_call_of event) ≡ None
+      → expected_grant_reply policy setup entries event ≡ NotNow
   unfolding expected_grant_reply
   grant_misfit-unset event h = rw h refl
 
   -- and to one that fits
-  pub grant_fit : (event : GrantEvent K) (i : ℕ) → cache_of setup (grant_call_of event) ≡ Some i → grant_event_fits setup entries event ≡ true → expected_grant_reply policy setup entries event ≡ fitting_grant_reply policy setup entries i event
+  pub grant_fit : (event : GrantEvent K) (i : ℕ) → cache_of setup (grant_call_of event) ≡ Some i
+      → grant_event_fits setup entries event ≡ true
+      → expected_grant_reply policy setup entries event ≡ fitting_grant_reply policy setup entries i event
   unfolding expected_grant_reply
   grant_fit event i at f = rw (at, f) refl
 
   module _ (call : CallId) (i : ℕ) (at : cache_of setup call ≡ Some i) where
     -- a begin fits where its number is new
-    pub begin_fits-new : (expires_in : Option Duration) → is_new_number (as_signer entries) call ≡ true → grant_event_fits setup entries (Begin call expires_in) ≡ true
+    pub begin_fits-new : (expires_in : Option Duration) → is_new_number (as_signer entries) call ≡ true
+        → grant_event_fits setup entries (Begin call expires_in) ≡ true
     begin_fits-new expires_in new = rw (at, new) refl
 
-    pub expected_begin : (expires_in : Option Duration) → is_new_number (as_signer entries) call ≡ true → expected_grant_reply policy setup entries (Begin call expires_in) ≡ Begun
+    pub expected_begin : (expires_in : Option Duration) → is_new_number (as_signer entries) call ≡ true
+        → expected_grant_reply policy setup entries (Begin call expires_in) ≡ Begun
     expected_begin expires_in new = grant_fit (Begin call expires_in) i at (begin_fits-new expires_in new)
 
-    pub begin_allocates : (expires_in : Option Duration) → is_new_number (as_signer entries) call ≡ true → IsTrue (grant_allocates policy setup entries (Begin call expires_in))
+    pub begin_allocates : (expires_in : Option Duration) → is_new_number (as_signer entries) call ≡ true
+        → IsTrue (grant_allocates policy setup entries (Begin call expires_in))
     begin_allocates expires_in new = rw (begin_fits-new expires_in new) refl
 
     -- a poll of a call that waits looks at its cache
-    pub expected_look : (now : ℤ) → is_waiting (grant_phase_of entries call) ≡ true → expected_grant_reply policy setup entries (Poll call now) ≡ grant_progress_reply (look_at policy setup entries i call now)
+    pub expected_look : (now : ℤ) → is_waiting (grant_phase_of entries call) ≡ true
+        → expected_grant_reply policy setup entries (Poll call now)
+        ≡ grant_progress_reply (look_at policy setup entries i call now)
     expected_look now w =
         grant_fit (Poll call now) i at (waiting_live (grant_phase_of entries call) w)
         ∙ ap (λ v. cond v (grant_progress_reply (look_at policy setup entries i call now)) Pending) w
 
-    pub look_allocates : (now : ℤ) (source : K) → is_waiting (grant_phase_of entries call) ≡ true → expected_grant_reply policy setup entries (Poll call now) ≡ Grant source → IsTrue (grant_allocates policy setup entries (Poll call now))
+    pub look_allocates : (now : ℤ) (source : K) → is_waiting (grant_phase_of entries call) ≡ true
+        → expected_grant_reply policy setup entries (Poll call now) ≡ Grant source
+        → IsTrue (grant_allocates policy setup entries (Poll call now))
     look_allocates now source w h = rw (waiting_live (grant_phase_of entries call) w, h) refl
 
     -- a poll of a call whose answer is awaited waits
-    pub expected_pending : (now : ℤ) → is_busy (grant_phase_of entries call) ≡ true → expected_grant_reply policy setup entries (Poll call now) ≡ Pending
+    pub expected_pending : (now : ℤ) → is_busy (grant_phase_of entries call) ≡ true
+        → expected_grant_reply policy setup entries (Poll call now) ≡ Pending
     expected_pending now b =
         grant_fit (Poll call now) i at (busy_live (grant_phase_of entries call) b)
         ∙ ap (λ v. cond v (grant_progress_reply (look_at policy setup entries i call now)) Pending) (busy_not_waiting (grant_phase_of entries call) b)
 
     -- a provider's answer takes the load on
-    pub expected_load : (now : ℤ) (answer : Answer K) → grant_phase_of entries call ≡ Loading → expected_grant_reply policy setup entries (Provided call now answer) ≡ grant_progress_reply (load_at policy setup entries i call (answer, now))
+    pub expected_load : (now : ℤ) (answer : Answer K) → grant_phase_of entries call ≡ Loading
+        → expected_grant_reply policy setup entries (Provided call now answer)
+        ≡ grant_progress_reply (load_at policy setup entries i call (answer, now))
     expected_load now answer h = grant_fit (Provided call now answer) i at (ap is_loading h)
 
-    pub found_allocates : (now : ℤ) (c : K) → grant_phase_of entries call ≡ Loading → IsTrue (grant_allocates policy setup entries (Provided call now (answered.Found c)))
+    pub found_allocates : (now : ℤ) (c : K) → grant_phase_of entries call ≡ Loading
+        → IsTrue (grant_allocates policy setup entries (Provided call now (answered.Found c)))
     found_allocates now c h = rw h refl
 
     -- a granter's credential is checked, and its error refuses
-    pub expected_check : (now : ℤ) (c : K) → grant_phase_of entries call ≡ Signing → expected_grant_reply policy setup entries (Granted call now (Made c)) ≡ check_granted policy c now
+    pub expected_check : (now : ℤ) (c : K) → grant_phase_of entries call ≡ Signing
+        → expected_grant_reply policy setup entries (Granted call now (Made c)) ≡ check_granted policy c now
     expected_check now c h = grant_fit (Granted call now (Made c)) i at (ap is_signing h)
 
-    pub made_allocates : (now : ℤ) (c : K) → grant_phase_of entries call ≡ Signing → IsTrue (grant_allocates policy setup entries (Granted call now (Made c)))
+    pub made_allocates : (now : ℤ) (c : K) → grant_phase_of entries call ≡ Signing
+        → IsTrue (grant_allocates policy setup entries (Granted call now (Made c)))
     made_allocates now c h = rw h refl
 
-    pub expected_failure : (now : ℤ) (e : ℕ) → grant_phase_of entries call ≡ Signing → expected_grant_reply policy setup entries (Granted call now (Failed e)) ≡ Refused (Service e)
+    pub expected_failure : (now : ℤ) (e : ℕ) → grant_phase_of entries call ≡ Signing
+        → expected_grant_reply policy setup entries (Granted call now (Failed e)) ≡ Refused (Service e)
     expected_failure now e h = grant_fit (Granted call now (Failed e)) i at (ap is_signing h)
 
     -- a live call is cancelled
-    pub expected_cancel : is_live (grant_phase_of entries call) ≡ true → expected_grant_reply policy setup entries (Cancel call) ≡ Cancelled
+    pub expected_cancel : is_live (grant_phase_of entries call) ≡ true
+        → expected_grant_reply policy setup entries (Cancel call) ≡ Cancelled
     expected_cancel l = grant_fit (Cancel call) i at l
 
 -- a reply that hands out no source stores nothing
-pub stored_by-no_grant : {K : Type 0} (event : GrantEvent K) (reply : GrantReply K) → is_grant reply ≡ false → stored_by event reply ≡ None
+pub stored_by-no_grant : {K : Type 0} (event : GrantEvent K) (reply : GrantReply K) → is_grant reply ≡ false
+    → stored_by event reply ≡ None
 stored_by-no_grant (Provided call now (answered.Found c)) (Grant source) h = absurd (cc)
 stored_by-no_grant _ _ h = refl
 
 -- nor does one to anything but a credential that was found
-pub stored_by-missing : {K : Type 0} (call : CallId) (now : ℤ) (reply : GrantReply K) → stored_by (Provided call now answered.Missing) reply ≡ None
+pub stored_by-missing : {K : Type 0} (call : CallId) (now : ℤ) (reply : GrantReply K)
+    → stored_by (Provided call now answered.Missing) reply ≡ None
 stored_by-missing call now reply = refl
 
-pub stored_by-failed : {K : Type 0} (call : CallId) (now : ℤ) (e : ℕ) (reply : GrantReply K) → stored_by (Provided call now (answered.Failed e)) reply ≡ None
+pub stored_by-failed : {K : Type 0} (call : CallId) (now : ℤ) (e : ℕ) (reply : GrantReply K)
+    → stored_by (Provided call now (answered.Failed e)) reply ≡ None
 stored_by-failed call now e reply = refl
 
-pub stored_by-poll : {K : Type 0} (call : CallId) (now : ℤ) (reply : GrantReply K) → stored_by (Poll call now) reply ≡ None
+pub stored_by-poll : {K : Type 0} (call : CallId) (now : ℤ) (reply : GrantReply K)
+    → stored_by (Poll call now) reply ≡ None
 stored_by-poll call now reply = refl

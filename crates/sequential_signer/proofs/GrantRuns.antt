@@ -1,4 +1,5 @@
--- Legal transcripts of a granter: at most one for events and a choice of those that run out of memory, and one without any.
+-- Legal transcripts of a granter: at most one for events and a choice of those that run out of memory, and
+-- one without any.
 use Rattle.std.proofs.Common.{◌≡◌, true, false, not, List, [], ◌∷◌, ◌++◌, refl, ◌∙◌, ap, subst, inl, IsTrue}
 use Rattle.sequential_signer.specs.Policy.{Policy}
 use Rattle.sequential_signer.specs.Setup.{Setup}
@@ -17,11 +18,15 @@ use Rattle.sequential_signer.proofs.GrantReplies.{expected_grant_in_memory}
 
 module _ {K : Type 0} where
   -- an entry is committed unless it ran out of memory
-  pub committed_grants-more : (entries : List (GrantEntry K)) (e : GrantEntry K) → is_out_of_memory (as_reply e.reply) ≡ false → committed_grants (entries ++ e ∷ []) ≡ committed_grants entries ++ e ∷ []
+  pub committed_grants-more : (entries : List (GrantEntry K)) (e : GrantEntry K)
+      → is_out_of_memory (as_reply e.reply) ≡ false
+      → committed_grants (entries ++ e ∷ []) ≡ committed_grants entries ++ e ∷ []
   unfolding committed_grants
   committed_grants-more entries e h = filter-more_yes (λ (x : GrantEntry K). not (is_out_of_memory (as_reply x.reply))) entries e (ap not h)
 
-  pub committed_grants-lost : (entries : List (GrantEntry K)) (e : GrantEntry K) → is_out_of_memory (as_reply e.reply) ≡ true → committed_grants (entries ++ e ∷ []) ≡ committed_grants entries
+  pub committed_grants-lost : (entries : List (GrantEntry K)) (e : GrantEntry K)
+      → is_out_of_memory (as_reply e.reply) ≡ true
+      → committed_grants (entries ++ e ∷ []) ≡ committed_grants entries
   unfolding committed_grants
   committed_grants-lost entries e h = filter-more_no (λ (x : GrantEntry K). not (is_out_of_memory (as_reply x.reply))) entries e (ap not h)
 
@@ -31,7 +36,8 @@ module _ {K : Type 0} where
   committed_grants-none = refl
 
 module _ {K D : Type 0} (policy : Policy K D) (setup : Setup D) where
-  entry_same : (entries : List (GrantEntry K)) (a b : GrantEntry K) → a.event ≡ b.event → is_out_of_memory (as_reply a.reply) ≡ is_out_of_memory (as_reply b.reply)
+  entry_same : (entries : List (GrantEntry K)) (a b : GrantEntry K) → a.event ≡ b.event
+      → is_out_of_memory (as_reply a.reply) ≡ is_out_of_memory (as_reply b.reply)
       → IsLegalGrantEntry policy setup entries a → IsLegalGrantEntry policy setup entries b → a ≡ b
   entry_same entries a b same lost l m =
       let r : a.reply ≡ b.reply =
@@ -43,7 +49,8 @@ module _ {K D : Type 0} (policy : Policy K D) (setup : Setup D) where
   abbrev expected_entry : List (GrantEntry K) → GrantEvent K → GrantEntry K
   expected_entry entries event = grant_entry event (expected_grant_reply policy setup entries event)
 
-  expected_next : IsNext committed_grants (IsLegalGrantEntry policy setup) (λ (x : GrantEntry K). x.event) expected_entry
+  expected_next : IsNext committed_grants (IsLegalGrantEntry policy setup) (λ (x : GrantEntry K). x.event)
+      expected_entry
   expected_next = record {
     none = committed_grants-none;
     kept = λ before entries event. committed_grants-more before (expected_entry entries event) (expected_grant_in_memory policy setup entries event);

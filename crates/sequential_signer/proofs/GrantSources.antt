@@ -27,30 +27,35 @@ stored e = stored_by e.event e.reply
 
 module _ {K D : Type 0} (setup : Setup D) (entries : List (GrantEntry K)) (e : GrantEntry K) (i : ℕ) where
   -- an entry of another cache leaves the source
-  pub source-elsewhere : is_of_cache setup i (grant_call_of e.event) ≡ false → grant_source setup (entries ++ e ∷ []) i ≡ grant_source setup entries i
+  pub source-elsewhere : is_of_cache setup i (grant_call_of e.event) ≡ false
+      → grant_source setup (entries ++ e ∷ []) i ≡ grant_source setup entries i
   unfolding grant_source
   source-elsewhere h = rw (filter-more_no (λ (x : GrantEntry K). is_of_cache setup i (grant_call_of x.event)) entries e h) refl
 
   -- one that stores nothing leaves it too
-  pub source-kept : stored_by e.event e.reply ≡ None → grant_source setup (entries ++ e ∷ []) i ≡ grant_source setup entries i
+  pub source-kept : stored_by e.event e.reply ≡ None
+      → grant_source setup (entries ++ e ∷ []) i ≡ grant_source setup entries i
   unfolding grant_source
   source-kept h = by_cache (is_of_cache setup i (grant_call_of e.event)) refl
     where
-      by_cache : (b : Bool) → is_of_cache setup i (grant_call_of e.event) ≡ b → grant_source setup (entries ++ e ∷ []) i ≡ grant_source setup entries i
+      by_cache : (b : Bool) → is_of_cache setup i (grant_call_of e.event) ≡ b
+          → grant_source setup (entries ++ e ∷ []) i ≡ grant_source setup entries i
       by_cache false p = source-elsewhere p
       by_cache true p =
           rw (filter-more_yes (λ (x : GrantEntry K). is_of_cache setup i (grant_call_of x.event)) entries e p, filter_map-append (stored {K = K}) (grants_at setup i entries) (e ∷ []), h)
           (ap last_of (append-nil (filter_map (stored {K = K}) (grants_at setup i entries))))
 
   -- one of this cache that stores a credential leaves that
-  pub source-stored : (c : K) → is_of_cache setup i (grant_call_of e.event) ≡ true → stored_by e.event e.reply ≡ Some c → grant_source setup (entries ++ e ∷ []) i ≡ Some c
+  pub source-stored : (c : K) → is_of_cache setup i (grant_call_of e.event) ≡ true
+      → stored_by e.event e.reply ≡ Some c → grant_source setup (entries ++ e ∷ []) i ≡ Some c
   unfolding grant_source
   source-stored c p h =
       rw (filter-more_yes (λ (x : GrantEntry K). is_of_cache setup i (grant_call_of x.event)) entries e p, filter_map-append (stored {K = K}) (grants_at setup i entries) (e ∷ []), h)
       (last_of-more (filter_map (stored {K = K}) (grants_at setup i entries)) c)
 
 -- the last of a list is its first, or the last of the rest
-last_of-first : {A : Type 0} (x y : A) (xs : List A) → last_of (x ∷ xs) ≡ Some y → (x ≡ y) ⊎ (last_of xs ≡ Some y)
+last_of-first : {A : Type 0} (x y : A) (xs : List A) → last_of (x ∷ xs) ≡ Some y
+    → (x ≡ y) ⊎ (last_of xs ≡ Some y)
 last_of-first x y [] h = inl (cc)
 last_of-first x y (z ∷ zs) h = inr h
 
@@ -69,7 +74,8 @@ module _ {X Y : Type 0} (f : X → Option Y) (p : X → Bool) (y : Y) where
   gives_later x rest g = record { item = g.item; before = x ∷ g.before; after = g.after; split = ap (λ (v : List X). x ∷ v) g.split; passes = g.passes; gives = g.gives }
 
   -- the last that is given is given by the first item, or by one of the rest
-  given_by_value : (x : X) (rest : List X) → p x ≡ true → (last_of (filter_map f (filter p rest)) ≡ Some y → Gives rest) → (o : Option Y) → f x ≡ o
+  given_by_value : (x : X) (rest : List X) → p x ≡ true
+      → (last_of (filter_map f (filter p rest)) ≡ Some y → Gives rest) → (o : Option Y) → f x ≡ o
       → last_of (cons_option o (filter_map f (filter p rest))) ≡ Some y → Gives (x ∷ rest)
   given_by_value x rest t later None v h = gives_later x rest (later h)
   given_by_value x rest t later (Some z) v h = by_place (last_of-first z y (filter_map f (filter p rest)) h)
@@ -78,8 +84,9 @@ module _ {X Y : Type 0} (f : X → Option Y) (p : X → Bool) (y : Y) where
       by_place (inl same) = record { item = x; before = []; after = rest; split = refl; passes = t; gives = v ∙ ap Some same }
       by_place (inr l) = gives_later x rest (later l)
 
-  given_by_test : (x : X) (rest : List X) → (last_of (filter_map f (filter p rest)) ≡ Some y → Gives rest) → (t : Bool) → p x ≡ t
-      → last_of (filter_map f (cond t (x ∷ filter p rest) (filter p rest))) ≡ Some y → Gives (x ∷ rest)
+  given_by_test : (x : X) (rest : List X) → (last_of (filter_map f (filter p rest)) ≡ Some y → Gives rest)
+      → (t : Bool) → p x ≡ t → last_of (filter_map f (cond t (x ∷ filter p rest) (filter p rest))) ≡ Some y
+      → Gives (x ∷ rest)
   given_by_test x rest later false t h = gives_later x rest (later h)
   given_by_test x rest later true t h = given_by_value x rest t later (f x) refl h
 
@@ -89,8 +96,10 @@ module _ {X Y : Type 0} (f : X → Option Y) (p : X → Bool) (y : Y) where
   last_is_given (x ∷ rest) h = given_by_test x rest (last_is_given rest) (p x) refl h
 
 -- an entry that stores a credential is of a provider that found it, and hands it to the granter
-stored_shape : {K : Type 0} (event : GrantEvent K) (reply : GrantReply K) (c : K) → stored_by event reply ≡ Some c
-    → (call : CallId) × (now : ℤ) × (source : K) × (event ≡ Provided call now (Found c)) × (reply ≡ Grant source)
+stored_shape : {K : Type 0} (event : GrantEvent K) (reply : GrantReply K) (c : K)
+    → stored_by event reply ≡ Some c
+    → (call : CallId) × (now : ℤ) × (source : K) × (event ≡ Provided call now (Found c))
+    × (reply ≡ Grant source)
 stored_shape (Provided call now (Found d)) (Grant source) c h = let same : d ≡ c = cc in (call, now, source, ap (λ v. Provided call now (Found v)) same, refl)
 stored_shape _ _ c h = absurd (cc)
 

@@ -1,4 +1,5 @@
--- The steps of a granter: each event with its expected reply, by how far its call is; runs of them, and legal transcripts.
+-- The steps of a granter: each event with its expected reply, by how far its call is; runs of them, and legal
+-- transcripts.
 use Rattle.std.proofs.Common.{◌≡◌, ℕ, ℤ, Bool, true, false, cond, List, [], ◌∷◌, ◌++◌, Option, Some, None, refl, sym, ◌∙◌, ap, subst, inl, inr}
 use Rattle.std.specs.declared.time.Duration.{Duration}
 use Rattle.wake_lock.specs.declared.CallId.{CallId}
@@ -28,7 +29,9 @@ module _ {K D : Type 0} where
   -- each event with its expected reply, one after another
   pub data IsGrantRun (policy : Policy K D) (setup : Setup D) : List (GrantEntry K) → Type 0 where
     start : IsGrantRun policy setup []
-    more : (entries : List (GrantEntry K)) (event : GrantEvent K) (reply : GrantReply K) → IsGrantRun policy setup entries → reply ≡ expected_grant_reply policy setup entries event → IsGrantRun policy setup (entries ++ record { event = event; reply = reply } ∷ [])
+    more : (entries : List (GrantEntry K)) (event : GrantEvent K) (reply : GrantReply K)
+        → IsGrantRun policy setup entries → reply ≡ expected_grant_reply policy setup entries event
+        → IsGrantRun policy setup (entries ++ record { event = event; reply = reply } ∷ [])
 
 -- whether a reply takes a live call on: it asks, hands out a source, or ends the call
 abbrev pub goes_on : {K : Type 0} → GrantReply K → Bool
@@ -43,9 +46,13 @@ module _ {K : Type 0} (entries : List (GrantEntry K)) where
   -- what an event and its expected reply are, by how far the event's call is
   pub data GrantStep : GrantEvent K → GrantReply K → Type 0 where
     misfits : (event : GrantEvent K) → GrantStep event NotNow
-    begins : (call : CallId) (expires_in : Option Duration) → is_new_number (as_signer entries) call ≡ true → GrantStep (Begin call expires_in) Begun
-    waits : (call : CallId) (now : ℤ) → is_busy (grant_phase_of entries call) ≡ true → GrantStep (Poll call now) Pending
-    takes_on : (event : GrantEvent K) (reply : GrantReply K) → is_live (grant_phase_of entries (grant_call_of event)) ≡ true → goes_on reply ≡ true → GrantStep event reply
+    begins : (call : CallId) (expires_in : Option Duration) → is_new_number (as_signer entries) call ≡ true
+        → GrantStep (Begin call expires_in) Begun
+    waits : (call : CallId) (now : ℤ) → is_busy (grant_phase_of entries call) ≡ true
+        → GrantStep (Poll call now) Pending
+    takes_on : (event : GrantEvent K) (reply : GrantReply K)
+        → is_live (grant_phase_of entries (grant_call_of event)) ≡ true → goes_on reply ≡ true
+        → GrantStep event reply
 
   loading_live : (p : Phase) → is_loading p ≡ true → is_live p ≡ true
   loading_live Loading h = refl
@@ -63,13 +70,16 @@ module _ {K : Type 0} (entries : List (GrantEntry K)) where
   signing_live Loading h = absurd (cc)
   signing_live Ended h = absurd (cc)
 
-  progress_step : (event : GrantEvent K) → is_live (grant_phase_of entries (grant_call_of event)) ≡ true → (o : Option (Progress K)) → GrantStep event (grant_progress_reply o)
+  progress_step : (event : GrantEvent K) → is_live (grant_phase_of entries (grant_call_of event)) ≡ true
+      → (o : Option (Progress K)) → GrantStep event (grant_progress_reply o)
   progress_step event l None = misfits event
   progress_step event l (Some (Asking provider)) = takes_on event (Ask provider) l refl
   progress_step event l (Some (Over (HandOut c) cache)) = takes_on event (Grant c) l refl
   progress_step event l (Some (Over (Refuse cause) cache)) = takes_on event (Refused (grant_why cause)) l refl
 
-  poll_step : (call : CallId) (now : ℤ) (p : Phase) → grant_phase_of entries call ≡ p → is_live p ≡ true → (o : Option (Progress K)) → GrantStep (Poll call now) (cond (is_waiting p) (grant_progress_reply o) Pending)
+  poll_step : (call : CallId) (now : ℤ) (p : Phase) → grant_phase_of entries call ≡ p → is_live p ≡ true
+      → (o : Option (Progress K))
+      → GrantStep (Poll call now) (cond (is_waiting p) (grant_progress_reply o) Pending)
   poll_step call now Unpolled e l o = progress_step (Poll call now) (ap is_live e) o
   poll_step call now Queued e l o = progress_step (Poll call now) (ap is_live e) o
   poll_step call now Loading e l o = waits call now (ap is_busy e)
@@ -77,12 +87,14 @@ module _ {K : Type 0} (entries : List (GrantEntry K)) where
   poll_step call now Unknown e l o = absurd (cc)
   poll_step call now Ended e l o = absurd (cc)
 
-  given_step : (call : CallId) (now : ℤ) (c : K) → is_signing (grant_phase_of entries call) ≡ true → (v : Bool) → GrantStep (Granted call now (Made c)) (cond v (Given c) (Refused (Stale now)))
+  given_step : (call : CallId) (now : ℤ) (c : K) → is_signing (grant_phase_of entries call) ≡ true
+      → (v : Bool) → GrantStep (Granted call now (Made c)) (cond v (Given c) (Refused (Stale now)))
   given_step call now c s true = takes_on (Granted call now (Made c)) (Given c) (signing_live (grant_phase_of entries call) s) refl
   given_step call now c s false = takes_on (Granted call now (Made c)) (Refused (Stale now)) (signing_live (grant_phase_of entries call) s) refl
 
   module _ {D : Type 0} (policy : Policy K D) (setup : Setup D) where
-    fitting_step : (event : GrantEvent K) (i : ℕ) → grant_event_fits setup entries event ≡ true → GrantStep event (fitting_grant_reply policy setup entries i event)
+    fitting_step : (event : GrantEvent K) (i : ℕ) → grant_event_fits setup entries event ≡ true
+        → GrantStep event (fitting_grant_reply policy setup entries i event)
     fitting_step (Begin call expires_in) i fits = begins call expires_in (and_right _ _ fits)
     fitting_step (Poll call now) i fits = poll_step call now (grant_phase_of entries call) refl fits (look_at policy setup entries i call now)
     fitting_step (Provided call now answer) i fits = progress_step (Provided call now answer) (loading_live (grant_phase_of entries call) fits) (load_at policy setup entries i call (answer, now))
@@ -90,47 +102,61 @@ module _ {K : Type 0} (entries : List (GrantEntry K)) where
     fitting_step (Granted call now (Failed e)) i fits = takes_on (Granted call now (Failed e)) (Refused (Service e)) (signing_live (grant_phase_of entries call) fits) refl
     fitting_step (Cancel call) i fits = takes_on (Cancel call) Cancelled fits refl
 
-    step_at : (event : GrantEvent K) (o : Option ℕ) (f : Bool) → grant_event_fits setup entries event ≡ f → GrantStep event (grant_reply_at policy setup entries event o)
+    step_at : (event : GrantEvent K) (o : Option ℕ) (f : Bool) → grant_event_fits setup entries event ≡ f
+        → GrantStep event (grant_reply_at policy setup entries event o)
     step_at event None f _ = misfits event
     step_at event (Some i) true fits = rw fits (fitting_step event i fits)
     step_at event (Some i) false fits = rw fits (misfits event)
 
     -- an event with its expected reply is one of these
-    pub expected_grant_step : (event : GrantEvent K) → GrantStep event (expected_grant_reply policy setup entries event)
+    pub expected_grant_step : (event : GrantEvent K)
+        → GrantStep event (expected_grant_reply policy setup entries event)
     unfolding expected_grant_reply
     expected_grant_step event = step_at event (cache_of setup (grant_call_of event)) _ refl
 
 -- runs and legal transcripts
 module _ {K D : Type 0} (policy : Policy K D) (setup : Setup D) where
   -- one more event with its expected reply leaves a run
-  pub grant_run-more : (entries : List (GrantEntry K)) (e : GrantEntry K) → IsGrantRun policy setup entries → e.reply ≡ expected_grant_reply policy setup entries e.event → IsGrantRun policy setup (entries ++ e ∷ [])
+  pub grant_run-more : (entries : List (GrantEntry K)) (e : GrantEntry K) → IsGrantRun policy setup entries
+      → e.reply ≡ expected_grant_reply policy setup entries e.event
+      → IsGrantRun policy setup (entries ++ e ∷ [])
   grant_run-more entries e run expected = more entries e.event e.reply run expected
 
-  run_keeps : (before : List (GrantEntry K)) (e : GrantEntry K) → IsGrantRun policy setup (committed_grants before) → IsLegalGrantEntry policy setup (committed_grants before) e → IsGrantRun policy setup (committed_grants (before ++ e ∷ []))
+  run_keeps : (before : List (GrantEntry K)) (e : GrantEntry K)
+      → IsGrantRun policy setup (committed_grants before)
+      → IsLegalGrantEntry policy setup (committed_grants before) e
+      → IsGrantRun policy setup (committed_grants (before ++ e ∷ []))
   run_keeps before e run (inl due) =
       rw (committed_grants-more before e (ap (λ (r : GrantReply K). is_out_of_memory (as_reply r)) due ∙ expected_grant_in_memory policy setup (committed_grants before) e.event))
       (grant_run-more (committed_grants before) e run due)
   run_keeps before e run (inr lost) = rw (committed_grants-lost before e (ap (λ (r : GrantReply K). is_out_of_memory (as_reply r)) lost.0)) run
 
   -- the committed entries of a legal transcript are a run
-  pub legal_grant_run : (entries : List (GrantEntry K)) → IsLegalGrant policy setup entries → IsGrantRun policy setup (committed_grants entries)
+  pub legal_grant_run : (entries : List (GrantEntry K)) → IsLegalGrant policy setup entries
+      → IsGrantRun policy setup (committed_grants entries)
   unfolding IsLegalGrant
   legal_grant_run entries l = legal_after-keeps committed_grants (IsLegalGrantEntry policy setup) (IsGrantRun policy setup) run_keeps [] entries (rw committed_grants-none start) l
 
   -- one more legal entry leaves a legal transcript
-  pub legal_grant-more : (entries : List (GrantEntry K)) (e : GrantEntry K) → IsLegalGrant policy setup entries → IsLegalGrantEntry policy setup (committed_grants entries) e → IsLegalGrant policy setup (entries ++ e ∷ [])
+  pub legal_grant-more : (entries : List (GrantEntry K)) (e : GrantEntry K)
+      → IsLegalGrant policy setup entries → IsLegalGrantEntry policy setup (committed_grants entries) e
+      → IsLegalGrant policy setup (entries ++ e ∷ [])
   unfolding IsLegalGrant
   legal_grant-more entries e l h = legal_after-more committed_grants (IsLegalGrantEntry policy setup) [] entries e l h
 
   -- a legal transcript without its last entry is legal, and that entry is legal after those before it
-  pub legal_grant_before : (entries : List (GrantEntry K)) (e : GrantEntry K) → IsLegalGrant policy setup (entries ++ e ∷ []) → IsLegalGrant policy setup entries
+  pub legal_grant_before : (entries : List (GrantEntry K)) (e : GrantEntry K)
+      → IsLegalGrant policy setup (entries ++ e ∷ []) → IsLegalGrant policy setup entries
   unfolding IsLegalGrant
   legal_grant_before entries e l = (legal_split committed_grants (IsLegalGrantEntry policy setup) [] entries (e ∷ []) l).0
 
-  pub legal_grant_entry : (entries : List (GrantEntry K)) (e : GrantEntry K) → IsLegalGrant policy setup (entries ++ e ∷ []) → IsLegalGrantEntry policy setup (committed_grants entries) e
+  pub legal_grant_entry : (entries : List (GrantEntry K)) (e : GrantEntry K)
+      → IsLegalGrant policy setup (entries ++ e ∷ [])
+      → IsLegalGrantEntry policy setup (committed_grants entries) e
   unfolding IsLegalGrant
   legal_grant_entry entries e l = (legal_split committed_grants (IsLegalGrantEntry policy setup) [] entries (e ∷ []) l).1.0
 
   -- each step of a run is one of these
-  pub expected_is_step : (entries : List (GrantEntry K)) (event : GrantEvent K) (reply : GrantReply K) → reply ≡ expected_grant_reply policy setup entries event → GrantStep entries event reply
+  pub expected_is_step : (entries : List (GrantEntry K)) (event : GrantEvent K) (reply : GrantReply K)
+      → reply ≡ expected_grant_reply policy setup entries event → GrantStep entries event reply
   expected_is_step entries event reply expected = subst (λ (r : GrantReply K). GrantStep entries event r) (sym expected) (expected_grant_step entries policy setup event)

@@ -27,7 +27,11 @@ greater_swap n m (Some k) = ap Some (max_swap n m k)
     max_swap a b c = omega arith
 
 module _ {K : Type 0} where
-  above_all : (call : CallId) (entries : List (Entry K)) → list_all (λ (e : Entry K). not (is_begin_under call.handle e) || nat_lt (call_of e.event).number call.number) entries ≡ is_above call.number (greatest_begun call.handle entries)
+  above_all : (call : CallId) (entries : List (Entry K))
+      → list_all
+      (λ (e : Entry K). not (is_begin_under call.handle e) || nat_lt (call_of e.event).number call.number)
+      entries
+      ≡ is_above call.number (greatest_begun call.handle entries)
   above_all call [] = refl
   above_all call (e ∷ rest) =
       rw (above_all call rest)
@@ -35,12 +39,16 @@ module _ {K : Type 0} where
       [ true ↦ sym (above_greater call.number (call_of e.event).number (greatest_begun call.handle rest)) | false ↦ refl ])
 
   -- a number is new where it is above the greatest
-  pub is_new_number-is : (entries : List (Entry K)) (call : CallId) → is_new_number entries call ≡ is_above call.number (greatest_begun call.handle entries)
+  pub is_new_number-is : (entries : List (Entry K)) (call : CallId)
+      → is_new_number entries call ≡ is_above call.number (greatest_begun call.handle entries)
   unfolding is_new_number
   is_new_number-is entries call = above_all call entries
 
   -- a begin under the handle raises the greatest number, and any other entry leaves it
-  pub greatest_begun-more : (h : ℕ) (entries : List (Entry K)) (e : Entry K) → greatest_begun h (entries ++ e ∷ []) ≡ cond (is_begin_under h e) (greater (call_of e.event).number (greatest_begun h entries)) (greatest_begun h entries)
+  pub greatest_begun-more : (h : ℕ) (entries : List (Entry K)) (e : Entry K)
+      → greatest_begun h (entries ++ e ∷ [])
+      ≡ cond (is_begin_under h e) (greater (call_of e.event).number (greatest_begun h entries))
+      (greatest_begun h entries)
   greatest_begun-more h [] e = refl
   greatest_begun-more h (x ∷ xs) e =
       rw (greatest_begun-more h xs e)

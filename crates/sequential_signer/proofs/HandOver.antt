@@ -23,7 +23,8 @@ pub record IsFirstThat (p : CallId → Bool) (xs : List CallId) (first : CallId)
   pub passes : p first ≡ true
   pub behind : list_all (λ x. not (p x)) (before_call first xs) ≡ true
 
-first_that_step : (p : CallId → Bool) (x : CallId) (xs : List CallId) → p x ≡ false → (first : CallId) → IsFirstThat p xs first → IsFirstThat p (x ∷ xs) first
+first_that_step : (p : CallId → Bool) (x : CallId) (xs : List CallId) → p x ≡ false → (first : CallId)
+    → IsFirstThat p xs first → IsFirstThat p (x ∷ xs) first
 first_that_step p x xs fails first f = record {
   found = rw fails f.found;
   passes = f.passes;
@@ -33,17 +34,20 @@ first_that_step p x xs fails first f = record {
 }
 
 -- where one passes, there is a first
-first_that : (p : CallId → Bool) (xs : List CallId) (b : CallId) → list_any (same_call b) xs ≡ true → p b ≡ true → (first : CallId) × IsFirstThat p xs first
+first_that : (p : CallId → Bool) (xs : List CallId) (b : CallId) → list_any (same_call b) xs ≡ true
+    → p b ≡ true → (first : CallId) × IsFirstThat p xs first
 first_that p [] b m h = absurd (cc)
 first_that p (x ∷ xs) b m h = by_test (p x) refl (same_call b x) refl m (λ k. first_that p xs b k h)
   where
     by_test : (t : Bool) → p x ≡ t → (s : Bool) → same_call b x ≡ s → (s || list_any (same_call b) xs) ≡ true
-        → (list_any (same_call b) xs ≡ true → (first : CallId) × IsFirstThat p xs first) → (first : CallId) × IsFirstThat p (x ∷ xs) first
+        → (list_any (same_call b) xs ≡ true → (first : CallId) × IsFirstThat p xs first)
+        → (first : CallId) × IsFirstThat p (x ∷ xs) first
     by_test true t s _ m later = (x, record { found = rw t refl; passes = t; behind = rw (same_call-refl x) refl })
     by_test false t true s m later = let e : p x ≡ true = ap p (sym (same_call-eq b x s)) ∙ h in absurd (cc)
     by_test false t false s m later = let f = later m in (f.0, first_that_step p x xs t f.0 f.1)
 
-list_all-not_not : (q : CallId → Bool) (xs : List CallId) → list_all (λ x. not (not (q x))) xs ≡ true → list_all q xs ≡ true
+list_all-not_not : (q : CallId → Bool) (xs : List CallId) → list_all (λ x. not (not (q x))) xs ≡ true
+    → list_all q xs ≡ true
 list_all-not_not q [] h = refl
 list_all-not_not q (x ∷ xs) h =
     (elim (q x) as (λ v. (not (not v) && list_all (λ y. not (not (q y))) xs) ≡ true → (v && list_all q xs) ≡ true)
@@ -56,11 +60,13 @@ pub record IsInQueue {K D : Type 0} (setup : Setup D) (entries : List (Entry K))
 
 module _ {K D : Type 0} (policy : Policy K D) (setup : Setup D) (entries : List (Entry K)) (run : IsRun policy setup entries) where
   -- two calls that load are one
-  loads_alone : (a b : CallId) (i : ℕ) → Loads setup entries i a → Loads setup entries i b → (s : Bool) → same_call a b ≡ s → a ≡ b
+  loads_alone : (a b : CallId) (i : ℕ) → Loads setup entries i a → Loads setup entries i b → (s : Bool)
+      → same_call a b ≡ s → a ≡ b
   loads_alone a b i la lb true s = same_call-eq a b s
   loads_alone a b i la lb false s = absurd (one_turn setup entries i a b s la.had.polled la.had.turn la.unfinished lb.had.turn lb.unfinished)
 
-  in_queue : (call : CallId) (i : ℕ) (p : Phase) → is_queued p ≡ true → CallInvariant setup entries i call p → IsInQueue setup entries i call
+  in_queue : (call : CallId) (i : ℕ) (p : Phase) → is_queued p ≡ true → CallInvariant setup entries i call p
+      → IsInQueue setup entries i call
   in_queue call i Queued h (queued_call w p) = record { polled = p; unfinished = w.unfinished }
   in_queue call i Unknown h s = absurd (cc)
   in_queue call i Unpolled h s = absurd (cc)
@@ -69,17 +75,20 @@ module _ {K D : Type 0} (policy : Policy K D) (setup : Setup D) (entries : List 
   in_queue call i Ended h s = absurd (cc)
 
   -- after a run each queued call is in the queue of its cache
-  pub queued_is_in_queue : (call : CallId) (i : ℕ) → cache_of setup call ≡ Some i → is_queued (phase_of entries call) ≡ true → IsInQueue setup entries i call
+  pub queued_is_in_queue : (call : CallId) (i : ℕ) → cache_of setup call ≡ Some i
+      → is_queued (phase_of entries call) ≡ true → IsInQueue setup entries i call
   queued_is_in_queue call i at h = in_queue call i (phase_of entries call) h (stands policy setup entries run call i at)
 
   -- the first open hold has the turn
-  turn_of_first : (call : CallId) (i : ℕ) → IsInQueue setup entries i call → (first : CallId) × (first_open setup entries i ≡ Some first) × (has_turn setup entries i first ≡ true)
+  turn_of_first : (call : CallId) (i : ℕ) → IsInQueue setup entries i call
+      → (first : CallId) × (first_open setup entries i ≡ Some first) × (has_turn setup entries i first ≡ true)
   unfolding has_turn
   turn_of_first call i q =
       let f = first_that (λ x. not (hold_is_finished entries x)) (poll_order setup entries i) call q.polled (ap not q.unfinished) in
       (f.0, f.1.found, list_all-not_not (hold_is_finished entries) (before_call f.0 (poll_order setup entries i)) f.1.behind)
 
--- of one cache at most one call loads, and where a call is queued the first one whose hold is open has its turn
+-- of one cache at most one call loads, and where a call is queued the first one whose hold is open has its
+-- turn
 pub one_call_loads : (K D : Type 0) → OneCallLoads K D
 one_call_loads K D policy setup entries a b i l ata atb ha hb =
     let run : IsRun policy setup (committed_entries entries) = legal_run policy setup entries l in

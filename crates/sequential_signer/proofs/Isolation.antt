@@ -33,10 +33,12 @@ module _ {K D : Type 0} (setup : Setup D) (i : ℕ) where
   is_here e = is_of_cache setup i (call_of e.event)
 
   -- the entries of a call of the cache are all here
-  own_here : (b : CallId) → is_of_cache setup i b ≡ true → (e : Entry K) → is_about b e ≡ true → is_here e ≡ true
+  own_here : (b : CallId) → is_of_cache setup i b ≡ true → (e : Entry K) → is_about b e ≡ true
+      → is_here e ≡ true
   own_here b here e own = ap (is_of_cache setup i) (sym (same_call-eq b (call_of e.event) own)) ∙ here
 
-  entries_of-here : (entries : List (Entry K)) (b : CallId) → is_of_cache setup i b ≡ true → entries_of (entries_at setup i entries) b ≡ entries_of entries b
+  entries_of-here : (entries : List (Entry K)) (b : CallId) → is_of_cache setup i b ≡ true
+      → entries_of (entries_at setup i entries) b ≡ entries_of entries b
   unfolding entries_of
   entries_of-here entries b here = filter-within (is_about b) is_here (own_here b here) entries
 
@@ -76,26 +78,35 @@ module _ {K D : Type 0} (setup : Setup D) (i : ℕ) where
         list_all-left_out (λ (e : Entry K). not (is_begin_under b.handle e) || nat_lt (call_of e.event).number b.number) is_here entries
         (each entries)
       where
-        step : (e : Entry K) → (h : Bool) → is_here e ≡ h → (h || (not (is_begin_under b.handle e) || nat_lt (call_of e.event).number b.number)) ≡ true
+        step : (e : Entry K) → (h : Bool) → is_here e ≡ h
+            → (h || (not (is_begin_under b.handle e) || nat_lt (call_of e.event).number b.number)) ≡ true
         step e true h = refl
         step e false h = let out : is_begin_under b.handle e ≡ false = other_begin e h in rw out refl
 
-        each : (es : List (Entry K)) → list_all (λ (e : Entry K). is_here e || (not (is_begin_under b.handle e) || nat_lt (call_of e.event).number b.number)) es ≡ true
+        each : (es : List (Entry K))
+            → list_all
+            (λ (e : Entry K). is_here e ||
+            (not (is_begin_under b.handle e) || nat_lt (call_of e.event).number b.number))
+            es
+            ≡ true
         each [] = refl
         each (e ∷ es) = let first : (is_here e || (not (is_begin_under b.handle e) || nat_lt (call_of e.event).number b.number)) ≡ true = step e (is_here e) refl in rw (first, each es) refl
 
-  poll_order-here : (entries : List (Entry K)) → poll_order setup (entries_at setup i entries) i ≡ poll_order setup entries i
+  poll_order-here : (entries : List (Entry K))
+      → poll_order setup (entries_at setup i entries) i ≡ poll_order setup entries i
   unfolding poll_order
   poll_order-here entries = rw (filter-within (is_poll_at setup i) is_here (λ e h. and_right (is_fitting_poll e) (is_of_cache setup i (call_of e.event)) h) entries) refl
 
-  has_turn-here : (entries : List (Entry K)) (b : CallId) → has_turn setup (entries_at setup i entries) i b ≡ has_turn setup entries i b
+  has_turn-here : (entries : List (Entry K)) (b : CallId)
+      → has_turn setup (entries_at setup i entries) i b ≡ has_turn setup entries i b
   unfolding has_turn
   has_turn-here entries b =
       ap (λ order. list_all (hold_is_finished (entries_at setup i entries)) (before_call b order)) (poll_order-here entries)
       ∙ list_all-same_on (hold_is_finished (entries_at setup i entries)) (hold_is_finished entries) (is_of_cache setup i) (λ x here. hold_is_finished-here entries x here) (calls_ahead setup entries i b)
       (list_all-before (is_of_cache setup i) b (poll_order setup entries i) (order_of_cache setup entries i))
 
-  turn_moment-here : (entries : List (Entry K)) (b : CallId) → is_of_cache setup i b ≡ true → turn_moment setup (entries_at setup i entries) i b ≡ turn_moment setup entries i b
+  turn_moment-here : (entries : List (Entry K)) (b : CallId) → is_of_cache setup i b ≡ true
+      → turn_moment setup (entries_at setup i entries) i b ≡ turn_moment setup entries i b
   turn_moment-here entries b here =
       turn_moment-stays setup is_here (λ _. true) i b (λ before _. has_turn-here before b)
       (λ before x s. ap (λ v. (v && is_fitting_poll x) && has_turn setup before i b) (not_about x s (is_about b x) refl))
@@ -109,10 +120,12 @@ module _ {K D : Type 0} (setup : Setup D) (i : ℕ) where
       all_true [] = refl
       all_true (e ∷ es) = all_true es
 
-  hold_input-here : (entries : List (Entry K)) (b : CallId) → is_of_cache setup i b ≡ true → hold_input {K = K} setup (entries_at setup i entries) i b ≡ hold_input setup entries i b
+  hold_input-here : (entries : List (Entry K)) (b : CallId) → is_of_cache setup i b ≡ true
+      → hold_input {K = K} setup (entries_at setup i entries) i b ≡ hold_input setup entries i b
   hold_input-here entries b here = rw (begin_of-here entries b here, turn_moment-here entries b here, answers_of-here entries b here) refl
 
-  sequential_cache-here : (policy : Policy K D) (entries : List (Entry K)) → sequential_cache policy setup (entries_at setup i entries) i ≡ sequential_cache policy setup entries i
+  sequential_cache-here : (policy : Policy K D) (entries : List (Entry K))
+      → sequential_cache policy setup (entries_at setup i entries) i ≡ sequential_cache policy setup entries i
   unfolding sequential_cache
   sequential_cache-here policy entries =
       ap (fold (λ cache b. cache_after policy (slice_get setup.loaders i) (hold_input setup (entries_at setup i entries) i b) cache) None) served_same
@@ -133,20 +146,25 @@ module _ {K D : Type 0} (setup : Setup D) (i : ℕ) where
 -- the expected reply to an event of the cache depends on the entries of the cache alone
 module _ {K D : Type 0} (policy : Policy K D) (setup : Setup D) (i : ℕ) (entries : List (Entry K)) where
   module _ (event : Event K) (here : is_of_cache setup i (call_of event) ≡ true) where
-    wake_here : (r : Reply K) → call_to_wake setup (entries_at setup i entries) i (record { event = event; reply = r }) ≡ call_to_wake setup entries i (record { event = event; reply = r })
+    wake_here : (r : Reply K)
+        → call_to_wake setup (entries_at setup i entries) i (record { event = event; reply = r })
+        ≡ call_to_wake setup entries i (record { event = event; reply = r })
     unfolding call_to_wake
     wake_here r =
         ap (find (gets_turn setup (entries_at setup i entries) i (record { event = event; reply = r }))) (poll_order-here setup i entries)
         ∙ find-same_on (gets_turn setup (entries_at setup i entries) i (record { event = event; reply = r })) (gets_turn setup entries i (record { event = event; reply = r })) (is_of_cache setup i) gets_here (poll_order setup entries i) (order_of_cache setup entries i)
       where
-        gets_here : (b : CallId) → is_of_cache setup i b ≡ true → gets_turn setup (entries_at setup i entries) i (record { event = event; reply = r }) b ≡ gets_turn setup entries i (record { event = event; reply = r }) b
+        gets_here : (b : CallId) → is_of_cache setup i b ≡ true
+            → gets_turn setup (entries_at setup i entries) i (record { event = event; reply = r }) b
+            ≡ gets_turn setup entries i (record { event = event; reply = r }) b
         gets_here b own =
             let e : Entry K = record { event = event; reply = r } in
             let after : has_turn setup (entries_at setup i entries ++ record { event = event; reply = r } ∷ []) i b ≡ has_turn setup (entries ++ record { event = event; reply = r } ∷ []) i b =
             ap (λ v. has_turn setup v i b) (sym (filter-more_yes (is_here setup i) entries e here)) ∙ has_turn-here setup i (entries ++ e ∷ []) b in
             rw (phase_of-here setup i entries b own, after, has_turn-here setup i entries b) refl
 
-  reads_here : (event : Event K) → is_of_cache setup i (call_of event) ≡ true → ReadsSame policy setup (entries_at setup i entries) entries event
+  reads_here : (event : Event K) → is_of_cache setup i (call_of event) ≡ true
+      → ReadsSame policy setup (entries_at setup i entries) entries event
   reads_here event here = record {
     phase = phase_of-here setup i entries (call_of event) here;
     new = is_new_number-here setup i entries (call_of event) here;
@@ -164,22 +182,27 @@ module _ {K D : Type 0} (policy : Policy K D) (setup : Setup D) (i : ℕ) (entri
           let same : i ≡ j = cc in
           subst P same p
 
-  legal_here : (e : Entry K) → is_of_cache setup i (call_of e.event) ≡ true → IsLegalEntry policy setup entries e → IsLegalEntry policy setup (entries_at setup i entries) e
+  legal_here : (e : Entry K) → is_of_cache setup i (call_of e.event) ≡ true
+      → IsLegalEntry policy setup entries e → IsLegalEntry policy setup (entries_at setup i entries) e
   legal_here e here legal = IsLegalEntry-same policy setup (entries_at setup i entries) entries e (reads_here e.event here) legal
 
-committed_entries-here : {K D : Type 0} (setup : Setup D) (i : ℕ) (entries : List (Entry K)) → committed_entries (entries_at setup i entries) ≡ entries_at setup i (committed_entries entries)
+committed_entries-here : {K D : Type 0} (setup : Setup D) (i : ℕ) (entries : List (Entry K))
+    → committed_entries (entries_at setup i entries) ≡ entries_at setup i (committed_entries entries)
 unfolding committed_entries
 committed_entries-here {K = K} setup i entries = filter-swap (λ (e : Entry K). not (is_out_of_memory e.reply)) (is_here setup i) entries
 
 module _ {K D : Type 0} (policy : Policy K D) (setup : Setup D) (i : ℕ) where
-  legal_at_step : (before : List (Entry K)) (e : Entry K) → IsLegal policy setup (entries_at setup i before) → IsLegalEntry policy setup (committed_entries before) e → (s : Bool) → is_here setup i e ≡ s → IsLegal policy setup (entries_at setup i (before ++ e ∷ []))
+  legal_at_step : (before : List (Entry K)) (e : Entry K) → IsLegal policy setup (entries_at setup i before)
+      → IsLegalEntry policy setup (committed_entries before) e → (s : Bool) → is_here setup i e ≡ s
+      → IsLegal policy setup (entries_at setup i (before ++ e ∷ []))
   legal_at_step before e l legal true s =
       subst (λ v. IsLegal policy setup v) (sym (filter-more_yes (is_here setup i) before e s))
       (legal-more policy setup (entries_at setup i before) e l
       (subst (λ v. IsLegalEntry policy setup v e) (sym (committed_entries-here setup i before)) (legal_here policy setup i (committed_entries before) e s legal)))
   legal_at_step before e l legal false s = subst (λ v. IsLegal policy setup v) (sym (filter-more_no (is_here setup i) before e s)) l
 
-  legal_at_after : (before rest : List (Entry K)) → IsLegal policy setup (entries_at setup i before) → IsLegalAfter policy setup before rest → IsLegal policy setup (entries_at setup i (before ++ rest))
+  legal_at_after : (before rest : List (Entry K)) → IsLegal policy setup (entries_at setup i before)
+      → IsLegalAfter policy setup before rest → IsLegal policy setup (entries_at setup i (before ++ rest))
   legal_at_after before [] l after = subst (λ v. IsLegal policy setup (entries_at setup i v)) (sym (append-nil before)) l
   legal_at_after before (e ∷ rest) l after =
       subst (λ v. IsLegal policy setup (entries_at setup i v)) (append_assoc before (e ∷ []) rest)

@@ -23,18 +23,22 @@ use Rattle.sequential_signer.proofs.HandedOut.{cache_own, cache_elsewhere}
 use Rattle.sequential_signer.proofs.FoundCredential.{refused_found_leaves, signed_found_is_cached}
 
 -- one more entry hands out the last, or leaves it
-last_handed_out-more : {K : Type 0} (entries : List (Entry K)) (e : Entry K) → last_handed_out (entries ++ e ∷ []) ≡ option_or (handed_out e.reply) (last_handed_out entries)
+last_handed_out-more : {K : Type 0} (entries : List (Entry K)) (e : Entry K)
+    → last_handed_out (entries ++ e ∷ []) ≡ option_or (handed_out e.reply) (last_handed_out entries)
 last_handed_out-more {K = K} entries e = by_reply (handed_out e.reply) refl
   where
     given : List K
     given = filter_map (λ (x : Entry K). handed_out x.reply) entries
 
-    by_reply : (o : Option K) → handed_out e.reply ≡ o → last_handed_out (entries ++ e ∷ []) ≡ option_or o (last_handed_out entries)
+    by_reply : (o : Option K) → handed_out e.reply ≡ o
+        → last_handed_out (entries ++ e ∷ []) ≡ option_or o (last_handed_out entries)
     by_reply None h = rw (filter_map-append (λ (x : Entry K). handed_out x.reply) entries (e ∷ []), h) (ap last_of (append-nil given))
     by_reply (Some c) h = rw (filter_map-append (λ (x : Entry K). handed_out x.reply) entries (e ∷ []), h) (last_of-more given c)
 
 -- what met an allocation failure handed nothing out
-committed_hand_out : {K D : Type 0} (setup : Setup D) (i : ℕ) (entries : List (Entry K)) → last_handed_out (entries_at setup i (committed_entries entries)) ≡ last_handed_out (entries_at setup i entries)
+committed_hand_out : {K D : Type 0} (setup : Setup D) (i : ℕ) (entries : List (Entry K))
+    → last_handed_out (entries_at setup i (committed_entries entries))
+    ≡ last_handed_out (entries_at setup i entries)
 unfolding committed_entries
 committed_hand_out {K = K} setup i entries =
     ap (λ (v : List (Entry K)). last_of (filter_map (λ e. handed_out e.reply) v)) (filter-swap (λ (e : Entry K). is_of_cache setup i (call_of e.event)) (λ e. not (is_out_of_memory e.reply)) entries)
@@ -52,8 +56,10 @@ module _ {K D : Type 0} (policy : Policy K D) (setup : Setup D) (i : ℕ) where
   unfolding sequential_cache poll_order
   nothing_cached = refl
 
-  holds_by : (entries : List (Entry K)) → HoldsLast entries → (event : Event K) (reply : Reply K) → LegalStep policy setup entries event reply → (h : Bool) → is_of_cache setup i (call_of event) ≡ h
-      → sequential_cache policy setup (entries ++ record { event = event; reply = reply } ∷ []) i ≡ last_handed_out (entries_at setup i (entries ++ record { event = event; reply = reply } ∷ []))
+  holds_by : (entries : List (Entry K)) → HoldsLast entries → (event : Event K) (reply : Reply K)
+      → LegalStep policy setup entries event reply → (h : Bool) → is_of_cache setup i (call_of event) ≡ h
+      → sequential_cache policy setup (entries ++ record { event = event; reply = reply } ∷ []) i
+      ≡ last_handed_out (entries_at setup i (entries ++ record { event = event; reply = reply } ∷ []))
   holds_by entries l event reply step true h =
       let e : Entry K = record { event = event; reply = reply } in
       cache_own policy setup entries l.run event reply step i (is_number-eq i (cache_of setup (call_of event)) h)
@@ -65,7 +71,9 @@ module _ {K D : Type 0} (policy : Policy K D) (setup : Setup D) (i : ℕ) where
       ∙ l.cache
       ∙ ap last_handed_out (sym (filter-more_no (λ (x : Entry K). is_of_cache setup i (call_of x.event)) entries (record { event = event; reply = reply }) h))
 
-  holds_step : (entries : List (Entry K)) (event : Event K) → HoldsLast entries → HoldsLast (entries ++ record { event = event; reply = expected_reply policy setup entries event } ∷ [])
+  holds_step : (entries : List (Entry K)) (event : Event K) → HoldsLast entries
+      → HoldsLast
+      (entries ++ record { event = event; reply = expected_reply policy setup entries event } ∷ [])
   holds_step entries event l =
       let step : LegalStep policy setup entries event (expected_reply policy setup entries event) = expected_step policy setup entries event in
       record {

@@ -1,4 +1,5 @@
--- What is read from a transcript without the providers' answers to a call that was never served: all the same.
+-- What is read from a transcript without the providers' answers to a call that was never served: all the
+-- same.
 use Rattle.std.proofs.Common.{ℤ, ◌≡◌, ℕ, Bool, true, false, not, cond, ◌&&◌, ◌||◌, nat_lt, List, [], ◌∷◌, ◌++◌, Option, Some, None, option_and_then, refl, sym, ◌∙◌, ap, subst, filter, find, fold, slice_get}
 use Rattle.std.specs.List.{list_any, list_all}
 use Rattle.wake_lock.specs.declared.CallId.{CallId}
@@ -23,7 +24,8 @@ use Rattle.wake_lock.proofs.Calls.{same_call-eq, same_call-refl}
 use Rattle.wake_lock.proofs.Truth.{and_left, and_right}
 use Rattle.sequential_signer.proofs.Distinct.{list_all-filter_of}
 
--- the moment of a call's turn stays where what is left out is no poll of the call at its turn, and changes no turn
+-- the moment of a call's turn stays where what is left out is no poll of the call at its turn, and changes no
+-- turn
 module _ {K D : Type 0} (setup : Setup D) (keep ok : Entry K → Bool) (i : ℕ) (b : CallId)
     (turns : (before : List (Entry K)) → list_all ok before ≡ true → has_turn setup (filter keep before) i b ≡ has_turn setup before i b)
     (no_polls : (before : List (Entry K)) (x : Entry K) → keep x ≡ false → is_poll_at_turn setup i b (before, x) ≡ false) where
@@ -46,14 +48,16 @@ module _ {K D : Type 0} (setup : Setup D) (keep ok : Entry K → Bool) (i : ℕ)
       let none : is_poll_at_turn setup i b (before, x) ≡ false = no_polls before x s in
       rw (s, none) (subst (λ v. moment_in v (filter keep xs) ≡ moment_in (before ++ x ∷ []) xs) (filter-more_no keep before x s) rest)
 
-  moment_after : (before xs : List (Entry K)) → list_all ok before ≡ true → list_all ok xs ≡ true → moment_in (filter keep before) (filter keep xs) ≡ moment_in before xs
+  moment_after : (before xs : List (Entry K)) → list_all ok before ≡ true → list_all ok xs ≡ true
+      → moment_in (filter keep before) (filter keep xs) ≡ moment_in before xs
   moment_after before [] h k = refl
   moment_after before (x ∷ xs) h k =
       let here : ok x ≡ true = and_left _ _ k in
       moment_by before xs x h (keep x) refl (moment_after (before ++ x ∷ []) xs (list_all-more ok before x ∙ rw (h, here) refl) (and_right _ _ k))
 
   -- the moment of the turn is the same in both
-  pub turn_moment-stays : (entries : List (Entry K)) → list_all ok entries ≡ true → turn_moment setup (filter keep entries) i b ≡ turn_moment setup entries i b
+  pub turn_moment-stays : (entries : List (Entry K)) → list_all ok entries ≡ true
+      → turn_moment setup (filter keep entries) i b ≡ turn_moment setup entries i b
   unfolding turn_moment
   turn_moment-stays entries h = moment_after [] entries refl h
 
@@ -131,7 +135,10 @@ module _ {K : Type 0} (call : CallId) where
   left_no_poll e s = answer_no_poll e.event (and_right (is_about call e) (is_answer e.event) (not_false _ s))
 
   -- a test that no quiet entry passes
-  unpassed : (t : Entry K → Bool) → ((e : Entry K) → is_left_in e ≡ false → is_quiet e.reply ≡ true → t e ≡ false) → (entries : List (Entry K)) → AreHarmless entries → list_all (λ e. is_left_in e || not (t e)) entries ≡ true
+  unpassed : (t : Entry K → Bool)
+      → ((e : Entry K) → is_left_in e ≡ false → is_quiet e.reply ≡ true → t e ≡ false)
+      → (entries : List (Entry K)) → AreHarmless entries
+      → list_all (λ e. is_left_in e || not (t e)) entries ≡ true
   unpassed t f entries h =
       list_all-by is_harmless (λ e. is_left_in e || not (t e)) (λ e k. or_by (is_left_in e) (not (t e)) (λ s. ap not (f e s (left_quiet e k s)))) entries h
 
@@ -141,19 +148,22 @@ module _ {K : Type 0} (call : CallId) where
     of_harmless b = list_all-filter_of is_harmless (is_about b) entries harmless
 
     -- the entries of one call, without those left out
-    of_without : (b : CallId) → entries_of (without_answers call entries) b ≡ filter is_left_in (entries_of entries b)
+    of_without : (b : CallId)
+        → entries_of (without_answers call entries) b ≡ filter is_left_in (entries_of entries b)
     unfolding entries_of
     of_without b = filter-swap (is_about b) is_left_in entries
 
     -- without the answers the same numbers are new, and each call was begun and waited as before
-    pub is_new_number-left_out : (b : CallId) → is_new_number (without_answers call entries) b ≡ is_new_number entries b
+    pub is_new_number-left_out : (b : CallId)
+        → is_new_number (without_answers call entries) b ≡ is_new_number entries b
     unfolding is_new_number
     is_new_number-left_out b =
         list_all-left_out (λ (e : Entry K). not (is_begin_under b.handle e) || nat_lt (call_of e.event).number b.number) is_left_in entries
         (list_all-by is_harmless (λ (e : Entry K). is_left_in e || (not (is_begin_under b.handle e) || nat_lt (call_of e.event).number b.number))
         (λ e k. or_by (is_left_in e) _ (λ s. let n : is_begun e.reply ≡ false = quiet_begins e.reply (left_quiet e k s) in rw n refl)) entries harmless)
 
-    hold_is_finished-left_out : (b : CallId) → hold_is_finished (without_answers call entries) b ≡ hold_is_finished entries b
+    hold_is_finished-left_out : (b : CallId)
+        → hold_is_finished (without_answers call entries) b ≡ hold_is_finished entries b
     unfolding hold_is_finished
     hold_is_finished-left_out b =
         ap (list_any (λ (e : Entry K). ends_hold e.reply)) (of_without b)
@@ -171,13 +181,16 @@ module _ {K : Type 0} (call : CallId) where
         ap begin_in (of_without b)
         ∙ ap (option_and_then (λ (e : Entry K). begun_with e.event)) (find-left_out (λ (e : Entry K). is_begun e.reply) is_left_in (entries_of entries b) (unpassed (λ e. is_begun e.reply) (λ e _ q. quiet_begins e.reply q) (entries_of entries b) (of_harmless b)))
 
-    pub waited-left_out : (b : CallId) → list_any is_waiting_poll (entries_of (without_answers call entries) b) ≡ list_any is_waiting_poll (entries_of entries b)
+    pub waited-left_out : (b : CallId)
+        → list_any is_waiting_poll (entries_of (without_answers call entries) b)
+        ≡ list_any is_waiting_poll (entries_of entries b)
     waited-left_out b =
         ap (list_any is_waiting_poll) (of_without b)
         ∙ list_any-left_out is_waiting_poll is_left_in (entries_of entries b) (unpassed is_waiting_poll (λ e s _. ap (λ v. v && is_pending e.reply) (left_no_poll e s)) (entries_of entries b) (of_harmless b))
 
   -- of another call every entry is left in
-  other_call_left_in : (b : CallId) → same_call b call ≡ false → (e : Entry K) → is_about b e ≡ true → is_left_in e ≡ true
+  other_call_left_in : (b : CallId) → same_call b call ≡ false → (e : Entry K) → is_about b e ≡ true
+      → is_left_in e ≡ true
   other_call_left_in b differ e h = by_name (is_about call e) refl
     where
       by_name : (s : Bool) → is_about call e ≡ s → not (s && is_answer e.event) ≡ true
@@ -187,13 +200,15 @@ module _ {K : Type 0} (call : CallId) where
           let e2 : call ≡ call_of e.event = same_call-eq call (call_of e.event) s in
           let bad : same_call b call ≡ true = ap (same_call b) (e2 ∙ sym e1) ∙ same_call-refl b in cc
 
-  entries_of-left_out : (entries : List (Entry K)) (b : CallId) → same_call b call ≡ false → entries_of (without_answers call entries) b ≡ entries_of entries b
+  entries_of-left_out : (entries : List (Entry K)) (b : CallId) → same_call b call ≡ false
+      → entries_of (without_answers call entries) b ≡ entries_of entries b
   unfolding entries_of
   entries_of-left_out entries b differ = filter-within (is_about b) is_left_in (other_call_left_in b differ) entries
 
 module _ {K D : Type 0} (setup : Setup D) (call : CallId) where
   -- the order of first polls is the same
-  pub poll_order-left_out : (entries : List (Entry K)) (i : ℕ) → poll_order setup (without_answers call entries) i ≡ poll_order setup entries i
+  pub poll_order-left_out : (entries : List (Entry K)) (i : ℕ)
+      → poll_order setup (without_answers call entries) i ≡ poll_order setup entries i
   unfolding poll_order
   poll_order-left_out entries i =
       rw (filter-within (is_poll_at setup i) (is_left_in call) (λ e h. poll_stays e (and_left _ _ (and_left _ _ h))) entries) refl
@@ -206,13 +221,15 @@ module _ {K D : Type 0} (setup : Setup D) (call : CallId) where
           by_stay false s = let bad : is_poll e.event ≡ false = left_no_poll call e s in cc
 
   -- and so are the turns, and their moments
-  pub has_turn-left_out : (entries : List (Entry K)) → AreHarmless call entries → (i : ℕ) (b : CallId) → has_turn setup (without_answers call entries) i b ≡ has_turn setup entries i b
+  pub has_turn-left_out : (entries : List (Entry K)) → AreHarmless call entries → (i : ℕ) (b : CallId)
+      → has_turn setup (without_answers call entries) i b ≡ has_turn setup entries i b
   unfolding has_turn
   has_turn-left_out entries harmless i b =
       ap (λ order. list_all (hold_is_finished (without_answers call entries)) (before_call b order)) (poll_order-left_out entries i)
       ∙ list_all-same (hold_is_finished (without_answers call entries)) (hold_is_finished entries) (λ x. hold_is_finished-left_out call entries harmless x) (calls_ahead setup entries i b)
 
-  pub turn_moment-left_out : (entries : List (Entry K)) → AreHarmless call entries → (i : ℕ) (b : CallId) → turn_moment setup (without_answers call entries) i b ≡ turn_moment setup entries i b
+  pub turn_moment-left_out : (entries : List (Entry K)) → AreHarmless call entries → (i : ℕ) (b : CallId)
+      → turn_moment setup (without_answers call entries) i b ≡ turn_moment setup entries i b
   turn_moment-left_out entries harmless i b =
       turn_moment-stays setup (is_left_in call) (is_harmless call) i b (λ before h. has_turn-left_out before h i b)
       (λ before x s. no_poll (is_about b x) (has_turn setup before i b) (is_poll x.event) (not (is_not_now x.reply)) (left_no_poll call x s))
@@ -224,15 +241,21 @@ module _ {K D : Type 0} (setup : Setup D) (call : CallId) where
       no_poll false t false n h = refl
 
   -- the answers to another call are the same
-  pub answers_of-left_out : (entries : List (Entry K)) (b : CallId) → same_call b call ≡ false → answers_of (without_answers call entries) b ≡ answers_of entries b
+  pub answers_of-left_out : (entries : List (Entry K)) (b : CallId) → same_call b call ≡ false
+      → answers_of (without_answers call entries) b ≡ answers_of entries b
   answers_of-left_out entries b differ = ap answers_in (entries_of-left_out call entries b differ)
 
-  hold_input-left_out : (entries : List (Entry K)) → AreHarmless call entries → (i : ℕ) (b : CallId) → same_call b call ≡ false → hold_input {K = K} setup (without_answers call entries) i b ≡ hold_input setup entries i b
+  hold_input-left_out : (entries : List (Entry K)) → AreHarmless call entries → (i : ℕ) (b : CallId)
+      → same_call b call ≡ false
+      → hold_input {K = K} setup (without_answers call entries) i b ≡ hold_input setup entries i b
   hold_input-left_out entries harmless i b differ =
       rw (begin_of-left_out call entries harmless b, turn_moment-left_out entries harmless i b, answers_of-left_out entries b differ) refl
 
   -- where the call was not served, every cache is the same
-  pub sequential_cache-left_out : (policy : Policy K D) (entries : List (Entry K)) → AreHarmless call entries → is_served entries call ≡ false → (i : ℕ) → sequential_cache policy setup (without_answers call entries) i ≡ sequential_cache policy setup entries i
+  pub sequential_cache-left_out : (policy : Policy K D) (entries : List (Entry K)) → AreHarmless call entries
+      → is_served entries call ≡ false → (i : ℕ)
+      → sequential_cache policy setup (without_answers call entries) i
+      ≡ sequential_cache policy setup entries i
   unfolding sequential_cache
   sequential_cache-left_out policy entries harmless unserved i =
       ap (fold (λ cache b. cache_after policy (slice_get setup.loaders i) (hold_input setup (without_answers call entries) i b) cache) None) served_same

@@ -1,4 +1,5 @@
--- While a call loads its cache stays what it was before the call's look; so a cancel of the load leaves it so.
+-- While a call loads its cache stays what it was before the call's look; so a cancel of the load leaves it
+-- so.
 use Rattle.std.proofs.Common.{◌≡◌, ℕ, ℤ, Bool, true, false, List, [], ◌∷◌, ◌++◌, Option, Some, None, refl, sym, ◌∙◌, ap, subst}
 use Rattle.std.proofs.lemmas.List.{append_assoc}
 use Rattle.wake_lock.specs.declared.CallId.{CallId}
@@ -67,8 +68,12 @@ module _ {K D : Type 0} (policy : Policy K D) (setup : Setup D) (call : CallId) 
 
   module _ (entries : List (Entry K)) (p : IsPastLook entries) where
     -- the phase stays, and so does the cache
-    past_stays : (e : Entry K) → IsRun policy setup (entries ++ e ∷ []) → phase_of (entries ++ e ∷ []) call ≡ phase_of entries call
-        → (is_loading (phase_of entries call) ≡ true → sequential_cache policy setup (entries ++ e ∷ []) p.place ≡ sequential_cache policy setup entries p.place) → IsPastLook (entries ++ e ∷ [])
+    past_stays : (e : Entry K) → IsRun policy setup (entries ++ e ∷ [])
+        → phase_of (entries ++ e ∷ []) call ≡ phase_of entries call
+        → (is_loading (phase_of entries call) ≡ true
+        → sequential_cache policy setup (entries ++ e
+        ∷ []) p.place ≡ sequential_cache policy setup entries p.place)
+        → IsPastLook (entries ++ e ∷ [])
     past_stays e run same c = record {
       place = p.place;
       at = p.at;
@@ -78,7 +83,9 @@ module _ {K D : Type 0} (policy : Policy K D) (setup : Setup D) (call : CallId) 
     }
 
     -- the call loads no longer
-    past_over : (e : Entry K) → IsRun policy setup (entries ++ e ∷ []) → (q : Phase) → phase_of (entries ++ e ∷ []) call ≡ q → is_past q ≡ true → is_loading q ≡ false → IsPastLook (entries ++ e ∷ [])
+    past_over : (e : Entry K) → IsRun policy setup (entries ++ e ∷ []) → (q : Phase)
+        → phase_of (entries ++ e ∷ []) call ≡ q → is_past q ≡ true → is_loading q ≡ false
+        → IsPastLook (entries ++ e ∷ [])
     past_over e run q same past over = record {
       place = p.place;
       at = p.at;
@@ -88,7 +95,9 @@ module _ {K D : Type 0} (policy : Policy K D) (setup : Setup D) (call : CallId) 
     }
 
     -- an entry of the call itself
-    own_past : (event : Event K) (reply : Reply K) → LegalStep policy setup entries event reply → call_of event ≡ call → IsRun policy setup (entries ++ record { event = event; reply = reply } ∷ []) → IsPastLook (entries ++ record { event = event; reply = reply } ∷ [])
+    own_past : (event : Event K) (reply : Reply K) → LegalStep policy setup entries event reply
+        → call_of event ≡ call → IsRun policy setup (entries ++ record { event = event; reply = reply } ∷ [])
+        → IsPastLook (entries ++ record { event = event; reply = reply } ∷ [])
     own_past event reply (not_now e) same run =
         let own : same_call call (call_of e) ≡ true = ap (same_call call) same ∙ same_call-refl call in
         past_stays (record { event = e; reply = NotNow }) run (refused_phase setup entries p.place e call own) (λ _. stays_not_now policy setup entries p.run e p.place)
@@ -125,7 +134,9 @@ module _ {K D : Type 0} (policy : Policy K D) (setup : Setup D) (call : CallId) 
     own_past event reply (cancels c wake l) same run =
         past_over (record { event = event; reply = reply }) run Ended (phase-own_mark setup entries p.place (record { event = event; reply = reply }) call (ap (same_call call) same ∙ same_call-refl call) refl) refl refl
 
-    past_step : (event : Event K) (reply : Reply K) → LegalStep policy setup entries event reply → (s : Bool) → same_call call (call_of event) ≡ s → IsPastLook (entries ++ record { event = event; reply = reply } ∷ [])
+    past_step : (event : Event K) (reply : Reply K) → LegalStep policy setup entries event reply → (s : Bool)
+        → same_call call (call_of event) ≡ s
+        → IsPastLook (entries ++ record { event = event; reply = reply } ∷ [])
     past_step event reply step true s = own_past event reply step (sym (same_call-eq call (call_of event) s)) (more entries event reply p.run step)
     past_step event reply step false s =
         past_stays (record { event = event; reply = reply }) (more entries event reply p.run step)
@@ -133,8 +144,11 @@ module _ {K D : Type 0} (policy : Policy K D) (setup : Setup D) (call : CallId) 
         (λ l. other_stays policy setup entries p.run p.place call (run_loads policy setup entries p.run call p.place p.at l) event reply step s)
 
   -- a poll that is answered by asking a provider is the call's look
-  look_is_past : (entries : List (Entry K)) (i : ℕ) → cache_of setup call ≡ Some i → IsRun policy setup entries → (event : Event K) (reply : Reply K) → LegalStep policy setup entries event reply → is_poll event ≡ true → is_ask reply ≡ true → call_of event ≡ call
-      → sequential_cache policy setup entries i ≡ was → IsPastLook (entries ++ record { event = event; reply = reply } ∷ [])
+  look_is_past : (entries : List (Entry K)) (i : ℕ) → cache_of setup call ≡ Some i
+      → IsRun policy setup entries → (event : Event K) (reply : Reply K)
+      → LegalStep policy setup entries event reply → is_poll event ≡ true → is_ask reply ≡ true
+      → call_of event ≡ call → sequential_cache policy setup entries i ≡ was
+      → IsPastLook (entries ++ record { event = event; reply = reply } ∷ [])
   look_is_past entries i at run event reply (looks c now j (Asking k) wake w t g) poll ask same cache =
       let atc : cache_of setup c ≡ Some i = ap (cache_of setup) same ∙ at in
       let x : Waits setup entries i c = run_waits policy setup entries run c i atc w in
@@ -157,15 +171,20 @@ module _ {K D : Type 0} (policy : Policy K D) (setup : Setup D) (call : CallId) 
   look_is_past entries i at run event reply (cancels c wake l) poll ask same cache = absurd (cc)
 
 module _ {K D : Type 0} (policy : Policy K D) (setup : Setup D) (before between : List (Entry K)) (call : CallId) (now : ℤ) (i : ℕ) (at : cache_of setup call ≡ Some i) where
-  past_look : IsLegalAfter policy setup [] before → IsLegalEntry policy setup (committed_entries before) (look_entry call now) → IsPastLook policy setup call (sequential_cache policy setup (committed_entries before) i) (committed_entries (before ++ look_entry call now ∷ []))
+  past_look : IsLegalAfter policy setup [] before
+      → IsLegalEntry policy setup (committed_entries before) (look_entry call now)
+      → IsPastLook policy setup call (sequential_cache policy setup (committed_entries before) i)
+      (committed_entries (before ++ look_entry call now ∷ []))
   unfolding IsLegal
   past_look l legal =
       rw (committed_entries-more before (look_entry call now) refl)
       (look_is_past policy setup call (sequential_cache policy setup (committed_entries before) i) (committed_entries before) i at (legal_run policy setup before l) (Poll call now) (Ask 0)
       (legal_entry_step policy setup (committed_entries before) (look_entry call now) refl legal) refl refl refl refl)
 
-  cache_between : IsLegal policy setup (before ++ look_entry call now ∷ between) → is_loading (phase_of (committed_entries (before ++ look_entry call now ∷ between)) call) ≡ true
-      → sequential_cache policy setup (committed_entries (before ++ look_entry call now ∷ between)) i ≡ sequential_cache policy setup (committed_entries before) i
+  cache_between : IsLegal policy setup (before ++ look_entry call now ∷ between)
+      → is_loading (phase_of (committed_entries (before ++ look_entry call now ∷ between)) call) ≡ true
+      → sequential_cache policy setup (committed_entries (before ++ look_entry call now ∷ between)) i
+      ≡ sequential_cache policy setup (committed_entries before) i
   unfolding IsLegal
   cache_between l h =
       let parts = legal_split committed_entries (IsLegalEntry policy setup) [] before (look_entry call now ∷ between) l in

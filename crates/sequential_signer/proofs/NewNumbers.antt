@@ -14,11 +14,16 @@ pub nat_lt-self : (n : ℕ) → nat_lt n n ≡ false
 nat_lt-self n = grind (arith, nat_tests)
 
 -- the test at one entry fails where it is the begin of the call itself
-pub own_begin_fails : {K : Type 0} (call : CallId) (e : Entry K) → call_of e.event ≡ call → is_begun e.reply ≡ true → (not (is_begin_under call.handle e) || nat_lt (call_of e.event).number call.number) ≡ false
+pub own_begin_fails : {K : Type 0} (call : CallId) (e : Entry K) → call_of e.event ≡ call
+    → is_begun e.reply ≡ true
+    → (not (is_begin_under call.handle e) || nat_lt (call_of e.event).number call.number) ≡ false
 own_begin_fails call e same b = rw (same, b, number_refl call.handle) (nat_lt-self call.number)
 
 new_begins_none : {K : Type 0} (call : CallId) (entries : List (Entry K))
-    → list_all (λ (e : Entry K). not (is_begin_under call.handle e) || nat_lt (call_of e.event).number call.number) entries ≡ true
+    → list_all
+    (λ (e : Entry K). not (is_begin_under call.handle e) || nat_lt (call_of e.event).number call.number)
+    entries
+    ≡ true
     → find (λ (x : Entry K). is_begun x.reply) (filter (is_about call) entries) ≡ None
 new_begins_none {K = K} call [] h = refl
 new_begins_none {K = K} call (e ∷ rest) h =
@@ -32,6 +37,8 @@ new_begins_none {K = K} call (e ∷ rest) h =
     ]) refl
 
 -- a call with a new number was never begun
-pub new_is_unbegun : {K : Type 0} (call : CallId) (entries : List (Entry K)) → is_new_number entries call ≡ true → find (λ (x : Entry K). is_begun x.reply) (entries_of entries call) ≡ None
+pub new_is_unbegun : {K : Type 0} (call : CallId) (entries : List (Entry K))
+    → is_new_number entries call ≡ true
+    → find (λ (x : Entry K). is_begun x.reply) (entries_of entries call) ≡ None
 unfolding is_new_number entries_of
 new_is_unbegun call entries h = new_begins_none call entries h

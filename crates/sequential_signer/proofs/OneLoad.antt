@@ -1,4 +1,5 @@
--- A credential that was found and handed out serves each look that it lasts to, so no provider is asked again.
+-- A credential that was found and handed out serves each look that it lasts to, so no provider is asked
+-- again.
 use Rattle.std.proofs.Common.{◌≡◌, ℕ, ℤ, Bool, true, false, not, ◌&&◌, List, [], ◌∷◌, ◌++◌, Option, Some, None, refl, sym, ◌∙◌, ap, subst}
 use Rattle.std.specs.List.{list_all}
 use Rattle.wake_lock.specs.declared.CallId.{CallId}
@@ -35,11 +36,13 @@ use Rattle.sequential_signer.proofs.FoundCredential.{signed_found_is_cached, is_
 
 module _ {K D : Type 0} (policy : Policy K D) where
   -- a look at a credential that lasts hands it out
-  hands_by : (c : K) (now : ℤ) (o : Option ℤ) → lasts_to policy c now o ≡ true → lookup_by policy c now o ≡ Some (HandOut c)
+  hands_by : (c : K) (now : ℤ) (o : Option ℤ) → lasts_to policy c now o ≡ true
+      → lookup_by policy c now o ≡ Some (HandOut c)
   hands_by c now None h = cc
   hands_by c now (Some deadline) h = rw h refl
 
-  hands_out : (c : K) (rule : D) (duration : Option ℕ) (now : ℤ) → serves_at policy c rule duration now ≡ true → cache_lookup policy (Some c) rule duration now ≡ Some (HandOut c)
+  hands_out : (c : K) (rule : D) (duration : Option ℕ) (now : ℤ) → serves_at policy c rule duration now ≡ true
+      → cache_lookup policy (Some c) rule duration now ≡ Some (HandOut c)
   hands_out c rule duration now h =
       let fresh : policy.valid c now ≡ true = and_left _ _ h in
       rw fresh (hands_by c now (policy.deadline rule c duration now) (and_right (policy.valid c now) (lasts_to policy c now (policy.deadline rule c duration now)) h))
@@ -53,11 +56,16 @@ module _ {K D : Type 0} (policy : Policy K D) (setup : Setup D) (i : ℕ) (c : K
 
   module _ (entries : List (Entry K)) (loaded : HasLoaded entries) where
     -- a look at the cached credential hands it out
-    look_hits : (call : CallId) (now : ℤ) (progress : Progress K) → HoldReaches policy setup entries (at_look call i now) progress → ServesLook (serves_at policy c) setup i entries (record { event = Poll call now; reply = NotNow })
-        → is_waiting (phase_of entries call) ≡ true → has_turn setup entries i call ≡ true → progress ≡ Over (HandOut c) (Some c)
+    look_hits : (call : CallId) (now : ℤ) (progress : Progress K)
+        → HoldReaches policy setup entries (at_look call i now) progress
+        → ServesLook (serves_at policy c) setup i entries (record { event = Poll call now; reply = NotNow })
+        → is_waiting (phase_of entries call) ≡ true → has_turn setup entries i call ≡ true
+        → progress ≡ Over (HandOut c) (Some c)
     look_hits call now progress g serves w t = look_by (rule_of setup call) refl (begin_of entries call) refl g.inputs
       where
-        look_by : (ro : Option D) → rule_of setup call ≡ ro → (bo : Option BeginInput) → begin_of entries call ≡ bo → input_by ro bo (Some now) [] ≡ Some g.input → progress ≡ Over (HandOut c) (Some c)
+        look_by : (ro : Option D) → rule_of setup call ≡ ro → (bo : Option BeginInput)
+            → begin_of entries call ≡ bo → input_by ro bo (Some now) [] ≡ Some g.input
+            → progress ≡ Over (HandOut c) (Some c)
         look_by None r bo b h = absurd (cc)
         look_by (Some rule) r None b h = absurd (cc)
         look_by (Some rule) r (Some begin) b h =
@@ -71,11 +79,14 @@ module _ {K D : Type 0} (policy : Policy K D) (setup : Setup D) (i : ℕ) (c : K
             ∙ ap (λ (v : Option (Outcome K)). after_lookup v (Some c) (load_progress (check_refreshed policy rule begin.duration) g.loader (Some c) 0 None)) hit
 
     -- nobody of the cache loads
-    nobody_loads : (call : CallId) → cache_of setup call ≡ Some i → is_loading (phase_of entries call) ≡ true → ⊥
+    nobody_loads : (call : CallId) → cache_of setup call ≡ Some i → is_loading (phase_of entries call) ≡ true
+        → ⊥
     nobody_loads call at l = let n : is_loading (phase_of entries call) ≡ false = loaded.idle call at in cc
 
     -- an entry of the cache asks nobody, and hands out nothing that was found
-    asks_nobody : (event : Event K) (reply : Reply K) → LegalStep policy setup entries event reply → cache_of setup (call_of event) ≡ Some i → ServesLook (serves_at policy c) setup i entries (record { event = event; reply = reply })
+    asks_nobody : (event : Event K) (reply : Reply K) → LegalStep policy setup entries event reply
+        → cache_of setup (call_of event) ≡ Some i
+        → ServesLook (serves_at policy c) setup i entries (record { event = event; reply = reply })
         → (is_ask reply ≡ false) × (is_refresh event reply ≡ false)
     asks_nobody event reply (not_now e) at serves = (refl, refl)
     asks_nobody event reply (begins call head expires_in j atj new) at serves = (refl, refl)
@@ -93,24 +104,32 @@ module _ {K D : Type 0} (policy : Policy K D) (setup : Setup D) (i : ℕ) (c : K
         rw (look_hits call now progress goes serves w turn) (refl, refl)
 
     -- so after it no call of the cache loads
-    idle_after : (event : Event K) (reply : Reply K) → is_ask reply ≡ false → (b : CallId) → cache_of setup b ≡ Some i → (s : Bool) → same_call b (call_of event) ≡ s → is_loading (phase_of (entries ++ record { event = event; reply = reply } ∷ []) b) ≡ false
+    idle_after : (event : Event K) (reply : Reply K) → is_ask reply ≡ false → (b : CallId)
+        → cache_of setup b ≡ Some i → (s : Bool) → same_call b (call_of event) ≡ s
+        → is_loading (phase_of (entries ++ record { event = event; reply = reply } ∷ []) b) ≡ false
     idle_after event reply unasked b at false s = ap is_loading (phase-other setup entries i (record { event = event; reply = reply }) b s) ∙ loaded.idle b at
     idle_after event reply unasked b at true s = by_mark (is_mark reply) refl
       where
-        by_mark : (m : Bool) → is_mark reply ≡ m → is_loading (phase_of (entries ++ record { event = event; reply = reply } ∷ []) b) ≡ false
+        by_mark : (m : Bool) → is_mark reply ≡ m
+            → is_loading (phase_of (entries ++ record { event = event; reply = reply } ∷ []) b) ≡ false
         by_mark true m = loads-own_mark setup entries i (record { event = event; reply = reply }) b s m ∙ unasked
         by_mark false m = loads-own_unmarked setup entries i (record { event = event; reply = reply }) b s m ∙ loaded.idle b at
 
     -- nor after an entry of another cache
-    idle_elsewhere : (e : Entry K) → is_of_cache setup i (call_of e.event) ≡ false → (b : CallId) → cache_of setup b ≡ Some i → (s : Bool) → same_call b (call_of e.event) ≡ s → is_loading (phase_of (entries ++ e ∷ []) b) ≡ false
+    idle_elsewhere : (e : Entry K) → is_of_cache setup i (call_of e.event) ≡ false → (b : CallId)
+        → cache_of setup b ≡ Some i → (s : Bool) → same_call b (call_of e.event) ≡ s
+        → is_loading (phase_of (entries ++ e ∷ []) b) ≡ false
     idle_elsewhere e out b at false s = ap is_loading (phase-other setup entries i e b s) ∙ loaded.idle b at
     idle_elsewhere e out b at true s =
         let here : is_of_cache setup i (call_of e.event) ≡ true = ap (is_of_cache setup i) (sym (same_call-eq b (call_of e.event) s)) ∙ ap (is_number i) at ∙ number_refl i in
         cc
 
     -- a legal step keeps the credential cached and the cache idle, and asks nobody
-    loaded_step : (event : Event K) (reply : Reply K) → LegalStep policy setup entries event reply → ServesLook (serves_at policy c) setup i entries (record { event = event; reply = reply }) → (h : Bool) → is_of_cache setup i (call_of event) ≡ h
-        → HasLoaded (entries ++ record { event = event; reply = reply } ∷ []) × (not (is_of_cache setup i (call_of event) && is_ask reply) ≡ true)
+    loaded_step : (event : Event K) (reply : Reply K) → LegalStep policy setup entries event reply
+        → ServesLook (serves_at policy c) setup i entries (record { event = event; reply = reply })
+        → (h : Bool) → is_of_cache setup i (call_of event) ≡ h
+        → HasLoaded (entries ++ record { event = event; reply = reply } ∷ [])
+        × (not (is_of_cache setup i (call_of event) && is_ask reply) ≡ true)
     loaded_step event reply step serves true h =
         let keeps = asks_nobody event reply step (is_number-eq i (cache_of setup (call_of event)) h) serves in
         let unasked : is_ask reply ≡ false = keeps.0 in (
@@ -131,11 +150,16 @@ module _ {K D : Type 0} (policy : Policy K D) (setup : Setup D) (i : ℕ) (c : K
     )
 
   -- so does a legal entry, and one that ran out of memory leaves all
-  loaded_entry : (before : List (Entry K)) (e : Entry K) → HasLoaded (committed_entries before) → ServesLook (serves_at policy c) setup i (committed_entries before) e → IsLegalEntry policy setup (committed_entries before) e
-      → HasLoaded (committed_entries (before ++ e ∷ [])) × (not (is_of_cache setup i (call_of e.event) && is_ask e.reply) ≡ true)
+  loaded_entry : (before : List (Entry K)) (e : Entry K) → HasLoaded (committed_entries before)
+      → ServesLook (serves_at policy c) setup i (committed_entries before) e
+      → IsLegalEntry policy setup (committed_entries before) e
+      → HasLoaded (committed_entries (before ++ e ∷ []))
+      × (not (is_of_cache setup i (call_of e.event) && is_ask e.reply) ≡ true)
   loaded_entry before e l serves legal = by_memory (is_out_of_memory e.reply) refl
     where
-      by_memory : (m : Bool) → is_out_of_memory e.reply ≡ m → HasLoaded (committed_entries (before ++ e ∷ [])) × (not (is_of_cache setup i (call_of e.event) && is_ask e.reply) ≡ true)
+      by_memory : (m : Bool) → is_out_of_memory e.reply ≡ m
+          → HasLoaded (committed_entries (before ++ e ∷ []))
+          × (not (is_of_cache setup i (call_of e.event) && is_ask e.reply) ≡ true)
       by_memory false m =
           let next = loaded_step (committed_entries before) l e.event e.reply (legal_entry_step policy setup (committed_entries before) e m legal) serves (is_of_cache setup i (call_of e.event)) refl in
           (subst (λ (v : List (Entry K)). HasLoaded v) (sym (committed_entries-more before e m)) next.0, next.1)
@@ -143,7 +167,9 @@ module _ {K D : Type 0} (policy : Policy K D) (setup : Setup D) (i : ℕ) (c : K
           let unasked : is_ask e.reply ≡ false = ap is_ask (out_of_memory-is e.reply m) in
           (subst (λ (v : List (Entry K)). HasLoaded v) (sym (committed_entries-lost before e m)) l, rw (unasked, and_false (is_of_cache setup i (call_of e.event))) refl)
 
-  nobody_asked : (before after : List (Entry K)) → HasLoaded (committed_entries before) → IsLegalAfter policy setup before after → ServesLooks (serves_at policy c) setup i before after → list_all (λ e. not (is_of_cache setup i (call_of e.event) && is_ask e.reply)) after ≡ true
+  nobody_asked : (before after : List (Entry K)) → HasLoaded (committed_entries before)
+      → IsLegalAfter policy setup before after → ServesLooks (serves_at policy c) setup i before after
+      → list_all (λ e. not (is_of_cache setup i (call_of e.event) && is_ask e.reply)) after ≡ true
   nobody_asked before [] l legal serves = refl
   nobody_asked before (e ∷ rest) l legal serves =
       let next = loaded_entry before e l serves.0 legal.0 in
@@ -151,11 +177,14 @@ module _ {K D : Type 0} (policy : Policy K D) (setup : Setup D) (i : ℕ) (c : K
       rw (here, nobody_asked (before ++ e ∷ []) rest next.0 legal.1 serves.1) refl
 
   -- after the entry that hands the credential out it is cached, and no call of the cache loads
-  found_loaded : (entries : List (Entry K)) → IsRun policy setup entries → (call : CallId) (now : ℤ) (handed : K) (wake : Option CallId) → LegalStep policy setup entries (Provided call now (Found c)) (Sign handed wake) → cache_of setup call ≡ Some i
-      → HasLoaded (entries ++ found_entry call now c (Sign handed wake) ∷ [])
+  found_loaded : (entries : List (Entry K)) → IsRun policy setup entries
+      → (call : CallId) (now : ℤ) (handed : K) (wake : Option CallId)
+      → LegalStep policy setup entries (Provided call now (Found c)) (Sign handed wake)
+      → cache_of setup call ≡ Some i → HasLoaded (entries ++ found_entry call now c (Sign handed wake) ∷ [])
   found_loaded entries run call now handed wake step at = by_step (cache_step policy setup entries run (Provided call now (Found c)) (Sign handed wake) step)
     where
-      idle : (j : ℕ) → EndsHold policy setup entries (found_entry call now c (Sign handed wake)) j → (b : CallId) → cache_of setup b ≡ Some i → (s : Bool) → same_call b call ≡ s
+      idle : (j : ℕ) → EndsHold policy setup entries (found_entry call now c (Sign handed wake)) j
+          → (b : CallId) → cache_of setup b ≡ Some i → (s : Bool) → same_call b call ≡ s
           → is_loading (phase_of (entries ++ found_entry call now c (Sign handed wake) ∷ []) b) ≡ false
       idle j x b atb true s = loads-own_mark setup entries i (found_entry call now c (Sign handed wake)) b s refl
       idle j x b atb false s =
@@ -166,7 +195,8 @@ module _ {K D : Type 0} (policy : Policy K D) (setup : Setup D) (i : ℕ) (c : K
           let same : j ≡ i = cc in
           one_turn setup entries i b call s y.had.polled y.had.turn y.unfinished (subst (λ n. has_turn setup entries n call ≡ true) same x.turn) x.unfinished)
 
-      by_step : CacheStep policy setup entries (found_entry call now c (Sign handed wake)) → HasLoaded (entries ++ found_entry call now c (Sign handed wake) ∷ [])
+      by_step : CacheStep policy setup entries (found_entry call now c (Sign handed wake))
+          → HasLoaded (entries ++ found_entry call now c (Sign handed wake) ∷ [])
       by_step (leaves_all none _) = absurd (cc)
       by_step (ends_hold_at j x) = record {
         run = more entries (Provided call now (Found c)) (Sign handed wake) run step;

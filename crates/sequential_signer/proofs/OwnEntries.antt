@@ -19,11 +19,15 @@ use Rattle.sequential_signer.proofs.Lists.{filter-more, filter-more_yes, filter-
 
 module _ {K : Type 0} where
   -- an entry of the call is the last of its entries, and one of another call is none of them
-  pub entries_of-own : (entries : List (Entry K)) (call : CallId) (e : Entry K) → same_call call (call_of e.event) ≡ true → entries_of (entries ++ e ∷ []) call ≡ entries_of entries call ++ e ∷ []
+  pub entries_of-own : (entries : List (Entry K)) (call : CallId) (e : Entry K)
+      → same_call call (call_of e.event) ≡ true
+      → entries_of (entries ++ e ∷ []) call ≡ entries_of entries call ++ e ∷ []
   unfolding entries_of
   entries_of-own entries call e h = filter-more_yes (is_about call) entries e h
 
-  pub entries_of-other : (entries : List (Entry K)) (call : CallId) (e : Entry K) → same_call call (call_of e.event) ≡ false → entries_of (entries ++ e ∷ []) call ≡ entries_of entries call
+  pub entries_of-other : (entries : List (Entry K)) (call : CallId) (e : Entry K)
+      → same_call call (call_of e.event) ≡ false
+      → entries_of (entries ++ e ∷ []) call ≡ entries_of entries call
   unfolding entries_of
   entries_of-other entries call e h = filter-more_no (is_about call) entries e h
 
@@ -66,7 +70,9 @@ phase_by_waited w (Cancelled _) = refl
 
 module _ {K : Type 0} where
   -- after a mark the phase is that of the mark
-  pub phase_in-mark : (entries : List (Entry K)) (e : Entry K) → is_mark e.reply ≡ true → phase_in (entries ++ e ∷ []) ≡ phase_by (list_any is_waiting_poll entries || is_waiting_poll e) e.reply
+  pub phase_in-mark : (entries : List (Entry K)) (e : Entry K) → is_mark e.reply ≡ true
+      → phase_in (entries ++ e ∷ [])
+      ≡ phase_by (list_any is_waiting_poll entries || is_waiting_poll e) e.reply
   unfolding phase_in
   phase_in-mark entries e h =
       rw (list_any-more is_waiting_poll entries e, filter-more_yes (λ (x : Entry K). is_mark x.reply) entries e h, last_of-more (filter (λ (x : Entry K). is_mark x.reply) entries) e) refl
@@ -76,7 +82,9 @@ module _ {K : Type 0} where
   phase_at_waited w (Some e) = phase_by_waited w e.reply
 
   -- a reply that is no mark leaves the phase, but for a poll that is answered `Pending`
-  pub phase_in-unmarked : (entries : List (Entry K)) (e : Entry K) → is_mark e.reply ≡ false → phase_in (entries ++ e ∷ []) ≡ cond (is_waiting_poll e) (to_queued (phase_in entries)) (phase_in entries)
+  pub phase_in-unmarked : (entries : List (Entry K)) (e : Entry K) → is_mark e.reply ≡ false
+      → phase_in (entries ++ e ∷ [])
+      ≡ cond (is_waiting_poll e) (to_queued (phase_in entries)) (phase_in entries)
   unfolding phase_in
   phase_in-unmarked entries e h =
       rw (list_any-more is_waiting_poll entries e, filter-more_no (λ (x : Entry K). is_mark x.reply) entries e h)
@@ -86,17 +94,23 @@ module _ {K : Type 0} where
       ])
 
   -- `NotNow` leaves the phase
-  pub phase_in-not_now : (entries : List (Entry K)) (event : Event K) → phase_in (entries ++ record { event = event; reply = NotNow } ∷ []) ≡ phase_in entries
+  pub phase_in-not_now : (entries : List (Entry K)) (event : Event K)
+      → phase_in (entries ++ record { event = event; reply = NotNow } ∷ []) ≡ phase_in entries
   phase_in-not_now entries event =
       phase_in-unmarked entries (record { event = event; reply = NotNow }) refl
       ∙ ap (λ v. cond v (to_queued (phase_in entries)) (phase_in entries)) (and_false (is_poll event))
 
   -- a poll that is answered `Pending` queues a call that was not polled before
-  pub phase_in-pending : (entries : List (Entry K)) (call : CallId) (now : ℤ) → phase_in (entries ++ record { event = Poll call now; reply = Pending } ∷ []) ≡ to_queued (phase_in entries)
+  pub phase_in-pending : (entries : List (Entry K)) (call : CallId) (now : ℤ)
+      → phase_in (entries ++ record { event = Poll call now; reply = Pending } ∷ [])
+      ≡ to_queued (phase_in entries)
   phase_in-pending entries call now = phase_in-unmarked entries (record { event = Poll call now; reply = Pending }) refl
 
-  -- so the phase after one more entry follows from the phase before it, and from whether the call was answered `Pending`
-  pub phase_in-alike : (xs ys : List (Entry K)) (e : Entry K) → phase_in xs ≡ phase_in ys → list_any is_waiting_poll xs ≡ list_any is_waiting_poll ys → phase_in (xs ++ e ∷ []) ≡ phase_in (ys ++ e ∷ [])
+  -- so the phase after one more entry follows from the phase before it, and from whether the call was
+  -- answered `Pending`
+  pub phase_in-alike : (xs ys : List (Entry K)) (e : Entry K) → phase_in xs ≡ phase_in ys
+      → list_any is_waiting_poll xs ≡ list_any is_waiting_poll ys
+      → phase_in (xs ++ e ∷ []) ≡ phase_in (ys ++ e ∷ [])
   phase_in-alike xs ys e p w = by_mark (is_mark e.reply) refl
     where
       by_mark : (m : Bool) → is_mark e.reply ≡ m → phase_in (xs ++ e ∷ []) ≡ phase_in (ys ++ e ∷ [])
@@ -104,37 +118,49 @@ module _ {K : Type 0} where
       by_mark false m = phase_in-unmarked xs e m ∙ ap (λ v. cond (is_waiting_poll e) (to_queued v) v) p ∙ sym (phase_in-unmarked ys e m)
 
   -- what a call was begun with stays, and no entry changes it that accepts no begin
-  pub begin_in-found : (entries : List (Entry K)) (e : Entry K) (b : BeginInput) → begin_in entries ≡ Some b → begin_in (entries ++ e ∷ []) ≡ Some b
+  pub begin_in-found : (entries : List (Entry K)) (e : Entry K) (b : BeginInput) → begin_in entries ≡ Some b
+      → begin_in (entries ++ e ∷ []) ≡ Some b
   unfolding begin_in
   begin_in-found entries e b h = found_by (find (λ (x : Entry K). is_begun x.reply) entries) refl h
     where
-      found_by : (o : Option (Entry K)) → find (λ (x : Entry K). is_begun x.reply) entries ≡ o → option_and_then (λ (x : Entry K). begun_with x.event) o ≡ Some b → option_and_then (λ (x : Entry K). begun_with x.event) (find (λ (x : Entry K). is_begun x.reply) (entries ++ e ∷ [])) ≡ Some b
+      found_by : (o : Option (Entry K)) → find (λ (x : Entry K). is_begun x.reply) entries ≡ o
+          → option_and_then (λ (x : Entry K). begun_with x.event) o ≡ Some b
+          → option_and_then (λ (x : Entry K). begun_with x.event)
+          (find (λ (x : Entry K). is_begun x.reply) (entries ++ e ∷ []))
+          ≡ Some b
       found_by None f g = cc
       found_by (Some x) f g = rw (find-more_found (λ (x : Entry K). is_begun x.reply) entries e x f) g
 
-  pub begin_in-no : (entries : List (Entry K)) (e : Entry K) → is_begun e.reply ≡ false → begin_in (entries ++ e ∷ []) ≡ begin_in entries
+  pub begin_in-no : (entries : List (Entry K)) (e : Entry K) → is_begun e.reply ≡ false
+      → begin_in (entries ++ e ∷ []) ≡ begin_in entries
   unfolding begin_in
   begin_in-no entries e h = rw (find-more_no (λ (x : Entry K). is_begun x.reply) entries e h) refl
 
   -- neither an event that is no answer nor a reply `NotNow` adds an answer
-  pub answers_in-no : (entries : List (Entry K)) (e : Entry K) → answer_in e.event ≡ None → answers_in (entries ++ e ∷ []) ≡ answers_in entries
+  pub answers_in-no : (entries : List (Entry K)) (e : Entry K) → answer_in e.event ≡ None
+      → answers_in (entries ++ e ∷ []) ≡ answers_in entries
   unfolding answers_in
   answers_in-no entries e h =
       rw (filter-more (λ (x : Entry K). not (is_not_now x.reply)) entries e)
       (elim (not (is_not_now e.reply)) as (λ v. filter_map (λ (x : Entry K). answer_in x.event) (cond v (filter (λ (x : Entry K). not (is_not_now x.reply)) entries ++ e ∷ []) (filter (λ (x : Entry K). not (is_not_now x.reply)) entries)) ≡ answers_in entries)
       [ true ↦ rw (filter_map-append (λ (x : Entry K). answer_in x.event) (filter (λ (x : Entry K). not (is_not_now x.reply)) entries) (e ∷ []), h) (append-nil _) | false ↦ refl ])
 
-  pub answers_in-not_now : (entries : List (Entry K)) (event : Event K) → answers_in (entries ++ record { event = event; reply = NotNow } ∷ []) ≡ answers_in entries
+  pub answers_in-not_now : (entries : List (Entry K)) (event : Event K)
+      → answers_in (entries ++ record { event = event; reply = NotNow } ∷ []) ≡ answers_in entries
   unfolding answers_in
   answers_in-not_now entries event = rw (filter-more_no (λ (x : Entry K). not (is_not_now x.reply)) entries (record { event = event; reply = NotNow }) refl) refl
 
   -- an answer that fits is the last one
-  pub answers_in-more : (entries : List (Entry K)) (e : Entry K) (a : Answer K × ℤ) → is_not_now e.reply ≡ false → answer_in e.event ≡ Some a → answers_in (entries ++ e ∷ []) ≡ answers_in entries ++ a ∷ []
+  pub answers_in-more : (entries : List (Entry K)) (e : Entry K) (a : Answer K × ℤ)
+      → is_not_now e.reply ≡ false → answer_in e.event ≡ Some a
+      → answers_in (entries ++ e ∷ []) ≡ answers_in entries ++ a ∷ []
   unfolding answers_in
   answers_in-more entries e a n h =
       rw (filter-more_yes (λ (x : Entry K). not (is_not_now x.reply)) entries e (ap not n), filter_map-append (λ (x : Entry K). answer_in x.event) (filter (λ (x : Entry K). not (is_not_now x.reply)) entries) (e ∷ []), h) refl
 
   -- the first accepted begin is what the call was begun with
-  pub begin_in-new : (entries : List (Entry K)) (e : Entry K) → find (λ (x : Entry K). is_begun x.reply) entries ≡ None → is_begun e.reply ≡ true → begin_in (entries ++ e ∷ []) ≡ begun_with e.event
+  pub begin_in-new : (entries : List (Entry K)) (e : Entry K)
+      → find (λ (x : Entry K). is_begun x.reply) entries ≡ None → is_begun e.reply ≡ true
+      → begin_in (entries ++ e ∷ []) ≡ begun_with e.event
   unfolding begin_in
   begin_in-new entries e n h = rw (find-more_yes (λ (x : Entry K). is_begun x.reply) entries e n h) refl

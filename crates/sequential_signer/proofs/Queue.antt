@@ -22,22 +22,28 @@ module _ (fin : CallId → Bool) where
   abbrev pub open_holds : List CallId → List CallId
   open_holds xs = filter (λ x. not (fin x)) xs
 
-  first_here : (call x : CallId) (xs : List CallId) → fin call ≡ false → same_call call x ≡ true → list_all fin (before_call call (x ∷ xs)) ≡ is_first call (open_holds (x ∷ xs))
+  first_here : (call x : CallId) (xs : List CallId) → fin call ≡ false → same_call call x ≡ true
+      → list_all fin (before_call call (x ∷ xs)) ≡ is_first call (open_holds (x ∷ xs))
   first_here call x xs o s =
       let here : fin x ≡ false = ap fin (sym (same_call-eq call x s)) ∙ o in
       rw (s, here, s) refl
 
   first_later : (call x : CallId) (xs : List CallId) → same_call call x ≡ false → (f : Bool) → fin x ≡ f
-      → list_all fin (before_call call xs) ≡ is_first call (open_holds xs) → list_all fin (before_call call (x ∷ xs)) ≡ is_first call (open_holds (x ∷ xs))
+      → list_all fin (before_call call xs) ≡ is_first call (open_holds xs)
+      → list_all fin (before_call call (x ∷ xs)) ≡ is_first call (open_holds (x ∷ xs))
   first_later call x xs s true h rest = rw (s, h) rest
   first_later call x xs s false h rest = rw (s, h, s) refl
 
   -- of an open hold that is in the list, all before it are finished exactly where it is the first open one
-  first-open : (call : CallId) (xs : List CallId) → fin call ≡ false → list_any (same_call call) xs ≡ true → list_all fin (before_call call xs) ≡ is_first call (open_holds xs)
+  first-open : (call : CallId) (xs : List CallId) → fin call ≡ false → list_any (same_call call) xs ≡ true
+      → list_all fin (before_call call xs) ≡ is_first call (open_holds xs)
   first-open call [] o m = cc
   first-open call (x ∷ xs) o m = by_place (same_call call x) refl m (λ k. first-open call xs o k)
     where
-      by_place : (s : Bool) → same_call call x ≡ s → (s || list_any (same_call call) xs) ≡ true → (list_any (same_call call) xs ≡ true → list_all fin (before_call call xs) ≡ is_first call (open_holds xs)) → list_all fin (before_call call (x ∷ xs)) ≡ is_first call (open_holds (x ∷ xs))
+      by_place : (s : Bool) → same_call call x ≡ s → (s || list_any (same_call call) xs) ≡ true
+          → (list_any (same_call call) xs ≡ true
+          → list_all fin (before_call call xs) ≡ is_first call (open_holds xs))
+          → list_all fin (before_call call (x ∷ xs)) ≡ is_first call (open_holds (x ∷ xs))
       by_place true e m rest = first_here call x xs o e
       by_place false e m rest = first_later call x xs e (fin x) refl (rest m)
 
@@ -55,12 +61,16 @@ after_first call (x ∷ rest) = if same_call call x then rest else []
 
 module _ {K D : Type 0} (setup : Setup D) where
   -- a call that was polled and whose hold is open has its turn exactly where it holds
-  pub has_turn-polled : (entries : List (Entry K)) (i : ℕ) (call : CallId) → hold_is_finished entries call ≡ false → is_polled setup entries i call ≡ true → has_turn setup entries i call ≡ is_first call (open_calls setup entries i)
+  pub has_turn-polled : (entries : List (Entry K)) (i : ℕ) (call : CallId)
+      → hold_is_finished entries call ≡ false → is_polled setup entries i call ≡ true
+      → has_turn setup entries i call ≡ is_first call (open_calls setup entries i)
   unfolding has_turn
   has_turn-polled entries i call o m = first-open (hold_is_finished entries) call (poll_order setup entries i) o m
 
   -- a call that was not polled has its turn exactly where nobody holds
-  pub has_turn-unpolled : (entries : List (Entry K)) (i : ℕ) (call : CallId) → is_polled setup entries i call ≡ false → has_turn setup entries i call ≡ has_nobody (open_calls setup entries i)
+  pub has_turn-unpolled : (entries : List (Entry K)) (i : ℕ) (call : CallId)
+      → is_polled setup entries i call ≡ false
+      → has_turn setup entries i call ≡ has_nobody (open_calls setup entries i)
   unfolding has_turn
   has_turn-unpolled entries i call u =
       ap (list_all (hold_is_finished entries)) (before_call-absent call (poll_order setup entries i) u)
@@ -72,20 +82,25 @@ module _ {K D : Type 0} (setup : Setup D) (entries : List (Entry K)) (i : ℕ) (
   pub finished_same : (b : CallId) → hold_is_finished (entries ++ e ∷ []) b ≡ hold_is_finished entries b
   finished_same b = same_by (same_call b (call_of e.event)) refl
     where
-      same_by : (s : Bool) → same_call b (call_of e.event) ≡ s → hold_is_finished (entries ++ e ∷ []) b ≡ hold_is_finished entries b
+      same_by : (s : Bool) → same_call b (call_of e.event) ≡ s
+          → hold_is_finished (entries ++ e ∷ []) b ≡ hold_is_finished entries b
       same_by true s = hold_is_finished-own setup entries e b s ∙ ap (λ v. hold_is_finished entries b || v) stays_open ∙ or_false _
       same_by false s = hold_is_finished-other setup entries e b s
 
 -- an entry that ends its call's hold takes the call out of the open ones
 module _ {K D : Type 0} (setup : Setup D) (entries : List (Entry K)) (i : ℕ) (e : Entry K) (ends : ends_hold e.reply ≡ true) where
-  finished_after : (b : CallId) → hold_is_finished (entries ++ e ∷ []) b ≡ (hold_is_finished entries b || same_call b (call_of e.event))
+  finished_after : (b : CallId)
+      → hold_is_finished (entries ++ e ∷ []) b ≡ (hold_is_finished entries b || same_call b (call_of e.event))
   finished_after b = after_by (same_call b (call_of e.event)) refl
     where
-      after_by : (s : Bool) → same_call b (call_of e.event) ≡ s → hold_is_finished (entries ++ e ∷ []) b ≡ (hold_is_finished entries b || s)
+      after_by : (s : Bool) → same_call b (call_of e.event) ≡ s
+          → hold_is_finished (entries ++ e ∷ []) b ≡ (hold_is_finished entries b || s)
       after_by true s = hold_is_finished-own setup entries e b s ∙ ap (λ v. hold_is_finished entries b || v) ends
       after_by false s = hold_is_finished-other setup entries e b s ∙ sym (or_false _)
 
-  out_of : (xs : List CallId) → filter (λ x. not (hold_is_finished (entries ++ e ∷ []) x)) xs ≡ filter (λ x. not (same_call x (call_of e.event))) (filter (λ x. not (hold_is_finished entries x)) xs)
+  out_of : (xs : List CallId)
+      → filter (λ x. not (hold_is_finished (entries ++ e ∷ []) x)) xs
+      ≡ filter (λ x. not (same_call x (call_of e.event))) (filter (λ x. not (hold_is_finished entries x)) xs)
   out_of [] = refl
   out_of (x ∷ xs) =
       rw (finished_after x, out_of xs)
@@ -94,5 +109,7 @@ module _ {K D : Type 0} (setup : Setup D) (entries : List (Entry K)) (i : ℕ) (
       [ true ↦ refl | false ↦ refl ])
 
   -- the call of an entry that ends its hold leaves the open calls
-  pub queue-leaves : poll_order setup (entries ++ e ∷ []) i ≡ poll_order setup entries i → open_calls setup (entries ++ e ∷ []) i ≡ filter (λ x. not (same_call x (call_of e.event))) (open_calls setup entries i)
+  pub queue-leaves : poll_order setup (entries ++ e ∷ []) i ≡ poll_order setup entries i
+      → open_calls setup (entries ++ e ∷ []) i
+      ≡ filter (λ x. not (same_call x (call_of e.event))) (open_calls setup entries i)
   queue-leaves o = ap (filter (λ x. not (hold_is_finished (entries ++ e ∷ []) x))) o ∙ out_of (poll_order setup entries i)

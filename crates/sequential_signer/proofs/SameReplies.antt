@@ -27,10 +27,15 @@ module _ {K D : Type 0} (policy : Policy K D) (setup : Setup D) (a b : List (Ent
     pub new : is_new_number a (call_of event) ≡ is_new_number b (call_of event)
     pub begin : begin_of a (call_of event) ≡ begin_of b (call_of event)
     pub answers : is_answer event ≡ true → answers_of a (call_of event) ≡ answers_of b (call_of event)
-    pub turn : (i : ℕ) → cache_of setup (call_of event) ≡ Some i → has_turn setup a i (call_of event) ≡ has_turn setup b i (call_of event)
-    pub moment : (i : ℕ) → cache_of setup (call_of event) ≡ Some i → turn_moment setup a i (call_of event) ≡ turn_moment setup b i (call_of event)
-    pub cache : (i : ℕ) → cache_of setup (call_of event) ≡ Some i → sequential_cache policy setup a i ≡ sequential_cache policy setup b i
-    pub wake : (i : ℕ) → cache_of setup (call_of event) ≡ Some i → (r : Reply K) → call_to_wake setup a i (record { event = event; reply = r }) ≡ call_to_wake setup b i (record { event = event; reply = r })
+    pub turn : (i : ℕ) → cache_of setup (call_of event) ≡ Some i
+        → has_turn setup a i (call_of event) ≡ has_turn setup b i (call_of event)
+    pub moment : (i : ℕ) → cache_of setup (call_of event) ≡ Some i
+        → turn_moment setup a i (call_of event) ≡ turn_moment setup b i (call_of event)
+    pub cache : (i : ℕ) → cache_of setup (call_of event) ≡ Some i
+        → sequential_cache policy setup a i ≡ sequential_cache policy setup b i
+    pub wake : (i : ℕ) → cache_of setup (call_of event) ≡ Some i → (r : Reply K)
+        → call_to_wake setup a i (record { event = event; reply = r })
+        ≡ call_to_wake setup b i (record { event = event; reply = r })
 
   event_fits-same : (event : Event K) → ReadsSame event → event_fits setup a event ≡ event_fits setup b event
   event_fits-same (Begin c head expires_in) s = ap (λ v. is_some (cache_of setup c) && v) s.new
@@ -48,13 +53,16 @@ module _ {K D : Type 0} (policy : Policy K D) (setup : Setup D) (a b : List (Ent
     hold_reply-same (Some progress) = waking-same (progress_reply progress)
 
     -- a hold with the same input gets the same reply
-    hold-same : (p q : Option (HoldInput K D)) → p ≡ q → hold_reply setup a i event (progress_at policy setup a i p) ≡ hold_reply setup b i event (progress_at policy setup b i q)
+    hold-same : (p q : Option (HoldInput K D)) → p ≡ q
+        → hold_reply setup a i event (progress_at policy setup a i p)
+        ≡ hold_reply setup b i event (progress_at policy setup b i q)
     hold-same p q same =
         ap (λ cache. hold_reply setup a i event (hold_progress policy cache (slice_get setup.loaders i) p)) (s.cache i at)
         ∙ ap (λ input. hold_reply setup a i event (progress_at policy setup b i input)) same
         ∙ hold_reply-same (progress_at policy setup b i q)
 
-  fitting_reply-same : (event : Event K) → ReadsSame event → (i : ℕ) → cache_of setup (call_of event) ≡ Some i → fitting_reply policy setup a i event ≡ fitting_reply policy setup b i event
+  fitting_reply-same : (event : Event K) → ReadsSame event → (i : ℕ) → cache_of setup (call_of event) ≡ Some i
+      → fitting_reply policy setup a i event ≡ fitting_reply policy setup b i event
   fitting_reply-same (Begin c head expires_in) s i at = refl
   fitting_reply-same (Poll c now) s i at =
       let phase : phase_of a c ≡ phase_of b c = s.phase in
@@ -70,16 +78,19 @@ module _ {K D : Type 0} (policy : Policy K D) (setup : Setup D) (a b : List (Ent
   fitting_reply-same (Signed c (Failed x)) s i at = refl
   fitting_reply-same (Cancel c) s i at = waking-same (Cancel c) s i at (Cancelled None)
 
-  reply_at-same : (event : Event K) → ReadsSame event → (o : Option ℕ) → cache_of setup (call_of event) ≡ o → reply_at policy setup a event o ≡ reply_at policy setup b event o
+  reply_at-same : (event : Event K) → ReadsSame event → (o : Option ℕ) → cache_of setup (call_of event) ≡ o
+      → reply_at policy setup a event o ≡ reply_at policy setup b event o
   reply_at-same event s None at = refl
   reply_at-same event s (Some i) at = rw (event_fits-same event s, fitting_reply-same event s i at) refl
 
   -- an event for which both read the same gets the same reply
-  pub expected_reply-same : (event : Event K) → ReadsSame event → expected_reply policy setup a event ≡ expected_reply policy setup b event
+  pub expected_reply-same : (event : Event K) → ReadsSame event
+      → expected_reply policy setup a event ≡ expected_reply policy setup b event
   unfolding expected_reply
   expected_reply-same event s = reply_at-same event s (cache_of setup (call_of event)) refl
 
-  takes_memory-same : (event : Event K) → ReadsSame event → takes_memory policy setup a event ≡ takes_memory policy setup b event
+  takes_memory-same : (event : Event K) → ReadsSame event
+      → takes_memory policy setup a event ≡ takes_memory policy setup b event
   takes_memory-same (Begin c head expires_in) s = refl
   takes_memory-same (Poll c now) s = ap is_sign (expected_reply-same (Poll c now) s)
   takes_memory-same (Provided c now (answer.Found k)) s = refl
@@ -90,7 +101,8 @@ module _ {K D : Type 0} (policy : Policy K D) (setup : Setup D) (a b : List (Ent
   takes_memory-same (Cancel c) s = refl
 
   -- what is legal after the second is legal after the first
-  pub IsLegalEntry-same : (e : Entry K) → ReadsSame e.event → IsLegalEntry policy setup b e → IsLegalEntry policy setup a e
+  pub IsLegalEntry-same : (e : Entry K) → ReadsSame e.event → IsLegalEntry policy setup b e
+      → IsLegalEntry policy setup a e
   IsLegalEntry-same e s (inl due) = inl (due ∙ sym (expected_reply-same e.event s))
   IsLegalEntry-same e s (inr lost) =
       let takes : allocates policy setup a e.event ≡ allocates policy setup b e.event = rw (event_fits-same e.event s, takes_memory-same e.event s) refl in

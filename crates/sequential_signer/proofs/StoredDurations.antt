@@ -1,4 +1,5 @@
--- How the duration of a begin is stored makes no difference: events that differ in nothing else get the same replies, and leave
+-- How the duration of a begin is stored makes no difference: events that differ in nothing else get the same
+-- replies, and leave
 -- the same caches.
 use Rattle.std.proofs.Common.{◌≡◌, ℕ, not, ◌||◌, nat_lt, List, [], ◌∷◌, ◌++◌, Option, Some, None, find, option_map, option_and_then, refl, sym, ◌∙◌, ap, filter, fold, map, slice_get}
 use Rattle.std.specs.Duration.{as_nanos}
@@ -29,7 +30,8 @@ use Rattle.sequential_signer.proofs.SameReplies.{expected_reply-same}
 
 -- the events differ at most in how the duration of a begin is stored
 pub data AreAlike {K : Type 0} : Event K → Event K → Type 0 where
-  begins : (call : CallId) (head : Head) (a b : Option Duration) → option_map as_nanos a ≡ option_map as_nanos b → AreAlike (Begin call head a) (Begin call head b)
+  begins : (call : CallId) (head : Head) (a b : Option Duration)
+      → option_map as_nanos a ≡ option_map as_nanos b → AreAlike (Begin call head a) (Begin call head b)
   equal : (event : Event K) → AreAlike event event
 
 -- the entries have alike events, and one reply
@@ -81,7 +83,8 @@ abbrev pub AlikeTranscripts : {K : Type 0} → List (Entry K) → List (Entry K)
 AlikeTranscripts a b = Pairwise AlikeEntries a b
 
 -- and stay so by one more entry
-alike-more : {K : Type 0} {a b : List (Entry K)} → AlikeTranscripts a b → (e : Entry K) → AlikeTranscripts (a ++ e ∷ []) (b ++ e ∷ [])
+alike-more : {K : Type 0} {a b : List (Entry K)} → AlikeTranscripts a b → (e : Entry K)
+    → AlikeTranscripts (a ++ e ∷ []) (b ++ e ∷ [])
 alike-more alike e = pairwise-more {x = e} {y = e} alike (record { event = equal e.event; reply = refl })
 
 -- in alike transcripts a call has alike entries: it is as far, began with the same, and got the same answers
@@ -126,20 +129,23 @@ module _ {K : Type 0} {a b : List (Entry K)} (alike : AlikeTranscripts a b) (cal
 
 -- and at a cache the polls came in one order: each call has its turn, and wakes, at the same entries
 module _ {K D : Type 0} (setup : Setup D) (i : ℕ) where
-  poll_order-alike : {a b : List (Entry K)} → AlikeTranscripts a b → poll_order setup a i ≡ poll_order setup b i
+  poll_order-alike : {a b : List (Entry K)} → AlikeTranscripts a b
+      → poll_order setup a i ≡ poll_order setup b i
   unfolding poll_order
   poll_order-alike alike =
       ap first_of_each
       (map-pairwise (λ (e : Entry K). call_of e.event) (λ x y h. call_of-alike h.event)
       (filter-pairwise (is_poll_at setup i) (λ x y h. rw (is_fitting_poll-alike x y h, call_of-alike h.event) refl) alike))
 
-  has_turn-alike : {a b : List (Entry K)} → AlikeTranscripts a b → (call : CallId) → has_turn setup a i call ≡ has_turn setup b i call
+  has_turn-alike : {a b : List (Entry K)} → AlikeTranscripts a b → (call : CallId)
+      → has_turn setup a i call ≡ has_turn setup b i call
   unfolding has_turn
   has_turn-alike {a = a} {b = b} alike call =
       ap (λ order. list_all (hold_is_finished a) (before_call call order)) (poll_order-alike alike)
       ∙ list_all-same (hold_is_finished a) (hold_is_finished b) (hold_is_finished-alike alike) (calls_ahead setup b i call)
 
-  turn_moment-alike : {a b : List (Entry K)} → AlikeTranscripts a b → (call : CallId) → turn_moment setup a i call ≡ turn_moment setup b i call
+  turn_moment-alike : {a b : List (Entry K)} → AlikeTranscripts a b → (call : CallId)
+      → turn_moment setup a i call ≡ turn_moment setup b i call
   unfolding turn_moment
   turn_moment-alike alike call =
       find-pairwise (is_poll_at_turn setup i call)
@@ -147,10 +153,12 @@ module _ {K D : Type 0} (setup : Setup D) (i : ℕ) where
       (option_and_then (λ (p : List (Entry K) × Entry K). poll_moment p.1.event)) (λ p q h. poll_moment-alike h.item.event)
       (each_after-pairwise alike [] [] none)
 
-  hold_input-alike : {a b : List (Entry K)} → AlikeTranscripts a b → (call : CallId) → hold_input {K = K} setup a i call ≡ hold_input setup b i call
+  hold_input-alike : {a b : List (Entry K)} → AlikeTranscripts a b → (call : CallId)
+      → hold_input {K = K} setup a i call ≡ hold_input setup b i call
   hold_input-alike alike call = rw (begin_of-alike alike call, turn_moment-alike alike call, answers_of-alike alike call) refl
 
-  call_to_wake-alike : {a b : List (Entry K)} → AlikeTranscripts a b → (e : Entry K) → call_to_wake setup a i e ≡ call_to_wake setup b i e
+  call_to_wake-alike : {a b : List (Entry K)} → AlikeTranscripts a b → (e : Entry K)
+      → call_to_wake setup a i e ≡ call_to_wake setup b i e
   unfolding call_to_wake
   call_to_wake-alike {a = a} {b = b} alike e =
       ap (find (gets_turn setup a i e)) (poll_order-alike alike)
@@ -158,14 +166,16 @@ module _ {K D : Type 0} (setup : Setup D) (i : ℕ) where
       (λ call. rw (phase_of-alike alike call, has_turn-alike (alike-more alike e) call, has_turn-alike alike call) refl)
       (poll_order setup b i)
 
-  served_calls-alike : {a b : List (Entry K)} → AlikeTranscripts a b → served_calls setup a i ≡ served_calls setup b i
+  served_calls-alike : {a b : List (Entry K)} → AlikeTranscripts a b
+      → served_calls setup a i ≡ served_calls setup b i
   served_calls-alike {a = a} {b = b} alike =
       ap (filter (is_served a)) (poll_order-alike alike)
       ∙ filter-same (is_served a) (is_served b) (is_served-alike alike) (poll_order setup b i)
 
 module _ {K D : Type 0} (policy : Policy K D) (setup : Setup D) where
   -- alike transcripts leave the same caches
-  pub sequential_cache-alike : {a b : List (Entry K)} → AlikeTranscripts a b → (i : ℕ) → sequential_cache policy setup a i ≡ sequential_cache policy setup b i
+  pub sequential_cache-alike : {a b : List (Entry K)} → AlikeTranscripts a b → (i : ℕ)
+      → sequential_cache policy setup a i ≡ sequential_cache policy setup b i
   unfolding sequential_cache
   sequential_cache-alike {a = a} {b = b} alike i =
       ap (fold (λ cache call. cache_after policy (slice_get setup.loaders i) (hold_input setup a i call) cache) None) (served_calls-alike setup i alike)
@@ -177,7 +187,8 @@ module _ {K D : Type 0} (policy : Policy K D) (setup : Setup D) where
       (served_calls setup b i) (list_all-filter (is_served b) (poll_order setup b i)) None
 
   -- an event gets the same reply after alike transcripts
-  expected_reply-after : {a b : List (Entry K)} → AlikeTranscripts a b → (event : Event K) → expected_reply policy setup a event ≡ expected_reply policy setup b event
+  expected_reply-after : {a b : List (Entry K)} → AlikeTranscripts a b → (event : Event K)
+      → expected_reply policy setup a event ≡ expected_reply policy setup b event
   expected_reply-after {a = a} {b = b} alike event =
       expected_reply-same policy setup a b event
       (record {
@@ -192,13 +203,15 @@ module _ {K D : Type 0} (policy : Policy K D) (setup : Setup D) where
       })
 
   -- and alike events get the same reply after one transcript
-  expected_reply-to : (entries : List (Entry K)) {x y : Event K} → AreAlike x y → expected_reply policy setup entries x ≡ expected_reply policy setup entries y
+  expected_reply-to : (entries : List (Entry K)) {x y : Event K} → AreAlike x y
+      → expected_reply policy setup entries x ≡ expected_reply policy setup entries y
   unfolding expected_reply
   expected_reply-to entries (begins _ _ _ _ _) = refl
   expected_reply-to entries (equal _) = refl
 
   -- alike events get the same reply after alike transcripts
-  pub expected_reply-alike : {a b : List (Entry K)} {x y : Event K} → AlikeTranscripts a b → AreAlike x y → expected_reply policy setup a x ≡ expected_reply policy setup b y
+  pub expected_reply-alike : {a b : List (Entry K)} {x y : Event K} → AlikeTranscripts a b → AreAlike x y
+      → expected_reply policy setup a x ≡ expected_reply policy setup b y
   expected_reply-alike {a = a} {y = y} alike h = expected_reply-to a h ∙ expected_reply-after alike y
 
 -- where each event is changed into one that is alike
@@ -209,36 +222,47 @@ module _ {K D : Type 0} (policy : Policy K D) (setup : Setup D) (f : Event K →
   with_events-alike (e ∷ rest) = more (record { event = alike e.event; reply = refl }) (with_events-alike rest)
 
   -- the reply is the same
-  pub expected_reply-with_events : (entries : List (Entry K)) (event : Event K) → expected_reply policy setup (with_events f entries) (f event) ≡ expected_reply policy setup entries event
+  pub expected_reply-with_events : (entries : List (Entry K)) (event : Event K)
+      → expected_reply policy setup (with_events f entries) (f event)
+      ≡ expected_reply policy setup entries event
   expected_reply-with_events entries event = expected_reply-alike policy setup (with_events-alike entries) (alike event)
 
   -- and so is each cache
-  pub sequential_cache-with_events : (entries : List (Entry K)) (i : ℕ) → sequential_cache policy setup (with_events f entries) i ≡ sequential_cache policy setup entries i
+  pub sequential_cache-with_events : (entries : List (Entry K)) (i : ℕ)
+      → sequential_cache policy setup (with_events f entries) i ≡ sequential_cache policy setup entries i
   sequential_cache-with_events entries i = sequential_cache-alike policy setup (with_events-alike entries) i
 
   -- the changed events lead from the changed entries to the changed transcript
-  entries_from : (events : List (Event K)) (entries : List (Entry K)) → fold (with_expected_reply policy setup) (with_events f entries) (map f events) ≡ with_events f (fold (with_expected_reply policy setup) entries events)
+  entries_from : (events : List (Event K)) (entries : List (Entry K))
+      → fold (with_expected_reply policy setup) (with_events f entries) (map f events)
+      ≡ with_events f (fold (with_expected_reply policy setup) entries events)
   entries_from [] entries = refl
   entries_from (event ∷ rest) entries = ap (λ v. fold (with_expected_reply policy setup) v (map f rest)) step ∙ entries_from rest (with_expected_reply policy setup entries event)
     where
-      step : with_expected_reply policy setup (with_events f entries) (f event) ≡ with_events f (with_expected_reply policy setup entries event)
+      step : with_expected_reply policy setup (with_events f entries) (f event)
+          ≡ with_events f (with_expected_reply policy setup entries event)
       step =
           ap (λ v. with_events f entries ++ record { event = f event; reply = v } ∷ []) (expected_reply-with_events entries event)
           ∙ sym (map-append (λ (e : Entry K). let x : Entry K = record { event = f e.event; reply = e.reply } in x) entries (record { event = event; reply = expected_reply policy setup entries event } ∷ []))
 
   -- the changed events make the changed transcript
-  pub expected_entries-with_events : (events : List (Event K)) → expected_entries policy setup (map f events) ≡ with_events f (expected_entries policy setup events)
+  pub expected_entries-with_events : (events : List (Event K))
+      → expected_entries policy setup (map f events) ≡ with_events f (expected_entries policy setup events)
   unfolding expected_entries
   expected_entries-with_events events = entries_from events []
 
   -- after them the reply is the same
-  pub expected_reply-map : (events : List (Event K)) (event : Event K) → expected_reply policy setup (expected_entries policy setup (map f events)) (f event) ≡ expected_reply policy setup (expected_entries policy setup events) event
+  pub expected_reply-map : (events : List (Event K)) (event : Event K)
+      → expected_reply policy setup (expected_entries policy setup (map f events)) (f event)
+      ≡ expected_reply policy setup (expected_entries policy setup events) event
   expected_reply-map events event =
       ap (λ v. expected_reply policy setup v (f event)) (expected_entries-with_events events)
       ∙ expected_reply-with_events (expected_entries policy setup events) event
 
   -- and so is each cache
-  pub sequential_cache-map : (events : List (Event K)) (i : ℕ) → sequential_cache policy setup (expected_entries policy setup (map f events)) i ≡ sequential_cache policy setup (expected_entries policy setup events) i
+  pub sequential_cache-map : (events : List (Event K)) (i : ℕ)
+      → sequential_cache policy setup (expected_entries policy setup (map f events)) i
+      ≡ sequential_cache policy setup (expected_entries policy setup events) i
   sequential_cache-map events i =
       ap (λ v. sequential_cache policy setup v i) (expected_entries-with_events events)
       ∙ sequential_cache-with_events (expected_entries policy setup events) i

@@ -1,4 +1,5 @@
--- How the duration of a granter's begin is stored makes no difference: events that differ in nothing else get the same replies,
+-- How the duration of a granter's begin is stored makes no difference: events that differ in nothing else get
+-- the same replies,
 -- and leave the same sources.
 use Rattle.std.proofs.Common.{◌≡◌, ℕ, List, [], ◌∷◌, ◌++◌, Option, Some, None, option_map, refl, sym, ◌∙◌, ap, fold, map}
 use Rattle.std.specs.Duration.{as_nanos}
@@ -23,7 +24,8 @@ use Rattle.sequential_signer.proofs.StoredDurations.{AreAlike, AlikeTranscripts,
 
 -- the events differ at most in how the duration of a begin is stored
 pub data AreAlikeGrants {K : Type 0} : GrantEvent K → GrantEvent K → Type 0 where
-  begins_so : (call : CallId) (a b : Option Duration) → option_map as_nanos a ≡ option_map as_nanos b → AreAlikeGrants (Begin call a) (Begin call b)
+  begins_so : (call : CallId) (a b : Option Duration) → option_map as_nanos a ≡ option_map as_nanos b
+      → AreAlikeGrants (Begin call a) (Begin call b)
   the_same : (event : GrantEvent K) → AreAlikeGrants event event
 
 -- the entries have alike events, and one reply
@@ -36,7 +38,8 @@ abbrev pub AlikeGrants : {K : Type 0} → List (GrantEntry K) → List (GrantEnt
 AlikeGrants a b = Pairwise AlikeGrantEntries a b
 
 -- the entries, with each event changed by f
-abbrev pub with_grant_events : {K : Type 0} → (GrantEvent K → GrantEvent K) → List (GrantEntry K) → List (GrantEntry K)
+abbrev pub with_grant_events : {K : Type 0} → (GrantEvent K → GrantEvent K) → List (GrantEntry K)
+    → List (GrantEntry K)
 with_grant_events f entries = map (λ e. grant_entry (f e.event) e.reply) entries
 
 module _ {K : Type 0} where
@@ -45,7 +48,8 @@ module _ {K : Type 0} where
   as_event-alike (the_same event) = equal (as_event event)
 
   -- alike transcripts are alike as a signer's
-  as_signer-alike : {a b : List (GrantEntry K)} → AlikeGrants a b → AlikeTranscripts (as_signer a) (as_signer b)
+  as_signer-alike : {a b : List (GrantEntry K)} → AlikeGrants a b
+      → AlikeTranscripts (as_signer a) (as_signer b)
   as_signer-alike none = none
   as_signer-alike (more h rest) = more (record { event = as_event-alike h.event; reply = ap as_reply h.reply }) (as_signer-alike rest)
 
@@ -53,20 +57,23 @@ module _ {K : Type 0} where
   call-alike (begins_so _ _ _ _) = refl
   call-alike (the_same _) = refl
 
-  stored-alike : {a b : GrantEvent K} → AreAlikeGrants a b → (r : GrantReply K) → stored_by a r ≡ stored_by b r
+  stored-alike : {a b : GrantEvent K} → AreAlikeGrants a b → (r : GrantReply K)
+      → stored_by a r ≡ stored_by b r
   stored-alike (begins_so _ _ _ _) r = refl
   stored-alike (the_same _) r = refl
 
 module _ {K D : Type 0} (policy : Policy K D) (setup : Setup D) where
   -- alike transcripts leave the same sources
-  pub grant_source-alike : {a b : List (GrantEntry K)} → AlikeGrants a b → (i : ℕ) → grant_source {K = K} setup a i ≡ grant_source setup b i
+  pub grant_source-alike : {a b : List (GrantEntry K)} → AlikeGrants a b → (i : ℕ)
+      → grant_source {K = K} setup a i ≡ grant_source setup b i
   unfolding grant_source
   grant_source-alike alike i =
       ap last_of
       (filter_map-pairwise (λ (e : GrantEntry K). stored_by e.event e.reply) (λ x y h. stored-alike h.event x.reply ∙ ap (stored_by y.event) h.reply)
       (filter-pairwise (λ (e : GrantEntry K). is_of_cache setup i (grant_call_of e.event)) (λ x y h. ap (is_of_cache setup i) (call-alike h.event)) alike))
 
-  reply_at-alike : {a b : List (GrantEntry K)} → AlikeGrants a b → (event : GrantEvent K) (o : Option ℕ) → grant_reply_at policy setup a event o ≡ grant_reply_at policy setup b event o
+  reply_at-alike : {a b : List (GrantEntry K)} → AlikeGrants a b → (event : GrantEvent K) (o : Option ℕ)
+      → grant_reply_at policy setup a event o ≡ grant_reply_at policy setup b event o
   reply_at-alike alike event None = refl
   reply_at-alike alike (Begin call expires_in) (Some i) = rw (is_new_number-alike (as_signer-alike alike) call) refl
   reply_at-alike alike (Poll call now) (Some i) =
@@ -78,13 +85,15 @@ module _ {K D : Type 0} (policy : Policy K D) (setup : Setup D) where
   reply_at-alike alike (Cancel call) (Some i) = rw (phase_of-alike (as_signer-alike alike) call) refl
 
   -- alike events get the same reply after one transcript
-  reply_to-alike : (entries : List (GrantEntry K)) {x y : GrantEvent K} → AreAlikeGrants x y → expected_grant_reply policy setup entries x ≡ expected_grant_reply policy setup entries y
+  reply_to-alike : (entries : List (GrantEntry K)) {x y : GrantEvent K} → AreAlikeGrants x y
+      → expected_grant_reply policy setup entries x ≡ expected_grant_reply policy setup entries y
   unfolding expected_grant_reply
   reply_to-alike entries (begins_so _ _ _ _) = refl
   reply_to-alike entries (the_same _) = refl
 
   -- and an event gets the same reply after alike transcripts
-  reply_after-alike : {a b : List (GrantEntry K)} → AlikeGrants a b → (event : GrantEvent K) → expected_grant_reply policy setup a event ≡ expected_grant_reply policy setup b event
+  reply_after-alike : {a b : List (GrantEntry K)} → AlikeGrants a b → (event : GrantEvent K)
+      → expected_grant_reply policy setup a event ≡ expected_grant_reply policy setup b event
   unfolding expected_grant_reply
   reply_after-alike alike event = reply_at-alike alike event (cache_of setup (grant_call_of event))
 
@@ -96,34 +105,45 @@ module _ {K D : Type 0} (policy : Policy K D) (setup : Setup D) (f : GrantEvent 
   with_events-alike (e ∷ rest) = more (record { event = alike e.event; reply = refl }) (with_events-alike rest)
 
   -- the reply is the same
-  with_events-reply : (entries : List (GrantEntry K)) (event : GrantEvent K) → expected_grant_reply policy setup (with_grant_events f entries) (f event) ≡ expected_grant_reply policy setup entries event
+  with_events-reply : (entries : List (GrantEntry K)) (event : GrantEvent K)
+      → expected_grant_reply policy setup (with_grant_events f entries) (f event)
+      ≡ expected_grant_reply policy setup entries event
   with_events-reply entries event =
       reply_to-alike policy setup (with_grant_events f entries) (alike event)
       ∙ reply_after-alike policy setup (with_events-alike entries) event
 
   -- the changed events lead from the changed entries to the changed transcript
-  entries_from : (events : List (GrantEvent K)) (entries : List (GrantEntry K)) → fold (with_expected_grant_reply policy setup) (with_grant_events f entries) (map f events) ≡ with_grant_events f (fold (with_expected_grant_reply policy setup) entries events)
+  entries_from : (events : List (GrantEvent K)) (entries : List (GrantEntry K))
+      → fold (with_expected_grant_reply policy setup) (with_grant_events f entries) (map f events)
+      ≡ with_grant_events f (fold (with_expected_grant_reply policy setup) entries events)
   entries_from [] entries = refl
   entries_from (event ∷ rest) entries = ap (λ v. fold (with_expected_grant_reply policy setup) v (map f rest)) step ∙ entries_from rest (with_expected_grant_reply policy setup entries event)
     where
-      step : with_expected_grant_reply policy setup (with_grant_events f entries) (f event) ≡ with_grant_events f (with_expected_grant_reply policy setup entries event)
+      step : with_expected_grant_reply policy setup (with_grant_events f entries) (f event)
+          ≡ with_grant_events f (with_expected_grant_reply policy setup entries event)
       step =
           ap (λ v. with_grant_events f entries ++ grant_entry (f event) v ∷ []) (with_events-reply entries event)
           ∙ sym (map-append (λ (e : GrantEntry K). grant_entry (f e.event) e.reply) entries (grant_entry event (expected_grant_reply policy setup entries event) ∷ []))
 
   -- the changed events make the changed transcript
-  made_entries : (events : List (GrantEvent K)) → expected_grant_entries policy setup (map f events) ≡ with_grant_events f (expected_grant_entries policy setup events)
+  made_entries : (events : List (GrantEvent K))
+      → expected_grant_entries policy setup (map f events)
+      ≡ with_grant_events f (expected_grant_entries policy setup events)
   unfolding expected_grant_entries
   made_entries events = entries_from events []
 
   -- after them the reply is the same
-  pub expected_grant_reply-map : (events : List (GrantEvent K)) (event : GrantEvent K) → expected_grant_reply policy setup (expected_grant_entries policy setup (map f events)) (f event) ≡ expected_grant_reply policy setup (expected_grant_entries policy setup events) event
+  pub expected_grant_reply-map : (events : List (GrantEvent K)) (event : GrantEvent K)
+      → expected_grant_reply policy setup (expected_grant_entries policy setup (map f events)) (f event)
+      ≡ expected_grant_reply policy setup (expected_grant_entries policy setup events) event
   expected_grant_reply-map events event =
       ap (λ v. expected_grant_reply policy setup v (f event)) (made_entries events)
       ∙ with_events-reply (expected_grant_entries policy setup events) event
 
   -- and so is each source
-  pub grant_source-map : (events : List (GrantEvent K)) (i : ℕ) → grant_source setup (expected_grant_entries policy setup (map f events)) i ≡ grant_source setup (expected_grant_entries policy setup events) i
+  pub grant_source-map : (events : List (GrantEvent K)) (i : ℕ)
+      → grant_source setup (expected_grant_entries policy setup (map f events)) i
+      ≡ grant_source setup (expected_grant_entries policy setup events) i
   grant_source-map events i =
       ap (λ v. grant_source setup v i) (made_entries events)
       ∙ grant_source-alike policy setup (with_events-alike (expected_grant_entries policy setup events)) i

@@ -21,7 +21,8 @@ use Rattle.sequential_signer.proofs.CacheLaw.{order_of_cache, order_once, is_num
 use Rattle.sequential_signer.proofs.Queue.{after_first, queue-leaves, has_turn-polled, has_nobody, all-finished}
 
 -- tests that agree on the calls of a list find the same in it
-find-agree : (p q : CallId → Bool) (xs : List CallId) → ((b : CallId) → list_any (same_call b) xs ≡ true → p b ≡ q b) → find p xs ≡ find q xs
+find-agree : (p q : CallId → Bool) (xs : List CallId)
+    → ((b : CallId) → list_any (same_call b) xs ≡ true → p b ≡ q b) → find p xs ≡ find q xs
 find-agree p q [] h = refl
 find-agree p q (x ∷ xs) h =
     let here : p x ≡ q x = h x (ap (λ v. v || list_any (same_call x) xs) (same_call-refl x)) in
@@ -32,31 +33,43 @@ find_never : (xs : List CallId) → find (λ (b : CallId). false) xs ≡ None
 find_never [] = refl
 find_never (x ∷ xs) = find_never xs
 
-find-none : (p : CallId → Bool) (xs : List CallId) → ((b : CallId) → list_any (same_call b) xs ≡ true → p b ≡ false) → find p xs ≡ None
+find-none : (p : CallId → Bool) (xs : List CallId)
+    → ((b : CallId) → list_any (same_call b) xs ≡ true → p b ≡ false) → find p xs ≡ None
 find-none p xs h = find-agree p (λ _. false) xs h ∙ find_never xs
 
-find_step : (h x : CallId) (xs : List CallId) → (s : Bool) → same_call h x ≡ s → (s || list_any (same_call h) xs) ≡ true → (list_any (same_call h) xs ≡ true → find (λ b. same_call b h) xs ≡ Some h) → find (λ b. same_call b h) (x ∷ xs) ≡ Some h
+find_step : (h x : CallId) (xs : List CallId) → (s : Bool) → same_call h x ≡ s
+    → (s || list_any (same_call h) xs) ≡ true
+    → (list_any (same_call h) xs ≡ true → find (λ b. same_call b h) xs ≡ Some h)
+    → find (λ b. same_call b h) (x ∷ xs) ≡ Some h
 find_step h x xs true s m rest = let e : same_call x h ≡ true = same_call-comm x h ∙ s in rw e (ap Some (sym (same_call-eq h x s)))
 find_step h x xs false s m rest = let e : same_call x h ≡ false = same_call-comm x h ∙ s in rw e (rest m)
 
-find_call_itself : (h : CallId) (xs : List CallId) → list_any (same_call h) xs ≡ true → find (λ b. same_call b h) xs ≡ Some h
+find_call_itself : (h : CallId) (xs : List CallId) → list_any (same_call h) xs ≡ true
+    → find (λ b. same_call b h) xs ≡ Some h
 find_call_itself h [] m = cc
 find_call_itself h (x ∷ xs) m = find_step h x xs (same_call h x) refl m (λ k. find_call_itself h xs k)
 
 -- a test that only the first call of another list passes finds that call
-find_first : (ys xs : List CallId) → ((h : CallId) → is_first h ys ≡ true → list_any (same_call h) xs ≡ true) → find (λ b. is_first b ys) xs ≡ first_of ys
+find_first : (ys xs : List CallId) → ((h : CallId) → is_first h ys ≡ true → list_any (same_call h) xs ≡ true)
+    → find (λ b. is_first b ys) xs ≡ first_of ys
 find_first [] xs h = find_never xs
 find_first (y ∷ ys) xs h = find_call_itself y xs (h y (same_call-refl y))
 
-member-filter : (q : CallId → Bool) (b : CallId) (xs : List CallId) → list_any (same_call b) (filter q xs) ≡ true → (list_any (same_call b) xs ≡ true) × (q b ≡ true)
+member-filter : (q : CallId → Bool) (b : CallId) (xs : List CallId)
+    → list_any (same_call b) (filter q xs) ≡ true → (list_any (same_call b) xs ≡ true) × (q b ≡ true)
 member-filter q b [] m = absurd (cc)
 member-filter q b (x ∷ xs) m = by_test (q x) refl m (λ k. member-filter q b xs k)
   where
-    by_place : (s : Bool) → same_call b x ≡ s → q x ≡ true → (s || list_any (same_call b) (filter q xs)) ≡ true → (list_any (same_call b) (filter q xs) ≡ true → (list_any (same_call b) xs ≡ true) × (q b ≡ true)) → ((same_call b x || list_any (same_call b) xs) ≡ true) × (q b ≡ true)
+    by_place : (s : Bool) → same_call b x ≡ s → q x ≡ true
+        → (s || list_any (same_call b) (filter q xs)) ≡ true
+        → (list_any (same_call b) (filter q xs) ≡ true → (list_any (same_call b) xs ≡ true) × (q b ≡ true))
+        → ((same_call b x || list_any (same_call b) xs) ≡ true) × (q b ≡ true)
     by_place true s t m rest = (ap (λ v. v || list_any (same_call b) xs) s, ap q (same_call-eq b x s) ∙ t)
     by_place false s t m rest = let r = rest m in (ap (λ v. same_call b x || v) r.0 ∙ or_true _, r.1)
 
-    by_test : (t : Bool) → q x ≡ t → list_any (same_call b) (cond t (x ∷ filter q xs) (filter q xs)) ≡ true → (list_any (same_call b) (filter q xs) ≡ true → (list_any (same_call b) xs ≡ true) × (q b ≡ true)) → ((same_call b x || list_any (same_call b) xs) ≡ true) × (q b ≡ true)
+    by_test : (t : Bool) → q x ≡ t → list_any (same_call b) (cond t (x ∷ filter q xs) (filter q xs)) ≡ true
+        → (list_any (same_call b) (filter q xs) ≡ true → (list_any (same_call b) xs ≡ true) × (q b ≡ true))
+        → ((same_call b x || list_any (same_call b) xs) ≡ true) × (q b ≡ true)
     by_test true t m rest = by_place (same_call b x) refl t m rest
     by_test false t m rest = let r = rest m in (ap (λ v. same_call b x || v) r.0 ∙ or_true _, r.1)
 
@@ -64,7 +77,8 @@ first_member : (b : CallId) (xs : List CallId) → is_first b xs ≡ true → li
 first_member b [] h = h
 first_member b (x ∷ xs) h = ap (λ v. v || list_any (same_call b) xs) h
 
-later_member : (a b : CallId) (xs : List CallId) → list_any (same_call b) (after_first a xs) ≡ true → list_any (same_call b) xs ≡ true
+later_member : (a b : CallId) (xs : List CallId) → list_any (same_call b) (after_first a xs) ≡ true
+    → list_any (same_call b) xs ≡ true
 later_member a b [] h = h
 later_member a b (x ∷ xs) h =
     (elim (same_call a x) as (λ v. list_any (same_call b) (cond v xs []) ≡ true → (same_call b x || list_any (same_call b) xs) ≡ true)
@@ -72,10 +86,12 @@ later_member a b (x ∷ xs) h =
 
 module _ {K D : Type 0} (policy : Policy K D) (setup : Setup D) (entries : List (Entry K)) (run : IsRun policy setup entries) (i : ℕ) where
   -- a call that was polled at the cache stands as its phase says
-  polled_stands : (b : CallId) → is_polled setup entries i b ≡ true → CallInvariant setup entries i b (phase_of entries b)
+  polled_stands : (b : CallId) → is_polled setup entries i b ≡ true
+      → CallInvariant setup entries i b (phase_of entries b)
   polled_stands b m = stands policy setup entries run b i (is_number-eq i (cache_of setup b) (list_all-member (is_of_cache setup i) b (poll_order setup entries i) (order_of_cache setup entries i) m))
 
-  finished_unqueued : (b : CallId) (p : Phase) → hold_is_finished entries b ≡ true → CallInvariant setup entries i b p → is_queued p ≡ false
+  finished_unqueued : (b : CallId) (p : Phase) → hold_is_finished entries b ≡ true
+      → CallInvariant setup entries i b p → is_queued p ≡ false
   finished_unqueued b Queued f (queued_call x _) = let u = x.unfinished in cc
   finished_unqueued b Unknown f s = refl
   finished_unqueued b Unpolled f s = refl
@@ -84,7 +100,8 @@ module _ {K D : Type 0} (policy : Policy K D) (setup : Setup D) (entries : List 
   finished_unqueued b Ended f s = refl
 
   -- a finished hold is not queued, so it gets no turn
-  finished_gets_no_turn : (e : Entry K) (b : CallId) → is_polled setup entries i b ≡ true → hold_is_finished entries b ≡ true → gets_turn setup entries i e b ≡ false
+  finished_gets_no_turn : (e : Entry K) (b : CallId) → is_polled setup entries i b ≡ true
+      → hold_is_finished entries b ≡ true → gets_turn setup entries i e b ≡ false
   finished_gets_no_turn e b m f =
       let unqueued : is_queued (phase_of entries b) ≡ false = finished_unqueued b (phase_of entries b) f (polled_stands b m) in
       rw unqueued (and_false_and (not (same_call (call_of e.event) b)) (has_turn setup (entries ++ e ∷ []) i b && not (has_turn setup entries i b)))
@@ -92,7 +109,9 @@ module _ {K D : Type 0} (policy : Policy K D) (setup : Setup D) (entries : List 
 module _ {K D : Type 0} (policy : Policy K D) (setup : Setup D) (entries : List (Entry K)) (run : IsRun policy setup entries) (i : ℕ) (e : Entry K)
     (ends : ends_hold e.reply ≡ true) (order : poll_order setup (entries ++ e ∷ []) i ≡ poll_order setup entries i) where
   -- an open hold of a call that was polled and does not hold is queued
-  open_is_queued : (b : CallId) (p : Phase) → phase_of entries b ≡ p → is_polled setup entries i b ≡ true → hold_is_finished entries b ≡ false → has_turn setup entries i b ≡ false → CallInvariant setup entries i b p → is_queued p ≡ true
+  open_is_queued : (b : CallId) (p : Phase) → phase_of entries b ≡ p → is_polled setup entries i b ≡ true
+      → hold_is_finished entries b ≡ false → has_turn setup entries i b ≡ false
+      → CallInvariant setup entries i b p → is_queued p ≡ true
   open_is_queued b Unknown h m o t (unknown_call x) = let u = x.unpolled in cc
   open_is_queued b Unpolled h m o t (unpolled_call x _ u) = cc
   open_is_queued b Queued h m o t s = refl
@@ -116,12 +135,16 @@ module _ {K D : Type 0} (policy : Policy K D) (setup : Setup D) (entries : List 
           let n : list_any (same_call a) rest ≡ false = subst (λ y. list_any (same_call y) rest ≡ false) (sym (same_call-eq a x s)) o.0 in cc
 
   -- of an open hold of another call: it gets its turn exactly where it stands after the holder
-  open_by : (a b : CallId) → same_call a b ≡ false → (q : List CallId) → IsOnce q → (queued : Bool) → (is_first b q ≡ false → queued ≡ true)
-      → (queued && (is_first b (filter (λ x. not (same_call x a)) q) && not (is_first b q))) ≡ is_first b (after_first a q)
+  open_by : (a b : CallId) → same_call a b ≡ false → (q : List CallId) → IsOnce q → (queued : Bool)
+      → (is_first b q ≡ false → queued ≡ true)
+      → (queued && (is_first b (filter (λ x. not (same_call x a)) q) && not (is_first b q)))
+      ≡ is_first b (after_first a q)
   open_by a b d [] o queued w = and_false queued
   open_by a b d (x ∷ rest) o queued w = by_place (same_call a x) refl
     where
-      by_place : (s : Bool) → same_call a x ≡ s → (queued && (is_first b (filter (λ y. not (same_call y a)) (x ∷ rest)) && not (same_call b x))) ≡ is_first b (if same_call a x then rest else [])
+      by_place : (s : Bool) → same_call a x ≡ s
+          → (queued && (is_first b (filter (λ y. not (same_call y a)) (x ∷ rest)) && not (same_call b x)))
+          ≡ is_first b (if same_call a x then rest else [])
       by_place true s =
           let same : a ≡ x = same_call-eq a x s in
           let xa : same_call x a ≡ true = same_call-comm x a ∙ s in
@@ -134,8 +157,10 @@ module _ {K D : Type 0} (policy : Policy K D) (setup : Setup D) (entries : List 
           let xa : same_call x a ≡ false = same_call-comm x a ∙ s in
           rw (s, xa, and_not (same_call b x)) (and_false queued)
 
-  gets_by : (b : CallId) → is_polled setup entries i b ≡ true → (f : Bool) → hold_is_finished entries b ≡ f → (s : Bool) → same_call (call_of e.event) b ≡ s
-      → gets_turn setup entries i e b ≡ is_first b (after_first (call_of e.event) (open_calls setup entries i))
+  gets_by : (b : CallId) → is_polled setup entries i b ≡ true → (f : Bool) → hold_is_finished entries b ≡ f
+      → (s : Bool) → same_call (call_of e.event) b ≡ s
+      → gets_turn setup entries i e b
+      ≡ is_first b (after_first (call_of e.event) (open_calls setup entries i))
   gets_by b m true f s _ =
       let none : is_first b (after_first (call_of e.event) (open_calls setup entries i)) ≡ false =
       false_by (is_first b (after_first (call_of e.event) (open_calls setup entries i)))
@@ -158,7 +183,8 @@ module _ {K D : Type 0} (policy : Policy K D) (setup : Setup D) (entries : List 
       (λ n. open_is_queued b (phase_of entries b) refl m f (before ∙ n) (polled_stands policy setup entries run i b m)))
 
   -- the call to wake is the one that stands after the holder
-  pub wakes : call_to_wake setup entries i e ≡ first_of (after_first (call_of e.event) (open_calls setup entries i))
+  pub wakes : call_to_wake setup entries i e
+      ≡ first_of (after_first (call_of e.event) (open_calls setup entries i))
   unfolding call_to_wake
   wakes =
       find-agree (gets_turn setup entries i e) (λ b. is_first b (after_first (call_of e.event) (open_calls setup entries i))) (poll_order setup entries i) (λ b m. gets_by b m (hold_is_finished entries b) refl (same_call (call_of e.event) b) refl)
@@ -171,7 +197,8 @@ module _ {K D : Type 0} (policy : Policy K D) (setup : Setup D) (entries : List 
   unfolding call_to_wake
   wakes-nobody h = find-none (gets_turn setup entries i e) (poll_order setup entries i) (λ b m. none b m)
     where
-      none : (b : CallId) → list_any (same_call b) (poll_order setup entries i) ≡ true → gets_turn setup entries i e b ≡ false
+      none : (b : CallId) → list_any (same_call b) (poll_order setup entries i) ≡ true
+          → gets_turn setup entries i e b ≡ false
       none b m =
           finished_gets_no_turn policy setup entries run i e b m
           (list_all-member (hold_is_finished entries) b (poll_order setup entries i) (all-finished (hold_is_finished entries) (poll_order setup entries i) ∙ h) m)

@@ -33,7 +33,8 @@ use Rattle.sequential_signer.proofs.ExpectedReplies.{legal_before, legal_last}
 use Rattle.sequential_signer.proofs.HandOver.{queued_is_in_queue}
 use Rattle.sequential_signer.proofs.Wakings.{expected_names_turn, expected_names_queued}
 
--- how often a call in this phase was woken: while it is queued, once where it has its turn, and before not at all
+-- how often a call in this phase was woken: while it is queued, once where it has its turn, and before not at
+-- all
 abbrev pub WokenSoFar : Phase → Bool → ℕ → Type 0
 WokenSoFar Unknown turn times = times ≡ 0
 WokenSoFar Unpolled turn times = times ≡ 0
@@ -43,19 +44,23 @@ WokenSoFar Signing turn times = Unit {0}
 WokenSoFar Ended turn times = Unit {0}
 
 module _ {K : Type 0} (entries : List (Entry K)) (e : Entry K) (call : CallId) where
-  woken-more : is_call call (wake_of e.reply) ≡ true → times_woken (entries ++ e ∷ []) call ≡ times_woken entries call + 1
+  woken-more : is_call call (wake_of e.reply) ≡ true
+      → times_woken (entries ++ e ∷ []) call ≡ times_woken entries call + 1
   woken-more h =
       ap length (filter-more_yes (λ (x : Entry K). is_call call (wake_of x.reply)) entries e h)
       ∙ length-append (filter (λ (x : Entry K). is_call call (wake_of x.reply)) entries) (e ∷ [])
 
-  woken-same : is_call call (wake_of e.reply) ≡ false → times_woken (entries ++ e ∷ []) call ≡ times_woken entries call
+  woken-same : is_call call (wake_of e.reply) ≡ false
+      → times_woken (entries ++ e ∷ []) call ≡ times_woken entries call
   woken-same h = ap length (filter-more_no (λ (x : Entry K). is_call call (wake_of x.reply)) entries e h)
 
 plus_none : (n m : ℕ) → n ≡ m → n + 0 ≡ m
 plus_none n m h = omega arith
 
 -- another call's entry: the call is woken where it gets its turn
-other_woken : (p : Phase) (was now : Bool) (times : ℕ) → (is_queued p ≡ true → was ≡ true → now ≡ true) → WokenSoFar p was times → (wakes : Bool) → (is_queued p && (now && not was)) ≡ wakes → WokenSoFar p now (times + cond wakes 1 0)
+other_woken : (p : Phase) (was now : Bool) (times : ℕ) → (is_queued p ≡ true → was ≡ true → now ≡ true)
+    → WokenSoFar p was times → (wakes : Bool) → (is_queued p && (now && not was)) ≡ wakes
+    → WokenSoFar p now (times + cond wakes 1 0)
 other_woken Unknown was now times m w false h = plus_none times 0 w
 other_woken Unknown was now times m w true h = absurd (cc)
 other_woken Unpolled was now times m w false h = plus_none times 0 w
@@ -80,7 +85,8 @@ waiting_unwoken Loading times h w = cc
 waiting_unwoken Signing times h w = cc
 waiting_unwoken Ended times h w = cc
 
-queued_unwoken : (p : Phase) (times : ℕ) → is_waiting p ≡ true → times ≡ 0 → WokenSoFar (to_queued p) false times
+queued_unwoken : (p : Phase) (times : ℕ) → is_waiting p ≡ true → times ≡ 0
+    → WokenSoFar (to_queued p) false times
 queued_unwoken Unpolled times h n = n
 queued_unwoken Queued times h n = n
 queued_unwoken Unknown times h n = absurd (cc)
@@ -102,7 +108,8 @@ module _ {K D : Type 0} (policy : Policy K D) (setup : Setup D) where
   IsWokenSoFar entries i call = WokenSoFar (phase_of entries call) (has_turn setup entries i call) (times_woken entries call)
 
   -- a call that was never begun is unknown
-  pub unbegun_unknown : (entries : List (Entry K)) (i : ℕ) (call : CallId) (p : Phase) → begin_of entries call ≡ None → CallInvariant setup entries i call p → p ≡ Unknown
+  pub unbegun_unknown : (entries : List (Entry K)) (i : ℕ) (call : CallId) (p : Phase)
+      → begin_of entries call ≡ None → CallInvariant setup entries i call p → p ≡ Unknown
   unbegun_unknown entries i call Unknown n s = refl
   unbegun_unknown entries i call Unpolled n (unpolled_call w _ _) = let h = w.begun in absurd (cc)
   unbegun_unknown entries i call Queued n (queued_call w _) = let h = w.begun in absurd (cc)
@@ -113,7 +120,8 @@ module _ {K D : Type 0} (policy : Policy K D) (setup : Setup D) where
 
   module _ (entries : List (Entry K)) (run : IsRun policy setup entries) (i : ℕ) where
     -- an entry of the call itself that ends no hold leaves its turn
-    own_turn_same : (e : Entry K) → ends_hold e.reply ≡ false → has_turn setup (entries ++ e ∷ []) i (call_of e.event) ≡ has_turn setup entries i (call_of e.event)
+    own_turn_same : (e : Entry K) → ends_hold e.reply ≡ false
+        → has_turn setup (entries ++ e ∷ []) i (call_of e.event) ≡ has_turn setup entries i (call_of e.event)
     unfolding has_turn
     own_turn_same e f =
         ap (list_all (hold_is_finished (entries ++ e ∷ []))) (calls_ahead-own setup entries i e)
@@ -127,14 +135,18 @@ module _ {K D : Type 0} (policy : Policy K D) (setup : Setup D) where
     begun_unwoken Signing turn times h w = cc
     begun_unwoken Ended turn times h w = cc
 
-    unpolled_or_queued : (b turn : Bool) (times : ℕ) → b ≡ false → times ≡ 0 → WokenSoFar (cond b Queued Unpolled) turn times
+    unpolled_or_queued : (b turn : Bool) (times : ℕ) → b ≡ false → times ≡ 0
+        → WokenSoFar (cond b Queued Unpolled) turn times
     unpolled_or_queued false turn times h n = n
     unpolled_or_queued true turn times h n = absurd (cc)
 
     -- an entry of the call itself
-    own_woken : (event : Event K) (reply : Reply K) → LegalStep policy setup entries event reply → cache_of setup (call_of event) ≡ Some i
-        → times_woken (entries ++ record { event = event; reply = reply } ∷ []) (call_of event) ≡ times_woken entries (call_of event)
-        → IsWokenSoFar entries i (call_of event) → IsWokenSoFar (entries ++ record { event = event; reply = reply } ∷ []) i (call_of event)
+    own_woken : (event : Event K) (reply : Reply K) → LegalStep policy setup entries event reply
+        → cache_of setup (call_of event) ≡ Some i
+        → times_woken (entries ++ record { event = event; reply = reply } ∷ []) (call_of event)
+        ≡ times_woken entries (call_of event)
+        → IsWokenSoFar entries i (call_of event)
+        → IsWokenSoFar (entries ++ record { event = event; reply = reply } ∷ []) i (call_of event)
     own_woken event reply (not_now e) at n w =
         rw (refused_phase setup entries i e (call_of e) (same_call-refl (call_of e)), own_turn_same (record { event = e; reply = NotNow }) refl, n) w
     own_woken event reply (begins call head expires_in j atj new) at n w =
@@ -163,8 +175,10 @@ module _ {K D : Type 0} (policy : Policy K D) (setup : Setup D) where
     own_woken event reply (cancels call wake l) at n w = rw (phase-own_mark setup entries i (record { event = event; reply = reply }) call (same_call-refl call) refl) tt
 
     -- an entry with the expected reply
-    woken_step : (event : Event K) (call : CallId) → cache_of setup call ≡ Some i → IsWokenSoFar entries i call
-        → (s : Bool) → same_call call (call_of event) ≡ s → IsWokenSoFar (entries ++ record { event = event; reply = expected_reply policy setup entries event } ∷ []) i call
+    woken_step : (event : Event K) (call : CallId) → cache_of setup call ≡ Some i
+        → IsWokenSoFar entries i call → (s : Bool) → same_call call (call_of event) ≡ s
+        → IsWokenSoFar
+        (entries ++ record { event = event; reply = expected_reply policy setup entries event } ∷ []) i call
     woken_step event call at w true s =
         let e : Entry K = record { event = event; reply = expected_reply policy setup entries event } in
         let same : call_of event ≡ call = sym (same_call-eq call (call_of event) s) in
@@ -180,16 +194,28 @@ module _ {K D : Type 0} (policy : Policy K D) (setup : Setup D) where
         rw (phase-other setup entries i e call s)
         (by_name (is_call call (wake_of (expected_reply policy setup entries event))) refl)
       where
-        keeps : is_queued (phase_of entries call) ≡ true → has_turn setup entries i call ≡ true → has_turn setup (entries ++ record { event = event; reply = expected_reply policy setup entries event } ∷ []) i call ≡ true
+        keeps : is_queued (phase_of entries call) ≡ true → has_turn setup entries i call ≡ true
+            → has_turn setup
+            (entries ++ record { event = event; reply = expected_reply policy setup entries event } ∷ []) i
+            call
+            ≡ true
         keeps q t = has_turn-more setup entries i (record { event = event; reply = expected_reply policy setup entries event }) call (queued_is_in_queue policy setup entries run call i at q).polled t
 
-        counted : (b : Bool) → is_call call (wake_of (expected_reply policy setup entries event)) ≡ b → times_woken (entries ++ record { event = event; reply = expected_reply policy setup entries event } ∷ []) call ≡ times_woken entries call + cond b 1 0
+        counted : (b : Bool) → is_call call (wake_of (expected_reply policy setup entries event)) ≡ b
+            → times_woken
+            (entries ++ record { event = event; reply = expected_reply policy setup entries event } ∷ []) call
+            ≡ times_woken entries call + cond b 1 0
         counted true h = woken-more entries (record { event = event; reply = expected_reply policy setup entries event }) call h
         counted false h =
             woken-same entries (record { event = event; reply = expected_reply policy setup entries event }) call h
             ∙ sym (plus_none (times_woken entries call) (times_woken entries call) refl)
 
-        by_name : (b : Bool) → is_call call (wake_of (expected_reply policy setup entries event)) ≡ b → WokenSoFar (phase_of entries call) (has_turn setup (entries ++ record { event = event; reply = expected_reply policy setup entries event } ∷ []) i call) (times_woken (entries ++ record { event = event; reply = expected_reply policy setup entries event } ∷ []) call)
+        by_name : (b : Bool) → is_call call (wake_of (expected_reply policy setup entries event)) ≡ b
+            → WokenSoFar (phase_of entries call)
+            (has_turn setup (entries
+            ++ record { event = event; reply = expected_reply policy setup entries event } ∷ []) i call)
+            (times_woken (entries
+            ++ record { event = event; reply = expected_reply policy setup entries event } ∷ []) call)
         by_name b h =
             rw (counted b h)
             (other_woken (phase_of entries call) (has_turn setup entries i call) (has_turn setup (entries ++ record { event = event; reply = expected_reply policy setup entries event } ∷ []) i call) (times_woken entries call) keeps w b
@@ -206,7 +232,8 @@ module _ {K D : Type 0} (policy : Policy K D) (setup : Setup D) where
     pub woken : IsWokenSoFar entries i call
 
   -- the committed entries of a legal transcript woke a call as often as its phase says
-  legal_woken : (entries : List (Entry K)) → IsLegal policy setup entries → (call : CallId) (i : ℕ) → cache_of setup call ≡ Some i → IsWokenSoFar (committed_entries entries) i call
+  legal_woken : (entries : List (Entry K)) → IsLegal policy setup entries → (call : CallId) (i : ℕ)
+      → cache_of setup call ≡ Some i → IsWokenSoFar (committed_entries entries) i call
   legal_woken entries l call i at =
       (legal_keeps policy setup (IsWokenRun call i)
       (λ before event w. record {
@@ -216,19 +243,22 @@ module _ {K D : Type 0} (policy : Policy K D) (setup : Setup D) where
       (record { run = start; woken = start_woken i call }) entries l).woken
 
 -- an entry that ran out of memory wakes nobody
-lost_names_nobody : {K : Type 0} (call : CallId) (r : Reply K) → is_call call (wake_of r) ≡ true → not (is_out_of_memory r) ≡ true
+lost_names_nobody : {K : Type 0} (call : CallId) (r : Reply K) → is_call call (wake_of r) ≡ true
+    → not (is_out_of_memory r) ≡ true
 lost_names_nobody {K = K} call r h = by_memory (is_out_of_memory r) refl
   where
     by_memory : (m : Bool) → is_out_of_memory r ≡ m → not m ≡ true
     by_memory false m = refl
     by_memory true m = let none : is_call call (wake_of r) ≡ false = ap (λ (x : Reply K). is_call call (wake_of x)) (out_of_memory-is r m) in cc
 
-times_woken-committed_entries : {K : Type 0} (entries : List (Entry K)) (call : CallId) → times_woken (committed_entries entries) call ≡ times_woken entries call
+times_woken-committed_entries : {K : Type 0} (entries : List (Entry K)) (call : CallId)
+    → times_woken (committed_entries entries) call ≡ times_woken entries call
 unfolding committed_entries
 times_woken-committed_entries {K = K} entries call =
     ap length (filter-within (λ (e : Entry K). is_call call (wake_of e.reply)) (λ (e : Entry K). not (is_out_of_memory e.reply)) (λ e h. lost_names_nobody call e.reply h) entries)
 
-once_by : (p : Phase) (turn : Bool) (times : ℕ) → is_queued p ≡ true → turn ≡ true → WokenSoFar p turn times → times ≡ 1
+once_by : (p : Phase) (turn : Bool) (times : ℕ) → is_queued p ≡ true → turn ≡ true → WokenSoFar p turn times
+    → times ≡ 1
 once_by Queued true times q t w = w
 once_by Queued false times q t w = cc
 once_by Unknown turn times q t w = cc
@@ -243,8 +273,9 @@ queued_at_turn_was_woken_once K D policy setup entries call i l at q t =
     sym (times_woken-committed_entries entries call)
     ∙ once_by (phase_of (committed_entries entries) call) (has_turn setup (committed_entries entries) i call) (times_woken (committed_entries entries) call) q t (legal_woken policy setup entries l call i at)
 
-only_queued_by : {K D : Type 0} (policy : Policy K D) (setup : Setup D) (before : List (Entry K)) → IsRun policy setup before → (entry : Entry K) (call : CallId)
-    → IsLegalEntry policy setup before entry → wake_of entry.reply ≡ Some call → is_queued (phase_of before call) ≡ true
+only_queued_by : {K D : Type 0} (policy : Policy K D) (setup : Setup D) (before : List (Entry K))
+    → IsRun policy setup before → (entry : Entry K) (call : CallId) → IsLegalEntry policy setup before entry
+    → wake_of entry.reply ≡ Some call → is_queued (phase_of before call) ≡ true
 only_queued_by policy setup before run entry call (inl due) h = expected_names_queued policy setup before run entry.event call (ap wake_of (sym due) ∙ h)
 only_queued_by policy setup before run entry call (inr lost) h = let none : wake_of entry.reply ≡ None = ap wake_of lost.0 in cc
 

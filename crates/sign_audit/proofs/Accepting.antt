@@ -49,18 +49,22 @@ use Rattle.sign_audit.proofs.LinesAfter.{lines-stay, stage_in, lines-after}
 use Rattle.sign_audit.proofs.Phases.{phase-kept}
 
 -- the change before a step and the change after it are the whole change
-pub lines-both : (change : LineChange) (call : CallId) (i : ℕ) (lines : List (List CallId)) → changed_lines (change_after change) i call (changed_lines (change_before change) i call lines) ≡ changed_lines change i call lines
+pub lines-both : (change : LineChange) (call : CallId) (i : ℕ) (lines : List (List CallId))
+    → changed_lines (change_after change) i call (changed_lines (change_before change) i call lines)
+    ≡ changed_lines change i call lines
 lines-both Enters call i lines = lines-stay call i (changed_lines Enters i call lines)
 lines-both Leaves call i lines = ap (changed_lines Leaves i call) (lines-stay call i lines)
 lines-both Stays call i lines = lines-stay call i (changed_lines Stays i call lines)
 
 -- where nobody comes, nothing is done before a step
-pub lines-before : (change : LineChange) (call : CallId) (i : ℕ) (lines : List (List CallId)) → (change ≡ Enters → ⊥) → changed_lines (change_before change) i call lines ≡ lines
+pub lines-before : (change : LineChange) (call : CallId) (i : ℕ) (lines : List (List CallId))
+    → (change ≡ Enters → ⊥) → changed_lines (change_before change) i call lines ≡ lines
 lines-before Enters call i lines h = absurd (h refl)
 lines-before Leaves call i lines h = lines-stay call i lines
 lines-before Stays call i lines h = lines-stay call i lines
 
-stays_may : {K : Type 0} (reply : Reply K) (call : CallId) (line : List CallId) → MayCome (later_change reply) call line
+stays_may : {K : Type 0} (reply : Reply K) (call : CallId) (line : List CallId)
+    → MayCome (later_change reply) call line
 stays_may Begun call line = tt
 stays_may Pending call line = tt
 stays_may NotNow call line = tt
@@ -71,7 +75,8 @@ stays_may (Refused y w) call line = tt
 stays_may (Done h) call line = tt
 stays_may (Cancelled w) call line = tt
 
-first_may : {K : Type 0} (reply : Reply K) (call : CallId) (line : List CallId) → is_among call line ≡ false → MayCome (first_change reply) call line
+first_may : {K : Type 0} (reply : Reply K) (call : CallId) (line : List CallId) → is_among call line ≡ false
+    → MayCome (first_change reply) call line
 first_may Begun call line out = tt
 first_may Pending call line out = out
 first_may NotNow call line out = tt
@@ -82,13 +87,15 @@ first_may (Refused y w) call line out = tt
 first_may (Done h) call line out = tt
 first_may (Cancelled w) call line out = tt
 
-outside_line : (call : CallId) (o : Option Queue) → IfSome o (MayEnter call) → is_among call (queue_line o) ≡ false
+outside_line : (call : CallId) (o : Option Queue) → IfSome o (MayEnter call)
+    → is_among call (queue_line o) ≡ false
 outside_line call None may = refl
 outside_line call (Some q) may = may.outside
 
 module _ {K D : Type 0} (policy : Policy K D) (old : DeskState K D) where
   -- an event of no handle does nothing
-  unset-leaves : (event : Event K) → slice_get old.handles (call_of event).handle ≡ None → action_of policy old event ≡ LeavesAction NotNow
+  unset-leaves : (event : Event K) → slice_get old.handles (call_of event).handle ≡ None
+      → action_of policy old event ≡ LeavesAction NotNow
   unset-leaves (Begin call head expires_in) unset = rw unset refl
   unset-leaves (Poll call now) unset = ap (live_action _) (find_view-no_handle old call unset)
   unset-leaves (Provided call now answer) unset = ap (live_action _) (find_view-no_handle old call unset)
@@ -100,11 +107,15 @@ module _ {K D : Type 0} (policy : Policy K D) (old : DeskState K D) where
   no_handle (Some h) e = absurd (cc)
 
   -- a step at an event of no cache
-  pub unset-step : (event : Event K) (reply : Reply K) (new : DeskState K D) → cache_of (setup_of old) (call_of event) ≡ None → Transition policy event old reply new → (reply ≡ NotNow) × (new ≡ old)
+  pub unset-step : (event : Event K) (reply : Reply K) (new : DeskState K D)
+      → cache_of (setup_of old) (call_of event) ≡ None → Transition policy event old reply new
+      → (reply ≡ NotNow) × (new ≡ old)
   unset-step event reply new unset m = subst (λ (a : Action K D). Performs a (call_of event) old reply new) (unset-leaves event (no_handle (slice_get old.handles (call_of event).handle) unset)) m
 
   module _ (sound : StepPrecondition old) (call : CallId) (i : ℕ) (at : cache_of (setup_of old) call ≡ Some i) where
-    outside_by : (r : CallRecord) → find_call call old.calls ≡ Some r → r.stage ≡ stage.Unpolled → (o : Option Handle) → slice_get old.handles call.handle ≡ o → option_map (λ (h : Handle). h.cache) o ≡ Some i → is_among call (line_at i old.queues) ≡ false
+    outside_by : (r : CallRecord) → find_call call old.calls ≡ Some r → r.stage ≡ stage.Unpolled
+        → (o : Option Handle) → slice_get old.handles call.handle ≡ o
+        → option_map (λ (h : Handle). h.cache) o ≡ Some i → is_among call (line_at i old.queues) ≡ false
     outside_by r found first None under e = absurd (cc)
     outside_by r found first (Some h) under e =
         let is : h.cache ≡ i = cc in
@@ -112,20 +123,27 @@ module _ {K D : Type 0} (policy : Policy K D) (old : DeskState K D) where
         subst (λ n. is_among call (line_at n old.queues) ≡ false) is (outside_line call (slice_get old.queues h.cache) (placed.unpolled first))
 
     -- a call that was not polled is not in line
-    outside : (r : CallRecord) → find_call call old.calls ≡ Some r → r.stage ≡ stage.Unpolled → is_among call (slice_index_or (lines_of old.queues) i []) ≡ false
+    outside : (r : CallRecord) → find_call call old.calls ≡ Some r → r.stage ≡ stage.Unpolled
+        → is_among call (slice_index_or (lines_of old.queues) i []) ≡ false
     outside r found first = ap (is_among call) (line-read old.queues i) ∙ outside_by r found first (slice_get old.handles call.handle) refl at
 
     -- a call that comes is not in line yet
-    pub may-come : (reply : Reply K) → MayCome (line_change (stage_in policy old 0 call) reply) call (slice_index_or (lines_of old.queues) i [])
+    pub may-come : (reply : Reply K)
+        → MayCome (line_change (stage_in policy old 0 call) reply) call
+        (slice_index_or (lines_of old.queues) i [])
     may-come reply = by_record (find_call call old.calls) refl
       where
-        by_stage : (s : Stage) → (s ≡ stage.Unpolled → is_among call (slice_index_or (lines_of old.queues) i []) ≡ false) → MayCome (line_change (Some s) reply) call (slice_index_or (lines_of old.queues) i [])
+        by_stage : (s : Stage)
+            → (s ≡ stage.Unpolled → is_among call (slice_index_or (lines_of old.queues) i []) ≡ false)
+            → MayCome (line_change (Some s) reply) call (slice_index_or (lines_of old.queues) i [])
         by_stage stage.Unpolled out = first_may reply call (slice_index_or (lines_of old.queues) i []) (out refl)
         by_stage stage.Queued out = stays_may reply call (slice_index_or (lines_of old.queues) i [])
         by_stage stage.Loading out = stays_may reply call (slice_index_or (lines_of old.queues) i [])
         by_stage stage.Signing out = tt
 
-        by_record : (o : Option CallRecord) → find_call call old.calls ≡ o → MayCome (line_change (option_map (λ (r : CallRecord). r.stage) o) reply) call (slice_index_or (lines_of old.queues) i [])
+        by_record : (o : Option CallRecord) → find_call call old.calls ≡ o
+            → MayCome (line_change (option_map (λ (r : CallRecord). r.stage) o) reply) call
+            (slice_index_or (lines_of old.queues) i [])
         by_record None found = tt
         by_record (Some r) found = by_stage r.stage (outside r found)
 
@@ -158,7 +176,8 @@ enters-unsigned (Done h) e = refl
 enters-unsigned (Cancelled w) e = refl
 
 -- nor is it one to a begin
-enters-begun : {K : Type 0} (event : Event K) (reply : Reply K) → is_reply_to event reply ≡ true → first_change reply ≡ Enters → IsNoBegin event
+enters-begun : {K : Type 0} (event : Event K) (reply : Reply K) → is_reply_to event reply ≡ true
+    → first_change reply ≡ Enters → IsNoBegin event
 enters-begun (Begin call head expires_in) Begun k e = cc
 enters-begun (Begin call head expires_in) Pending k e = cc
 enters-begun (Begin call head expires_in) NotNow k e = cc
@@ -175,30 +194,45 @@ enters-begun (Cancel call) reply k e = tt
 
 module _ {K D : Type 0} (policy : Policy K D) (desk : DeskState K D) (entries : List (Entry K)) (stood : Represents policy desk entries) where
   -- an event by which a call comes takes no memory
-  enters-free : (event : Event K) → IsNoBegin event → phase_of (committed_entries entries) (call_of event) ≡ Unpolled → is_sign (expected_reply policy (setup_of desk) (committed_entries entries) event) ≡ false → allocates policy (setup_of desk) (committed_entries entries) event ≡ false
+  enters-free : (event : Event K) → IsNoBegin event
+      → phase_of (committed_entries entries) (call_of event) ≡ Unpolled
+      → is_sign (expected_reply policy (setup_of desk) (committed_entries entries) event) ≡ false
+      → allocates policy (setup_of desk) (committed_entries entries) event ≡ false
   enters-free (Begin call head expires_in) n p s = absurd n
   enters-free (Poll call now) n p s = ap (λ b. is_live (phase_of (committed_entries entries) call) && b) s ∙ and_false (is_live (phase_of (committed_entries entries) call))
   enters-free (Provided call now answer) n p s = rw p refl
   enters-free (Signed call answer) n p s = rw p refl
   enters-free (Cancel call) n p s = and_false (is_live (phase_of (committed_entries entries) call))
 
-  enters-fits : (event : Event K) (expected : Reply K) → expected ≡ expected_reply policy (setup_of desk) (committed_entries entries) event → is_reply_to event expected ≡ true
-      → line_change (stage_in policy desk 0 (call_of event)) expected ≡ Enters → allocates policy (setup_of desk) (committed_entries entries) event ≡ false
+  enters-fits : (event : Event K) (expected : Reply K)
+      → expected ≡ expected_reply policy (setup_of desk) (committed_entries entries) event
+      → is_reply_to event expected ≡ true
+      → line_change (stage_in policy desk 0 (call_of event)) expected ≡ Enters
+      → allocates policy (setup_of desk) (committed_entries entries) event ≡ false
   enters-fits event expected is kind e = by_record (find_call (call_of event) desk.calls) refl e
     where
-      by_stage : (s : Stage) → phase_of (committed_entries entries) (call_of event) ≡ phase_of_stage s → line_change (Some s) expected ≡ Enters → allocates policy (setup_of desk) (committed_entries entries) event ≡ false
+      by_stage : (s : Stage) → phase_of (committed_entries entries) (call_of event) ≡ phase_of_stage s
+          → line_change (Some s) expected ≡ Enters
+          → allocates policy (setup_of desk) (committed_entries entries) event ≡ false
       by_stage stage.Unpolled p e = enters-free event (enters-begun event expected kind e) p (ap is_sign (sym is) ∙ enters-unsigned expected e)
       by_stage stage.Queued p e = absurd (later-stays expected e)
       by_stage stage.Loading p e = absurd (later-stays expected e)
       by_stage stage.Signing p e = absurd (cc)
 
-      by_record : (o : Option CallRecord) → find_call (call_of event) desk.calls ≡ o → line_change (option_map (λ (r : CallRecord). r.stage) o) expected ≡ Enters → allocates policy (setup_of desk) (committed_entries entries) event ≡ false
+      by_record : (o : Option CallRecord) → find_call (call_of event) desk.calls ≡ o
+          → line_change (option_map (λ (r : CallRecord). r.stage) o) expected ≡ Enters
+          → allocates policy (setup_of desk) (committed_entries entries) event ≡ false
       by_record None found e = absurd (cc)
       by_record (Some r) found e = by_stage r.stage (phase-kept policy desk entries stood (call_of event) r found) e
 
   -- where an allocation fails, nobody comes
-  pub enters-in_memory : (event : Event K) (expected reply : Reply K) → expected ≡ expected_reply policy (setup_of desk) (committed_entries entries) event → is_reply_to event expected ≡ true
-      → IsLegalEntry policy (setup_of desk) (committed_entries entries) (record { event = event; reply = reply }) → is_out_of_memory reply ≡ true → line_change (stage_in policy desk 0 (call_of event)) expected ≡ Enters → ⊥
+  pub enters-in_memory : (event : Event K) (expected reply : Reply K)
+      → expected ≡ expected_reply policy (setup_of desk) (committed_entries entries) event
+      → is_reply_to event expected ≡ true
+      → IsLegalEntry policy (setup_of desk) (committed_entries entries)
+      (record { event = event; reply = reply })
+      → is_out_of_memory reply ≡ true → line_change (stage_in policy desk 0 (call_of event)) expected ≡ Enters
+      → ⊥
   enters-in_memory event expected reply is kind (inl l) m e =
       let no : is_out_of_memory reply ≡ false = ap is_out_of_memory l ∙ expected_in_memory policy (setup_of desk) (committed_entries entries) event in
       cc
@@ -208,30 +242,40 @@ module _ {K D : Type 0} (policy : Policy K D) (desk : DeskState K D) (entries : 
       cc
 
 -- a legal reply is the expected one where no allocation failed
-pub legal-expected : {K D : Type 0} (policy : Policy K D) (setup : Setup D) (entries : List (Entry K)) (event : Event K) (reply : Reply K) → IsLegalEntry policy setup entries (record { event = event; reply = reply }) → is_out_of_memory reply ≡ false → reply ≡ expected_reply policy setup entries event
+pub legal-expected : {K D : Type 0} (policy : Policy K D) (setup : Setup D) (entries : List (Entry K))
+    (event : Event K) (reply : Reply K)
+    → IsLegalEntry policy setup entries (record { event = event; reply = reply })
+    → is_out_of_memory reply ≡ false → reply ≡ expected_reply policy setup entries event
 legal-expected policy setup entries event reply (inl l) m = l
 legal-expected policy setup entries event reply (inr l) m = let yes : is_out_of_memory reply ≡ true = ap is_out_of_memory l.0 in absurd (cc)
 
 -- where an allocation failed, the desk is as it was
-pub lost-unchanged : {K D : Type 0} (reply : Reply K) (old new : DeskState K D) → is_out_of_memory reply ≡ true → UnchangedBy reply old new → new ≡ old
+pub lost-unchanged : {K D : Type 0} (reply : Reply K) (old new : DeskState K D)
+    → is_out_of_memory reply ≡ true → UnchangedBy reply old new → new ≡ old
 lost-unchanged reply old new m u = subst (λ r. UnchangedBy r old new) (out_of_memory-is reply m) u
 
 module _ {K D : Type 0} (policy : Policy K D) (old : AuditState K D) (event : Event K) (reply : Reply K) (new : DeskState K D) (step : IsStep policy event old.desk reply new) where
   moved : (entries : List (Entry K)) (i : ℕ)
-      → option_map (λ _. counts_up_to_end (counts_of (setup_of old.desk) entries i)) (slice_get old.desk.loaders i) ≡ option_map (λ _. counts_up_to_end (counts_of (setup_of new) entries i)) (slice_get new.loaders i)
+      → option_map (λ _. counts_up_to_end (counts_of (setup_of old.desk) entries i))
+      (slice_get old.desk.loaders i)
+      ≡ option_map (λ _. counts_up_to_end (counts_of (setup_of new) entries i)) (slice_get new.loaders i)
   moved entries i = ap (λ (s : Setup D). option_map (λ _. counts_up_to_end (counts_of s entries i)) (slice_get s.loaders i)) (sym step.setup)
 
   -- an auditor represents the entry of a step too, where it counted that at its cache
-  pub counted-step : (cache : ℕ) → cache_of (setup_of old.desk) (call_of event) ≡ Some cache → (entries : List (Entry K)) → AuditRepresents policy old entries
-      → AuditRepresents policy (record { desk = new; counts = with_changed (counted reply) cache old.counts }) (entries ++ record { event = event; reply = reply } ∷ [])
+  pub counted-step : (cache : ℕ) → cache_of (setup_of old.desk) (call_of event) ≡ Some cache
+      → (entries : List (Entry K)) → AuditRepresents policy old entries
+      → AuditRepresents policy (record { desk = new; counts = with_changed (counted reply) cache old.counts })
+      (entries ++ record { event = event; reply = reply } ∷ [])
   counted-step cache at entries stood = record {
     desk = step.represents entries stood.desk;
     counts = λ i. counts-after (setup_of old.desk) entries (record { event = event; reply = reply }) old.counts old.desk.loaders stood.counts cache at i ∙ moved (entries ++ record { event = event; reply = reply } ∷ []) i;
   }
 
   -- and where the event is of no cache
-  pub uncounted-step : cache_of (setup_of old.desk) (call_of event) ≡ None → (entries : List (Entry K)) → AuditRepresents policy old entries
-      → AuditRepresents policy (record { desk = new; counts = old.counts }) (entries ++ record { event = event; reply = reply } ∷ [])
+  pub uncounted-step : cache_of (setup_of old.desk) (call_of event) ≡ None → (entries : List (Entry K))
+      → AuditRepresents policy old entries
+      → AuditRepresents policy (record { desk = new; counts = old.counts })
+      (entries ++ record { event = event; reply = reply } ∷ [])
   uncounted-step unset entries stood = record {
     desk = step.represents entries stood.desk;
     counts = λ i. counts-same (setup_of old.desk) entries (record { event = event; reply = reply }) old.counts old.desk.loaders stood.counts unset i ∙ moved (entries ++ record { event = event; reply = reply } ∷ []) i;
@@ -255,7 +299,10 @@ module _ {K D : Type 0} (policy : Policy K D) (desk : DeskState K D) (counts : L
       some : is_some (slice_get desk.queues i) ≡ true
       some = place-there desk.queues i there
 
-      by_queue : (l : Option Loader) → slice_get desk.queues i ≡ option_map (λ _. queue_of (setup_of desk) (committed_entries kept.entries) i) l → is_some l ≡ true
+      by_queue : (l : Option Loader)
+          → slice_get desk.queues i
+          ≡ option_map (λ _. queue_of (setup_of desk) (committed_entries kept.entries) i) l
+          → is_some l ≡ true
       by_queue (Some l) q = refl
       by_queue None q =
           let none : is_some (slice_get desk.queues i) ≡ false = ap is_some q in
@@ -267,12 +314,14 @@ module _ {K D : Type 0} (policy : Policy K D) (desk : DeskState K D) (counts : L
     abbrev opened : AuditState K D
     opened = record { desk = desk; counts = counts }
 
-    due-here : (entries : List (Entry K)) → AuditRepresents policy opened entries → expected ≡ expected_reply policy (setup_of desk) (committed_entries entries) event
+    due-here : (entries : List (Entry K)) → AuditRepresents policy opened entries
+        → expected ≡ expected_reply policy (setup_of desk) (committed_entries entries) event
     due-here entries stood =
         due entries (subst (λ (a : AuditState K D). AuditRepresents policy a entries) is stood)
         ∙ ap (λ (a : AuditState K D). expected_reply policy (setup_of a.desk) (committed_entries entries) event) (sym is)
 
-    from_now : (entries : List (Entry K)) → AuditRepresents policy now entries → AuditRepresents policy opened entries
+    from_now : (entries : List (Entry K)) → AuditRepresents policy now entries
+        → AuditRepresents policy opened entries
     from_now entries stood = subst (λ (a : AuditState K D). AuditRepresents policy a entries) (sym is) stood
 
     module _ (unset : cache_of (setup_of desk) call ≡ None) where
@@ -289,7 +338,9 @@ module _ {K D : Type 0} (policy : Policy K D) (desk : DeskState K D) (counts : L
           ∙ sym (due-here entries stood)
 
       -- an event of no cache happens
-      pub unset-answer : (entries : List (Entry K)) → AuditRepresents policy now entries → AuditRepresents policy (record { desk = new; counts = counts }) (entries ++ record { event = event; reply = expected } ∷ [])
+      pub unset-answer : (entries : List (Entry K)) → AuditRepresents policy now entries
+          → AuditRepresents policy (record { desk = new; counts = counts })
+          (entries ++ record { event = event; reply = expected } ∷ [])
       unset-answer entries stood =
           subst (λ (r : Reply K). AuditRepresents policy (record { desk = new; counts = counts }) (entries ++ record { event = event; reply = r } ∷ []))
           (unset-expected entries (from_now entries stood))
@@ -332,13 +383,17 @@ module _ {K D : Type 0} (policy : Policy K D) (desk : DeskState K D) (counts : L
         reply-is : (entries : List (Entry K)) → AuditRepresents policy opened entries → reply ≡ expected
         reply-is entries stood = legal-expected policy (setup_of desk) (committed_entries entries) event reply (step.expected entries stood.desk) memory ∙ sym (due-here entries stood)
 
-        represents-more : (entries : List (Entry K)) → AuditRepresents policy opened entries → AuditRepresents policy (record { desk = new; counts = counted_ones }) (entries ++ record { event = event; reply = reply } ∷ [])
+        represents-more : (entries : List (Entry K)) → AuditRepresents policy opened entries
+            → AuditRepresents policy (record { desk = new; counts = counted_ones })
+            (entries ++ record { event = event; reply = reply } ∷ [])
         represents-more entries stood =
             subst (λ (cs : List Counts). AuditRepresents policy (record { desk = new; counts = cs }) (entries ++ record { event = event; reply = reply } ∷ [])) (sym counts_are)
             (counted-step policy opened event reply new step cache at-here entries stood)
 
         -- else the event happens
-        pub happened-answer : (entries : List (Entry K)) → AuditRepresents policy now entries → AuditRepresents policy (record { desk = new; counts = counted_ones }) (entries ++ record { event = event; reply = expected } ∷ [])
+        pub happened-answer : (entries : List (Entry K)) → AuditRepresents policy now entries
+            → AuditRepresents policy (record { desk = new; counts = counted_ones })
+            (entries ++ record { event = event; reply = expected } ∷ [])
         happened-answer entries stood =
             subst (λ (r : Reply K). AuditRepresents policy (record { desk = new; counts = counted_ones }) (entries ++ record { event = event; reply = r } ∷ []))
             (reply-is entries (from_now entries stood))
@@ -368,5 +423,6 @@ changed-length f zero (x ∷ xs) = refl
 changed-length f (suc i) (x ∷ xs) = ap suc (changed-length f i xs)
 
 -- a cache that has a line has one after a change
-pub changed-there : (change : LineChange) (cache i : ℕ) (call : CallId) (lines between : List (List CallId)) → between ≡ changed_lines change i call lines → cache < length lines → cache < length between
+pub changed-there : (change : LineChange) (cache i : ℕ) (call : CallId) (lines between : List (List CallId))
+    → between ≡ changed_lines change i call lines → cache < length lines → cache < length between
 changed-there change cache i call lines between is below = subst (λ n. cache < n) (sym (ap length is ∙ changed-length (changed_line change call) i lines)) below

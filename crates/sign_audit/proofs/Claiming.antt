@@ -17,9 +17,13 @@ use Rattle.sign_audit.proofs.Accepting.{legal-expected}
 
 module _ {K D : Type 0} (policy : Policy K D) where
   -- a preview that is not out of memory is the expected reply
-  pub preview-due : (desk : DeskState K D) (counts : List Counts) (now : AuditState K D) → record { desk = desk; counts = counts } ≡ now → (event : Event K) (reply : Reply K)
-      → ((entries : List (Entry K)) → Represents policy desk entries → IsLegalEntry policy (setup_of desk) (committed_entries entries) (record { event = event; reply = reply })) → is_out_of_memory reply ≡ false
-      → (entries : List (Entry K)) → AuditRepresents policy now entries → reply ≡ reply_due policy now entries event
+  pub preview-due : (desk : DeskState K D) (counts : List Counts) (now : AuditState K D)
+      → record { desk = desk; counts = counts } ≡ now → (event : Event K) (reply : Reply K)
+      → ((entries : List (Entry K)) → Represents policy desk entries
+      → IsLegalEntry policy (setup_of desk) (committed_entries
+      entries) (record { event = event; reply = reply }))
+      → is_out_of_memory reply ≡ false → (entries : List (Entry K)) → AuditRepresents policy now entries
+      → reply ≡ reply_due policy now entries event
   preview-due desk counts now is event reply legal memory entries stood =
       let here : AuditRepresents policy (record { desk = desk; counts = counts }) entries = subst (λ (a : AuditState K D). AuditRepresents policy a entries) (sym is) stood in
       legal-expected policy (setup_of desk) (committed_entries entries) event reply (legal entries here.desk) memory
@@ -27,28 +31,39 @@ module _ {K D : Type 0} (policy : Policy K D) where
 
   module _ (old : AuditState K D) (entries : List (Entry K)) (says : Reply K → Bool → Type 0) where
     -- a claim that an allocation failed
-    pub missed-answer : (missed : Bool) (event : Event K) (answer : Claim K) (new : AuditState K D) → missed ≡ true → AnswersMissed policy old entries event answer new → AnswersTest policy old entries says missed event answer new
+    pub missed-answer : (missed : Bool) (event : Event K) (answer : Claim K) (new : AuditState K D)
+        → missed ≡ true → AnswersMissed policy old entries event answer new
+        → AnswersTest policy old entries says missed event answer new
     missed-answer missed event answer new m h = subst (λ b. AnswersTest policy old entries says b event answer new) (sym m) (by_answer answer h)
       where
-        by_answer : (a : Claim K) → AnswersMissed policy old entries event a new → AnswersTest policy old entries says true event a new
+        by_answer : (a : Claim K) → AnswersMissed policy old entries event a new
+            → AnswersTest policy old entries says true event a new
         by_answer claim.Legal k = k
         by_answer (claim.Due reply) k = k
         by_answer claim.OutOfMemory k = absurd k
 
     -- a claim that does not fit
-    pub due-answer : (missed : Bool) (event : Event K) (reply : Reply K) (new : AuditState K D) → missed ≡ false → reply ≡ reply_due policy old entries event → says reply false → new ≡ old → AnswersTest policy old entries says missed event (claim.Due reply) new
+    pub due-answer : (missed : Bool) (event : Event K) (reply : Reply K) (new : AuditState K D)
+        → missed ≡ false → reply ≡ reply_due policy old entries event → says reply false → new ≡ old
+        → AnswersTest policy old entries says missed event (claim.Due reply) new
     due-answer true event reply new m r s n = absurd (cc)
     due-answer false event reply new m r s n = (subst (λ q. says q false) r s, r, n)
 
-    happens-answer : (event : Event K) (reply : Reply K) (answer : Claim K) (new : AuditState K D) → reply ≡ reply_due policy old entries event → says reply true
-        → HappensOr policy old entries (record { event = event; reply = reply }) answer new → AnswersTest policy old entries says false event answer new
+    happens-answer : (event : Event K) (reply : Reply K) (answer : Claim K) (new : AuditState K D)
+        → reply ≡ reply_due policy old entries event → says reply true
+        → HappensOr policy old entries (record { event = event; reply = reply }) answer new
+        → AnswersTest policy old entries says false event answer new
     happens-answer event reply claim.Legal new r s h = (subst (λ q. says q true) r s, subst (λ q. AuditRepresents policy new (entries ++ record { event = event; reply = q } ∷ [])) r h)
     happens-answer event reply (claim.Due d) new r s h = absurd h
     happens-answer event reply claim.OutOfMemory new r s h = (refl, h)
 
     -- a claim that fits
-    pub fits-answer : (missed : Bool) (event : Event K) (reply : Reply K) (answer : Claim K) (new opened : AuditState K D) → missed ≡ false → opened ≡ old → AuditRepresents policy old entries → reply ≡ reply_due policy old entries event → says reply true
-        → (AuditRepresents policy opened entries → HappensOr policy opened entries (record { event = event; reply = reply }) answer new) → AnswersTest policy old entries says missed event answer new
+    pub fits-answer : (missed : Bool) (event : Event K) (reply : Reply K) (answer : Claim K)
+        (new opened : AuditState K D) → missed ≡ false → opened ≡ old → AuditRepresents policy old entries
+        → reply ≡ reply_due policy old entries event → says reply true
+        → (AuditRepresents policy opened entries
+        → HappensOr policy opened entries (record { event = event; reply = reply }) answer new)
+        → AnswersTest policy old entries says missed event answer new
     fits-answer missed event reply answer new opened m is stood r s h =
         let happens : HappensOr policy old entries (record { event = event; reply = reply }) answer new =
         subst (λ (a : AuditState K D). HappensOr policy a entries (record { event = event; reply = reply }) answer new) is (h (subst (λ (a : AuditState K D). AuditRepresents policy a entries) (sym is) stood)) in

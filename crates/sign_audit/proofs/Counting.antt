@@ -16,7 +16,8 @@ use Rattle.sign_audit.specs.Counts.{is_refused, is_cancelled, is_kind_at, number
 use Rattle.sign_audit.specs.declared.counts.Counts.{Counts}
 
 -- counts that have the same numbers
-pub same_counts : (a b : Counts) → a.asks ≡ b.asks → a.signs ≡ b.signs → a.refused ≡ b.refused → a.cancelled ≡ b.cancelled → a.missed ≡ b.missed → a ≡ b
+pub same_counts : (a b : Counts) → a.asks ≡ b.asks → a.signs ≡ b.signs → a.refused ≡ b.refused
+    → a.cancelled ≡ b.cancelled → a.missed ≡ b.missed → a ≡ b
 same_counts a b asks signs refused cancelled missed = λ i. record { asks = asks i; signs = signs i; refused = refused i; cancelled = cancelled i; missed = missed i }
 
 -- one more, up to the end
@@ -33,7 +34,9 @@ module _ {K : Type 0} (f g : (Reply K → Bool) → ℕ) where
   none_more h = same_counts (by_kind g) (by_kind f) (ap up_to_end (h is_ask)) (ap up_to_end (h is_sign)) (ap up_to_end (h is_refused)) (ap up_to_end (h is_cancelled)) (ap up_to_end (h is_out_of_memory))
 
   -- where each kind of the reply has one more
-  one_more : (reply : Reply K) → ((kind : Reply K → Bool) → g kind ≡ (if kind reply then f kind + 1 else f kind)) → by_kind g ≡ counted reply (by_kind f)
+  one_more : (reply : Reply K)
+      → ((kind : Reply K → Bool) → g kind ≡ (if kind reply then f kind + 1 else f kind))
+      → by_kind g ≡ counted reply (by_kind f)
   one_more (Ask k) h = same_counts (by_kind g) (counted {K = K} (Ask k) (by_kind f)) (next (f is_ask) (g is_ask) (h is_ask)) (ap up_to_end (h is_sign)) (ap up_to_end (h is_refused)) (ap up_to_end (h is_cancelled)) (ap up_to_end (h is_out_of_memory))
   one_more (Sign c wake) h = same_counts (by_kind g) (counted (Sign c wake) (by_kind f)) (ap up_to_end (h is_ask)) (next (f is_sign) (g is_sign) (h is_sign)) (ap up_to_end (h is_refused)) (ap up_to_end (h is_cancelled)) (ap up_to_end (h is_out_of_memory))
   one_more (Refused why wake) h = same_counts (by_kind g) (counted {K = K} (Refused why wake) (by_kind f)) (ap up_to_end (h is_ask)) (ap up_to_end (h is_sign)) (next (f is_refused) (g is_refused) (h is_refused)) (ap up_to_end (h is_cancelled)) (ap up_to_end (h is_out_of_memory))
@@ -45,45 +48,63 @@ module _ {K : Type 0} (f g : (Reply K → Bool) → ℕ) where
   one_more (Done head) h = same_counts (by_kind g) (by_kind f) (ap up_to_end (h is_ask)) (ap up_to_end (h is_sign)) (ap up_to_end (h is_refused)) (ap up_to_end (h is_cancelled)) (ap up_to_end (h is_out_of_memory))
 
 module _ {K D : Type 0} (setup : Setup D) (entries : List (Entry K)) (e : Entry K) where
-  number-here : (i : ℕ) → is_of_cache setup i (call_of e.event) ≡ true → (kind : Reply K → Bool) → number_at setup i kind (entries ++ e ∷ []) ≡ (if kind e.reply then number_at setup i kind entries + 1 else number_at setup i kind entries)
+  number-here : (i : ℕ) → is_of_cache setup i (call_of e.event) ≡ true → (kind : Reply K → Bool)
+      → number_at setup i kind (entries ++ e ∷ [])
+      ≡ (if kind e.reply then number_at setup i kind entries + 1 else number_at setup i kind entries)
   number-here i here kind = by_kind_of (kind e.reply) refl
     where
-      by_kind_of : (b : Bool) → kind e.reply ≡ b → number_at setup i kind (entries ++ e ∷ []) ≡ (if b then number_at setup i kind entries + 1 else number_at setup i kind entries)
+      by_kind_of : (b : Bool) → kind e.reply ≡ b
+          → number_at setup i kind (entries ++ e ∷ [])
+          ≡ (if b then number_at setup i kind entries + 1 else number_at setup i kind entries)
       by_kind_of true k = ap length (filter-more_yes (is_kind_at setup i kind) entries e (rw (here, k) refl)) ∙ length_push (filter (is_kind_at setup i kind) entries) e
       by_kind_of false k = ap length (filter-more_no (is_kind_at setup i kind) entries e (rw (here, k) refl))
 
-  number-elsewhere : (i : ℕ) → is_of_cache setup i (call_of e.event) ≡ false → (kind : Reply K → Bool) → number_at setup i kind (entries ++ e ∷ []) ≡ number_at setup i kind entries
+  number-elsewhere : (i : ℕ) → is_of_cache setup i (call_of e.event) ≡ false → (kind : Reply K → Bool)
+      → number_at setup i kind (entries ++ e ∷ []) ≡ number_at setup i kind entries
   number-elsewhere i other kind = ap length (filter-more_no (is_kind_at setup i kind) entries e (rw other refl))
 
   -- at the cache of its call an entry is counted
-  pub counts-here : (i : ℕ) → is_of_cache setup i (call_of e.event) ≡ true → counts_up_to_end (counts_of setup (entries ++ e ∷ []) i) ≡ counted e.reply (counts_up_to_end (counts_of setup entries i))
+  pub counts-here : (i : ℕ) → is_of_cache setup i (call_of e.event) ≡ true
+      → counts_up_to_end (counts_of setup (entries ++ e ∷ []) i)
+      ≡ counted e.reply (counts_up_to_end (counts_of setup entries i))
   counts-here i here = one_more (λ kind. number_at setup i kind entries) (λ kind. number_at setup i kind (entries ++ e ∷ [])) e.reply (number-here i here)
 
   -- at others it is not
-  pub counts-elsewhere : (i : ℕ) → is_of_cache setup i (call_of e.event) ≡ false → counts_up_to_end (counts_of setup (entries ++ e ∷ []) i) ≡ counts_up_to_end (counts_of setup entries i)
+  pub counts-elsewhere : (i : ℕ) → is_of_cache setup i (call_of e.event) ≡ false
+      → counts_up_to_end (counts_of setup (entries ++ e ∷ []) i)
+      ≡ counts_up_to_end (counts_of setup entries i)
   counts-elsewhere i other = none_more (λ kind. number_at setup i kind entries) (λ kind. number_at setup i kind (entries ++ e ∷ [])) (number-elsewhere i other)
 
   -- an entry of no cache is counted nowhere
-  pub counts-unset : cache_of setup (call_of e.event) ≡ None → (i : ℕ) → counts_up_to_end (counts_of setup (entries ++ e ∷ []) i) ≡ counts_up_to_end (counts_of setup entries i)
+  pub counts-unset : cache_of setup (call_of e.event) ≡ None → (i : ℕ)
+      → counts_up_to_end (counts_of setup (entries ++ e ∷ []) i)
+      ≡ counts_up_to_end (counts_of setup entries i)
   counts-unset none i = counts-elsewhere i (ap (is_number i) none)
 
   module _ {L : Type 0} (counts : List Counts) (loaders : List L) (stood : (i : ℕ) → slice_get counts i ≡ option_map (λ _. counts_up_to_end (counts_of setup entries i)) (slice_get loaders i)) where
     -- the counts where the entry is of no cache
-    pub counts-same : cache_of setup (call_of e.event) ≡ None → (i : ℕ) → slice_get counts i ≡ option_map (λ _. counts_up_to_end (counts_of setup (entries ++ e ∷ []) i)) (slice_get loaders i)
+    pub counts-same : cache_of setup (call_of e.event) ≡ None → (i : ℕ)
+        → slice_get counts i
+        ≡ option_map (λ _. counts_up_to_end (counts_of setup (entries ++ e ∷ []) i)) (slice_get loaders i)
     counts-same none i = stood i ∙ ap (λ c. option_map (λ _. c) (slice_get loaders i)) (sym (counts-unset none i))
 
     -- the counts where the entry is counted at its cache
-    pub counts-after : (cache : ℕ) → cache_of setup (call_of e.event) ≡ Some cache → (i : ℕ) → slice_get (with_changed (counted e.reply) cache counts) i ≡ option_map (λ _. counts_up_to_end (counts_of setup (entries ++ e ∷ []) i)) (slice_get loaders i)
+    pub counts-after : (cache : ℕ) → cache_of setup (call_of e.event) ≡ Some cache → (i : ℕ)
+        → slice_get (with_changed (counted e.reply) cache counts) i
+        ≡ option_map (λ _. counts_up_to_end (counts_of setup (entries ++ e ∷ []) i)) (slice_get loaders i)
     counts-after cache at i = by_place (i == cache) refl
       where
         of : is_of_cache setup i (call_of e.event) ≡ (i == cache)
         of = ap (is_number i) at
 
-        mapped : (o : Option L) (c : Counts) → option_map (counted e.reply) (option_map (λ _. c) o) ≡ option_map (λ _. counted e.reply c) o
+        mapped : (o : Option L) (c : Counts)
+            → option_map (counted e.reply) (option_map (λ _. c) o) ≡ option_map (λ _. counted e.reply c) o
         mapped None c = refl
         mapped (Some l) c = refl
 
-        here : i ≡ cache → is_of_cache setup i (call_of e.event) ≡ true → slice_get (with_changed (counted e.reply) cache counts) i ≡ option_map (λ _. counts_up_to_end (counts_of setup (entries ++ e ∷ []) i)) (slice_get loaders i)
+        here : i ≡ cache → is_of_cache setup i (call_of e.event) ≡ true
+            → slice_get (with_changed (counted e.reply) cache counts) i
+            ≡ option_map (λ _. counts_up_to_end (counts_of setup (entries ++ e ∷ []) i)) (slice_get loaders i)
         here same h =
             ap (λ (k : ℕ). slice_get (with_changed (counted e.reply) k counts) i) (sym same)
             ∙ changed-same (counted e.reply) counts i
@@ -91,7 +112,9 @@ module _ {K D : Type 0} (setup : Setup D) (entries : List (Entry K)) (e : Entry 
             ∙ mapped (slice_get loaders i) (counts_up_to_end (counts_of setup entries i))
             ∙ ap (λ c. option_map (λ _. c) (slice_get loaders i)) (sym (counts-here i h))
 
-        by_place : (b : Bool) → (i == cache) ≡ b → slice_get (with_changed (counted e.reply) cache counts) i ≡ option_map (λ _. counts_up_to_end (counts_of setup (entries ++ e ∷ []) i)) (slice_get loaders i)
+        by_place : (b : Bool) → (i == cache) ≡ b
+            → slice_get (with_changed (counted e.reply) cache counts) i
+            ≡ option_map (λ _. counts_up_to_end (counts_of setup (entries ++ e ∷ []) i)) (slice_get loaders i)
         by_place true k = here (same_number i cache k) (of ∙ k)
         by_place false k =
             changed-other (counted e.reply) counts cache i (λ same. let t : (i == cache) ≡ true = subst (λ n. (i == n) ≡ true) (sym same) (number_refl i) in absurd (cc))

@@ -11,57 +11,69 @@ use Rattle.wake_lock.proofs.Calls.{same_call-eq, same_call-refl, same_call-comm}
 use Rattle.wake_lock.proofs.Lines.{absent-leaves}
 use Rattle.wake_lock.proofs.Truth.{or_left, or_right, or_none}
 
-absent-lookup : (k : CallId) (es : List (CallId × Unit {0})) → is_among k (keys_of es) ≡ false → lookup_entry (same_call k) es ≡ None
+absent-lookup : (k : CallId) (es : List (CallId × Unit {0})) → is_among k (keys_of es) ≡ false
+    → lookup_entry (same_call k) es ≡ None
 absent-lookup k [] h = refl
 absent-lookup k (e ∷ es) h =
     let other : same_call k e.0 ≡ false = or_left (same_call k e.0) (is_among k (keys_of es)) h in
     rw other (absent-lookup k es (or_right (same_call k e.0) (is_among k (keys_of es)) h))
 
 -- a call that comes stands behind all others
-pub entered : (k : CallId) (c : LruCache CallId (Unit {0})) → is_among k (keys_of c.entries) ≡ false → length c.entries < 2 ^ 63 → c.cap ≡ 2 ^ 64 - 1
+pub entered : (k : CallId) (c : LruCache CallId (Unit {0})) → is_among k (keys_of c.entries) ≡ false
+    → length c.entries < 2 ^ 63 → c.cap ≡ 2 ^ 64 - 1
     → keys_of (demoted (same_call k) (put_entries same_call c k tt)) ≡ keys_of c.entries ++ k ∷ []
 entered k c h few cap =
     let all : take (c.cap - 1) c.entries ≡ c.entries = take_all (c.cap - 1) c.entries (omega (arith, few, cap)) in
     let put : put_entries same_call c k tt ≡ (k, tt) ∷ c.entries = rw (absent-lookup k c.entries h, all) refl in
     rw put (rw (same_call-refl k) (map-append (λ (e : CallId × Unit {0}). e.0) c.entries ((k, tt) ∷ [])))
 
-apart : (x : CallId) (xs : List CallId) → AllByRecursion (λ y. same_call x y ≡ false) xs → is_among x xs ≡ false
+apart : (x : CallId) (xs : List CallId) → AllByRecursion (λ y. same_call x y ≡ false) xs
+    → is_among x xs ≡ false
 apart x [] a = refl
 apart x (y ∷ ys) a = or_none (same_call x y) (is_among x ys) a.0 (apart x ys a.1)
 
 -- a call that leaves is taken out
-pub left : (k : CallId) (es : List (CallId × Unit {0})) → IsDistinct same_call (keys_of es) → keys_of (remove_entry (same_call k) es) ≡ filter (λ other. not (same_call other k)) (keys_of es)
+pub left : (k : CallId) (es : List (CallId × Unit {0})) → IsDistinct same_call (keys_of es)
+    → keys_of (remove_entry (same_call k) es) ≡ filter (λ other. not (same_call other k)) (keys_of es)
 unfolding IsDistinct
 left k [] d = refl
 left k (e ∷ es) d = by_test (same_call k e.0) refl (left k es d.1)
   where
-    by_test : (b : Bool) → same_call k e.0 ≡ b → keys_of (remove_entry (same_call k) es) ≡ filter (λ other. not (same_call other k)) (keys_of es)
-        → keys_of (remove_entry (same_call k) (e ∷ es)) ≡ filter (λ other. not (same_call other k)) (keys_of (e ∷ es))
+    by_test : (b : Bool) → same_call k e.0 ≡ b
+        → keys_of (remove_entry (same_call k) es) ≡ filter (λ other. not (same_call other k)) (keys_of es)
+        → keys_of (remove_entry (same_call k) (e ∷ es))
+        ≡ filter (λ other. not (same_call other k)) (keys_of (e ∷ es))
     by_test true s rest =
         let absent : is_among k (keys_of es) ≡ false = subst (λ x. is_among x (keys_of es) ≡ false) (sym (same_call-eq k e.0 s)) (apart e.0 (keys_of es) d.0) in
         rw (s, same_call-comm e.0 k, s) (sym (absent-leaves k (keys_of es) absent))
     by_test false s rest = rw (s, same_call-comm e.0 k, s) (ap (λ l. e.0 ∷ l) rest)
 
 -- the first call of the line
-pub first-key : (es : List (CallId × Unit {0})) → first_of (keys_of es) ≡ option_map (λ e. e.0) (slice_get es 0)
+pub first-key : (es : List (CallId × Unit {0}))
+    → first_of (keys_of es) ≡ option_map (λ e. e.0) (slice_get es 0)
 first-key [] = refl
 first-key (e ∷ es) = refl
 
 module _ (call : CallId) (all : List CallId) where
   -- the walk stops at the call
-  pub stops : (xs : List CallId) (es : List (CallId × Unit {0})) (e : CallId × Unit {0}) (rest : List (CallId × Unit {0})) → xs ++ before_call call (keys_of es) ≡ all → es ≡ e ∷ rest → same_call e.0 call ≡ true → xs ≡ all
+  pub stops : (xs : List CallId) (es : List (CallId × Unit {0})) (e : CallId × Unit {0})
+      (rest : List (CallId × Unit {0})) → xs ++ before_call call (keys_of es) ≡ all → es ≡ e ∷ rest
+      → same_call e.0 call ≡ true → xs ≡ all
   stops xs es e rest h is s =
       let here : same_call call e.0 ≡ true = same_call-comm call e.0 ∙ s in
       let none : before_call call (keys_of es) ≡ [] = ap (λ l. before_call call (keys_of l)) is ∙ ap (λ b. if b then [] else e.0 ∷ before_call call (keys_of rest)) here in
       sym (append-nil xs) ∙ ap (λ l. xs ++ l) (sym none) ∙ h
 
   -- it goes on behind another one
-  pub goes_on : (xs : List CallId) (es : List (CallId × Unit {0})) (e : CallId × Unit {0}) (rest : List (CallId × Unit {0})) → xs ++ before_call call (keys_of es) ≡ all → es ≡ e ∷ rest → same_call e.0 call ≡ false → (xs ++ e.0 ∷ []) ++ before_call call (keys_of rest) ≡ all
+  pub goes_on : (xs : List CallId) (es : List (CallId × Unit {0})) (e : CallId × Unit {0})
+      (rest : List (CallId × Unit {0})) → xs ++ before_call call (keys_of es) ≡ all → es ≡ e ∷ rest
+      → same_call e.0 call ≡ false → (xs ++ e.0 ∷ []) ++ before_call call (keys_of rest) ≡ all
   goes_on xs es e rest h is s =
       let other : same_call call e.0 ≡ false = same_call-comm call e.0 ∙ s in
       let more : before_call call (keys_of es) ≡ e.0 ∷ before_call call (keys_of rest) = ap (λ l. before_call call (keys_of l)) is ∙ ap (λ b. if b then [] else e.0 ∷ before_call call (keys_of rest)) other in
       append_assoc xs (e.0 ∷ []) (before_call call (keys_of rest)) ∙ ap (λ l. xs ++ l) (sym more) ∙ h
 
   -- it ends behind the last
-  pub ends : (xs : List CallId) (es : List (CallId × Unit {0})) → xs ++ before_call call (keys_of es) ≡ all → es ≡ [] → xs ≡ all
+  pub ends : (xs : List CallId) (es : List (CallId × Unit {0})) → xs ++ before_call call (keys_of es) ≡ all
+      → es ≡ [] → xs ≡ all
   ends xs es h is = sym (append-nil xs) ∙ ap (λ l. xs ++ before_call call (keys_of l)) (sym is) ∙ h

@@ -34,13 +34,16 @@ use Rattle.sign_audit.specs.LineChange.{line_change, changed_line, changed_lines
 use Rattle.sign_audit.specs.declared.line_change.LineChange.TheVariants.{Enters, Leaves as LeavesLine, Stays}
 
 -- a queue that changes at one place changes the lines there
-pub lines-changed : (f : Queue → Queue) (g : List CallId → List CallId) → ((q : Queue) → (f q).line ≡ g q.line) → (i : ℕ) (queues : List Queue) → lines_of (with_changed f i queues) ≡ with_changed g i (lines_of queues)
+pub lines-changed : (f : Queue → Queue) (g : List CallId → List CallId)
+    → ((q : Queue) → (f q).line ≡ g q.line) → (i : ℕ) (queues : List Queue)
+    → lines_of (with_changed f i queues) ≡ with_changed g i (lines_of queues)
 lines-changed f g h i [] = refl
 lines-changed f g h zero (q ∷ rest) = ap (λ l. l ∷ lines_of rest) (h q)
 lines-changed f g h (suc i) (q ∷ rest) = ap (λ ls. q.line ∷ ls) (lines-changed f g h i rest)
 
 -- what does not change
-pub lines-stay : (call : CallId) (i : ℕ) (lines : List (List CallId)) → changed_lines Stays i call lines ≡ lines
+pub lines-stay : (call : CallId) (i : ℕ) (lines : List (List CallId))
+    → changed_lines Stays i call lines ≡ lines
 lines-stay call i [] = refl
 lines-stay call zero (l ∷ rest) = refl
 lines-stay call (suc i) (l ∷ rest) = ap (λ ls. l ∷ ls) (lines-stay call i rest)
@@ -73,22 +76,28 @@ module _ {K D : Type 0} (old : DeskState K D) (call : CallId) (i : ℕ) where
   not_now (Some stage.Loading) = same
   not_now (Some stage.Signing) = same
 
-  performed : (at : Option Stage) (action : Action K D) (about : CallId) (reply : Reply K) (new : DeskState K D) → ChangesLines at action → Performs action about old reply new → LinesBy at reply new.queues
+  performed : (at : Option Stage) (action : Action K D) (about : CallId) (reply : Reply K)
+      (new : DeskState K D) → ChangesLines at action → Performs action about old reply new
+      → LinesBy at reply new.queues
   performed at (Leaves given) about reply new g m = rw (m.0, m.1) g
   performed at (Does effect) about reply new g m = rw (m.0, m.1.queues) g
   performed at (Allocates effect) about reply new g (inl m) = rw (m.0, m.1.queues) g
   performed at (Allocates effect) about reply new g (inr m) = rw (m.0, m.1) (out_of_memory at)
 
-  enters : lines_of (with_changed (with_last call) i old.queues) ≡ changed_lines Enters i call (lines_of old.queues)
+  enters : lines_of (with_changed (with_last call) i old.queues)
+      ≡ changed_lines Enters i call (lines_of old.queues)
   enters = lines-changed (with_last call) (changed_line Enters call) (λ q. refl) i old.queues
 
-  leaves : lines_of (with_changed (without_call call) i old.queues) ≡ changed_lines LeavesLine i call (lines_of old.queues)
+  leaves : lines_of (with_changed (without_call call) i old.queues)
+      ≡ changed_lines LeavesLine i call (lines_of old.queues)
   leaves = lines-changed (without_call call) (changed_line LeavesLine call) (λ q. refl) i old.queues
 
-  returns_room : lines_of (with_changed without_room i old.queues) ≡ changed_lines Stays i call (lines_of old.queues)
+  returns_room : lines_of (with_changed without_room i old.queues)
+      ≡ changed_lines Stays i call (lines_of old.queues)
   returns_room = lines-changed without_room (changed_line Stays call) (λ q. refl) i old.queues
 
-  takes_room : lines_of (with_changed with_room i old.queues) ≡ changed_lines Stays i call (lines_of old.queues)
+  takes_room : lines_of (with_changed with_room i old.queues)
+      ≡ changed_lines Stays i call (lines_of old.queues)
   takes_room = lines-changed with_room (changed_line Stays call) (λ q. refl) i old.queues
 
 module _ {K D : Type 0} (policy : Policy K D) (old : DeskState K D) (call : CallId) (h : Handle) (r : CallRecord) where
@@ -98,23 +107,27 @@ module _ {K D : Type 0} (policy : Policy K D) (old : DeskState K D) (call : Call
   abbrev Changes : Stage → Action K D → Type 0
   Changes at action = ChangesLines old call h.cache (Some at) action
 
-  first_held : (look : Option (Progress K)) → Changes stage.Unpolled (hold_action (first_hold old view) view look)
+  first_held : (look : Option (Progress K))
+      → Changes stage.Unpolled (hold_action (first_hold old view) view look)
   first_held None = same old call h.cache
   first_held (Some (Asking k)) = enters old call h.cache
   first_held (Some (Over (HandOut c) cached)) = returns_room old call h.cache
   first_held (Some (Over (Refuse why) cached)) = returns_room old call h.cache
 
-  first_poll : (held : Bool) (look : Option (Progress K)) → Changes stage.Unpolled (first_poll_action old view held look)
+  first_poll : (held : Bool) (look : Option (Progress K))
+      → Changes stage.Unpolled (first_poll_action old view held look)
   first_poll true look = enters old call h.cache
   first_poll false look = first_held look
 
-  later_held : (look : Option (Progress K)) → Changes stage.Queued (hold_action (waited_hold old view) view look)
+  later_held : (look : Option (Progress K))
+      → Changes stage.Queued (hold_action (waited_hold old view) view look)
   later_held None = same old call h.cache
   later_held (Some (Asking k)) = same old call h.cache
   later_held (Some (Over (HandOut c) cached)) = leaves old call h.cache
   later_held (Some (Over (Refuse why) cached)) = leaves old call h.cache
 
-  later_poll : (held : Bool) (look : Option (Progress K)) → Changes stage.Queued (later_poll_action old view held look)
+  later_poll : (held : Bool) (look : Option (Progress K))
+      → Changes stage.Queued (later_poll_action old view held look)
   later_poll true look = later_held look
   later_poll false look = same old call h.cache
 
@@ -124,13 +137,15 @@ module _ {K D : Type 0} (policy : Policy K D) (old : DeskState K D) (call : Call
   polled now stage.Loading = same old call h.cache
   polled now stage.Signing = same old call h.cache
 
-  loaded : (load : Option (Progress K)) → Changes stage.Loading (hold_action (loading_hold old view) (with_answer view) load)
+  loaded : (load : Option (Progress K))
+      → Changes stage.Loading (hold_action (loading_hold old view) (with_answer view) load)
   loaded None = same old call h.cache
   loaded (Some (Asking k)) = same old call h.cache
   loaded (Some (Over (HandOut c) cached)) = leaves old call h.cache
   loaded (Some (Over (Refuse why) cached)) = leaves old call h.cache
 
-  provided : (now : ℤ) (answer : Answer K) (at : Stage) → Changes at (provided_action (load_action policy old now answer view) at)
+  provided : (now : ℤ) (answer : Answer K) (at : Stage)
+      → Changes at (provided_action (load_action policy old now answer view) at)
   provided now answer stage.Loading = loaded (desk_load policy old now view answer)
   provided now answer stage.Unpolled = same old call h.cache
   provided now answer stage.Queued = same old call h.cache
@@ -164,19 +179,23 @@ module _ {K D : Type 0} (policy : Policy K D) (old : DeskState K D) (i : ℕ) wh
   abbrev ChangesAt : CallId → Action K D → Type 0
   ChangesAt call action = ChangesLines old call i (stage_in call) action
 
-  begun_lines : (call : CallId) (at : Option Stage) → LinesBy old call i at Begun (with_changed with_room i old.queues)
+  begun_lines : (call : CallId) (at : Option Stage)
+      → LinesBy old call i at Begun (with_changed with_room i old.queues)
   begun_lines call None = takes_room old call i
   begun_lines call (Some stage.Unpolled) = takes_room old call i
   begun_lines call (Some stage.Queued) = takes_room old call i
   begun_lines call (Some stage.Loading) = takes_room old call i
   begun_lines call (Some stage.Signing) = takes_room old call i
 
-  begin_by : (call : CallId) (r : CallRecord) (at : Option Stage) → cache_at (slice_get old.handles call.handle) ≡ i → (fits : Bool) → can_begin old call ≡ fits → ChangesLines old call i at (begin_action old call r)
+  begin_by : (call : CallId) (r : CallRecord) (at : Option Stage)
+      → cache_at (slice_get old.handles call.handle) ≡ i → (fits : Bool) → can_begin old call ≡ fits
+      → ChangesLines old call i at (begin_action old call r)
   begin_by call r at here true fits = rw (fits, here) (begun_lines call at)
   begin_by call r at here false fits = rw fits (not_now old call i at)
 
   live : (call : CallId) → cache_of (setup_of old) call ≡ Some i → (action : LiveCallView → Action K D)
-      → ((h : Handle) (r : CallRecord) → ChangesLines old call h.cache (Some r.stage) (action (stored_view call h r)))
+      → ((h : Handle) (r : CallRecord)
+      → ChangesLines old call h.cache (Some r.stage) (action (stored_view call h r)))
       → ChangesAt call (live_action action (find_view old call))
   live call at action each =
       view-cases old call (λ v. ChangesAt call (live_action action v))
@@ -184,13 +203,15 @@ module _ {K D : Type 0} (policy : Policy K D) (old : DeskState K D) (i : ℕ) wh
       (λ h under found. not_now old call i (stage_in call))
       (λ h r under found. by_handle h r under found)
     where
-      by_handle : (h : Handle) (r : CallRecord) → slice_get old.handles call.handle ≡ Some h → find_call call old.calls ≡ Some r → ChangesAt call (action (stored_view call h r))
+      by_handle : (h : Handle) (r : CallRecord) → slice_get old.handles call.handle ≡ Some h
+          → find_call call old.calls ≡ Some r → ChangesAt call (action (stored_view call h r))
       by_handle h r under found =
           let here : Some h.cache ≡ Some i = sym (ap (option_map (λ (x : Handle). x.cache)) under) ∙ at in
           let is : h.cache ≡ i = cc in
           rw (found, ← is) (each h r)
 
-  changes : (event : Event K) → cache_of (setup_of old) (call_of event) ≡ Some i → ChangesAt (call_of event) (action_of policy old event)
+  changes : (event : Event K) → cache_of (setup_of old) (call_of event) ≡ Some i
+      → ChangesAt (call_of event) (action_of policy old event)
   changes (Begin call head expires_in) at = begin_by call (new_record head expires_in) (stage_in call) (here (slice_get old.handles call.handle) at) (can_begin old call) refl
     where
       here : (o : Option Handle) → option_map (λ (x : Handle). x.cache) o ≡ Some i → cache_at o ≡ i
@@ -202,6 +223,8 @@ module _ {K D : Type 0} (policy : Policy K D) (old : DeskState K D) (i : ℕ) wh
   changes (Cancel call) at = live call at _ (λ h r. cancelled policy old call h r r.stage)
 
   -- a step changes the line of its call's cache, as its reply says
-  pub lines-after : (event : Event K) (reply : Reply K) (new : DeskState K D) → cache_of (setup_of old) (call_of event) ≡ Some i → Transition policy event old reply new
-      → lines_of new.queues ≡ changed_lines (line_change (stage_in (call_of event)) reply) i (call_of event) (lines_of old.queues)
+  pub lines-after : (event : Event K) (reply : Reply K) (new : DeskState K D)
+      → cache_of (setup_of old) (call_of event) ≡ Some i → Transition policy event old reply new
+      → lines_of new.queues
+      ≡ changed_lines (line_change (stage_in (call_of event)) reply) i (call_of event) (lines_of old.queues)
   lines-after event reply new at m = performed old (call_of event) i (stage_in (call_of event)) (action_of policy old event) (call_of event) reply new (changes event at) m

@@ -33,7 +33,9 @@ use Rattle.sign_audit.proofs.LinesAfter.{stage_in}
 use Rattle.sign_audit.proofs.Phases.{phase-kept, phase-ended}
 
 -- a reply to a poll tells of memory where it hands out a credential
-poll-tells : {K : Type 0} (call : CallId) (now : ℤ) (reply : Reply K) → is_reply_to (Poll call now) reply ≡ true → is_out_of_memory reply ≡ false → tells_memory reply ≡ is_sign reply
+poll-tells : {K : Type 0} (call : CallId) (now : ℤ) (reply : Reply K)
+    → is_reply_to (Poll call now) reply ≡ true → is_out_of_memory reply ≡ false
+    → tells_memory reply ≡ is_sign reply
 poll-tells call now Begun k m = absurd (cc)
 poll-tells call now Pending k m = refl
 poll-tells call now NotNow k m = refl
@@ -50,48 +52,68 @@ module _ {K D : Type 0} (policy : Policy K D) (setup : Setup D) (entries : List 
   begin-told true = refl
   begin-told false = refl
 
-  begin-at : (call : CallId) (head : Head) (expires_in : Option Duration) (cache : Option ℕ) → cache_of setup call ≡ cache → tells_memory (reply_at policy setup entries (Begin call head expires_in) cache) ≡ begin_fits setup entries call
+  begin-at : (call : CallId) (head : Head) (expires_in : Option Duration) (cache : Option ℕ)
+      → cache_of setup call ≡ cache
+      → tells_memory (reply_at policy setup entries (Begin call head expires_in) cache)
+      ≡ begin_fits setup entries call
   begin-at call head expires_in None at = ap (λ o. is_some o && is_new_number entries call) (sym at)
   begin-at call head expires_in (Some i) at = begin-told (begin_fits setup entries call)
 
   -- the expected reply to a begin tells of memory where the begin fits
-  begin-expected : (call : CallId) (head : Head) (expires_in : Option Duration) → tells_memory (expected_reply policy setup entries (Begin call head expires_in)) ≡ begin_fits setup entries call
+  begin-expected : (call : CallId) (head : Head) (expires_in : Option Duration)
+      → tells_memory (expected_reply policy setup entries (Begin call head expires_in))
+      ≡ begin_fits setup entries call
   unfolding expected_reply
   begin-expected call head expires_in = begin-at call head expires_in (cache_of setup call) refl
 
-  misfit-not_sign : (call : CallId) (now : ℤ) → is_live (phase_of entries call) ≡ false → is_sign (expected_reply policy setup entries (Poll call now)) ≡ false
+  misfit-not_sign : (call : CallId) (now : ℤ) → is_live (phase_of entries call) ≡ false
+      → is_sign (expected_reply policy setup entries (Poll call now)) ≡ false
   unfolding expected_reply
   misfit-not_sign call now l = by_cache (cache_of setup call) refl
     where
-      by_cache : (o : Option ℕ) → cache_of setup call ≡ o → is_sign (expected_reply policy setup entries (Poll call now)) ≡ false
+      by_cache : (o : Option ℕ) → cache_of setup call ≡ o
+          → is_sign (expected_reply policy setup entries (Poll call now)) ≡ false
       by_cache None at = rw at refl
       by_cache (Some i) at = rw (at, l) refl
 
-  poll-memory : (call : CallId) (now : ℤ) → is_sign (expected_reply policy setup entries (Poll call now)) ≡ allocates policy setup entries (Poll call now)
+  poll-memory : (call : CallId) (now : ℤ)
+      → is_sign (expected_reply policy setup entries (Poll call now))
+      ≡ allocates policy setup entries (Poll call now)
   poll-memory call now = by_live (is_live (phase_of entries call)) refl
     where
-      by_live : (b : Bool) → is_live (phase_of entries call) ≡ b → is_sign (expected_reply policy setup entries (Poll call now)) ≡ allocates policy setup entries (Poll call now)
+      by_live : (b : Bool) → is_live (phase_of entries call) ≡ b
+          → is_sign (expected_reply policy setup entries (Poll call now))
+          ≡ allocates policy setup entries (Poll call now)
       by_live true l = ap (λ b. b && is_sign (expected_reply policy setup entries (Poll call now))) (sym l)
       by_live false l = misfit-not_sign call now l ∙ ap (λ b. b && is_sign (expected_reply policy setup entries (Poll call now))) (sym l)
 
-  pub begin-tells : (call : CallId) (head : Head) (expires_in : Option Duration) (reply : Reply K) → IsLegalEntry policy setup entries (record { event = Begin call head expires_in; reply = reply }) → tells_memory reply ≡ allocates policy setup entries (Begin call head expires_in)
+  pub begin-tells : (call : CallId) (head : Head) (expires_in : Option Duration) (reply : Reply K)
+      → IsLegalEntry policy setup entries (record { event = Begin call head expires_in; reply = reply })
+      → tells_memory reply ≡ allocates policy setup entries (Begin call head expires_in)
   begin-tells call head expires_in reply (inl expected) = ap tells_memory expected ∙ begin-expected call head expires_in ∙ sym (and_true (begin_fits setup entries call))
   begin-tells call head expires_in reply (inr l) = ap tells_memory l.0 ∙ sym l.1
 
-  pub poll-tells_memory : (call : CallId) (now : ℤ) (reply : Reply K) → is_reply_to (Poll call now) reply ≡ true → IsLegalEntry policy setup entries (record { event = Poll call now; reply = reply }) → tells_memory reply ≡ allocates policy setup entries (Poll call now)
+  pub poll-tells_memory : (call : CallId) (now : ℤ) (reply : Reply K)
+      → is_reply_to (Poll call now) reply ≡ true
+      → IsLegalEntry policy setup entries (record { event = Poll call now; reply = reply })
+      → tells_memory reply ≡ allocates policy setup entries (Poll call now)
   poll-tells_memory call now reply k (inl expected) =
       poll-tells call now reply k (ap is_out_of_memory expected ∙ expected_in_memory policy setup entries (Poll call now))
       ∙ ap is_sign expected ∙ poll-memory call now
   poll-tells_memory call now reply k (inr l) = ap tells_memory l.0 ∙ sym l.1
 
   -- an answer takes memory where a credential is found for a call that loads
-  pub finds-memory : (stage : Option Stage) (call : CallId) (now : ℤ) (answer : Answer K) → is_loading_at stage ≡ is_loading (phase_of entries call) → finds stage answer ≡ allocates policy setup entries (Provided call now answer)
+  pub finds-memory : (stage : Option Stage) (call : CallId) (now : ℤ) (answer : Answer K)
+      → is_loading_at stage ≡ is_loading (phase_of entries call)
+      → finds stage answer ≡ allocates policy setup entries (Provided call now answer)
   finds-memory stage call now (Found credential) at = at ∙ sym (and_true (is_loading (phase_of entries call)))
   finds-memory stage call now Missing at = sym (and_false (is_loading (phase_of entries call)))
   finds-memory stage call now (answer.Failed e) at = sym (and_false (is_loading (phase_of entries call)))
 
   -- a service's answer where it accepts the head of a call that signs
-  pub accepts-memory : (stage : Option Stage) (call : CallId) (answer : Verdict) → is_signing_at stage ≡ is_signing (phase_of entries call) → accepts stage answer ≡ allocates policy setup entries (Signed call answer)
+  pub accepts-memory : (stage : Option Stage) (call : CallId) (answer : Verdict)
+      → is_signing_at stage ≡ is_signing (phase_of entries call)
+      → accepts stage answer ≡ allocates policy setup entries (Signed call answer)
   accepts-memory stage call (Accepted candidate) at = at ∙ sym (and_true (is_signing (phase_of entries call)))
   accepts-memory stage call (verdict.Failed e) at = sym (and_false (is_signing (phase_of entries call)))
 
@@ -109,16 +131,22 @@ module _ {K D : Type 0} (policy : Policy K D) (desk : DeskState K D) (entries : 
   signs stage.Signing = refl
 
   -- the stage that is kept says whether a call loads, and whether it signs
-  pub loading-is : is_loading_at (stage_in policy desk 0 call) ≡ is_loading (phase_of (committed_entries entries) call)
+  pub loading-is : is_loading_at (stage_in policy desk 0 call)
+      ≡ is_loading (phase_of (committed_entries entries) call)
   loading-is = by_record (find_call call desk.calls) refl
     where
-      by_record : (o : Option CallRecord) → find_call call desk.calls ≡ o → is_loading_at (option_map (λ (r : CallRecord). r.stage) o) ≡ is_loading (phase_of (committed_entries entries) call)
+      by_record : (o : Option CallRecord) → find_call call desk.calls ≡ o
+          → is_loading_at (option_map (λ (r : CallRecord). r.stage) o)
+          ≡ is_loading (phase_of (committed_entries entries) call)
       by_record None found = sym (not_loading (phase_of (committed_entries entries) call) (phase-ended policy desk entries stood call found))
       by_record (Some r) found = sym (ap is_loading (phase-kept policy desk entries stood call r found) ∙ loads r.stage)
 
-  pub signing-is : is_signing_at (stage_in policy desk 0 call) ≡ is_signing (phase_of (committed_entries entries) call)
+  pub signing-is : is_signing_at (stage_in policy desk 0 call)
+      ≡ is_signing (phase_of (committed_entries entries) call)
   signing-is = by_record (find_call call desk.calls) refl
     where
-      by_record : (o : Option CallRecord) → find_call call desk.calls ≡ o → is_signing_at (option_map (λ (r : CallRecord). r.stage) o) ≡ is_signing (phase_of (committed_entries entries) call)
+      by_record : (o : Option CallRecord) → find_call call desk.calls ≡ o
+          → is_signing_at (option_map (λ (r : CallRecord). r.stage) o)
+          ≡ is_signing (phase_of (committed_entries entries) call)
       by_record None found = sym (not_signing (phase_of (committed_entries entries) call) (phase-ended policy desk entries stood call found))
       by_record (Some r) found = sym (ap is_signing (phase-kept policy desk entries stood call r found) ∙ signs r.stage)

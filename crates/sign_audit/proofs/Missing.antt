@@ -30,20 +30,29 @@ never room takes is none some = absurd (cc)
 
 module _ {K D : Type 0} (policy : Policy K D) (old : AuditState K D) (entries : List (Entry K)) (stood : AuditRepresents policy old entries) (event : Event K) where
   -- where the event takes no memory, the expected reply is the answer
-  missed-not : (room : Bool) → room ≡ may_run_out policy old entries event → room ≡ false → (reply : Reply K) → IsLegalEntry policy (setup_of old.desk) (committed_entries entries) (record { event = event; reply = reply }) → AnswersMissed policy old entries event (claim.Due reply) old
+  missed-not : (room : Bool) → room ≡ may_run_out policy old entries event → room ≡ false → (reply : Reply K)
+      → IsLegalEntry policy (setup_of old.desk) (committed_entries entries)
+      (record { event = event; reply = reply })
+      → AnswersMissed policy old entries event (claim.Due reply) old
   missed-not room is none reply (inl e) = (sym is ∙ none, e, refl)
   missed-not room is none reply (inr l) = never room (may_run_out policy old entries event) is none l.1
 
-  missed-desk : may_run_out policy old entries event ≡ true → Represents policy old.desk (entries ++ lost_entry event ∷ [])
+  missed-desk : may_run_out policy old entries event ≡ true
+      → Represents policy old.desk (entries ++ lost_entry event ∷ [])
   missed-desk takes = (refines-lost policy old.desk entries stood.desk event takes).represents
 
   -- where it takes memory, the claim is counted at the cache of its call
-  missed-counted : may_run_out policy old entries event ≡ true → (cache : ℕ) → cache_of (setup_of old.desk) (call_of event) ≡ Some cache
-      → AuditRepresents policy (record { desk = old.desk; counts = with_changed (counted {K = K} OutOfMemory) cache old.counts }) (entries ++ lost_entry event ∷ [])
+  missed-counted : may_run_out policy old entries event ≡ true → (cache : ℕ)
+      → cache_of (setup_of old.desk) (call_of event) ≡ Some cache
+      → AuditRepresents policy
+      (record { desk = old.desk; counts = with_changed (counted {K = K} OutOfMemory) cache old.counts })
+      (entries ++ lost_entry event ∷ [])
   missed-counted takes cache at = record { desk = missed-desk takes; counts = counts-after (setup_of old.desk) entries (lost_entry event) old.counts old.desk.loaders stood.counts cache at }
 
   -- and nowhere where it has none
-  missed-uncounted : may_run_out policy old entries event ≡ true → cache_of (setup_of old.desk) (call_of event) ≡ None → AuditRepresents policy old (entries ++ lost_entry event ∷ [])
+  missed-uncounted : may_run_out policy old entries event ≡ true
+      → cache_of (setup_of old.desk) (call_of event) ≡ None
+      → AuditRepresents policy old (entries ++ lost_entry event ∷ [])
   missed-uncounted takes unset = record { desk = missed-desk takes; counts = counts-same (setup_of old.desk) entries (lost_entry event) old.counts old.desk.loaders stood.counts unset }
 
 -- the same, of the fields of an auditor
@@ -54,15 +63,19 @@ module _ {K D : Type 0} (policy : Policy K D) (desk : DeskState K D) (counts : L
 
   -- where the event takes no memory
   pub miss-due : room ≡ false → (reply : Reply K)
-      → ((entries : List (Entry K)) → Represents policy desk entries → IsLegalEntry policy (setup_of desk) (committed_entries entries) (record { event = event; reply = reply }))
-      → (entries : List (Entry K)) → AuditRepresents policy now entries → AnswersMissed policy now entries event (claim.Due reply) now
+      → ((entries : List (Entry K)) → Represents policy desk entries
+      → IsLegalEntry policy (setup_of desk) (committed_entries
+      entries) (record { event = event; reply = reply }))
+      → (entries : List (Entry K)) → AuditRepresents policy now entries
+      → AnswersMissed policy now entries event (claim.Due reply) now
   miss-due none reply legal =
       subst (λ (a : AuditState K D). (entries : List (Entry K)) → AuditRepresents policy a entries → AnswersMissed policy a entries event (claim.Due reply) a) is
       (λ entries stood. missed-not policy opened entries stood event room (takes entries stood.desk) none reply (legal entries stood.desk))
 
   module _ (some : room ≡ true) (call : CallId) (named : call ≡ call_of event) where
     -- where it takes memory, and is of no cache
-    pub miss-unset : cache_of (setup_of desk) call ≡ None → (entries : List (Entry K)) → AuditRepresents policy now entries → AnswersMissed policy now entries event claim.Legal now
+    pub miss-unset : cache_of (setup_of desk) call ≡ None → (entries : List (Entry K))
+        → AuditRepresents policy now entries → AnswersMissed policy now entries event claim.Legal now
     miss-unset unset =
         let here : cache_of (setup_of desk) (call_of event) ≡ None = ap (cache_of (setup_of desk)) (sym named) ∙ unset in
         subst (λ (a : AuditState K D). (entries : List (Entry K)) → AuditRepresents policy a entries → AnswersMissed policy a entries event claim.Legal a) is
@@ -72,18 +85,21 @@ module _ {K D : Type 0} (policy : Policy K D) (desk : DeskState K D) (counts : L
       at-here : cache_of (setup_of desk) (call_of event) ≡ Some cache
       at-here = ap (cache_of (setup_of desk)) (sym named) ∙ at
 
-      represents-lost : (entries : List (Entry K)) → AuditRepresents policy opened entries → AuditRepresents policy (record { desk = desk; counts = after }) (entries ++ lost_entry event ∷ [])
+      represents-lost : (entries : List (Entry K)) → AuditRepresents policy opened entries
+          → AuditRepresents policy (record { desk = desk; counts = after }) (entries ++ lost_entry event ∷ [])
       represents-lost entries stood =
           subst (λ (cs : List Counts). AuditRepresents policy (record { desk = desk; counts = cs }) (entries ++ lost_entry event ∷ [])) (sym counted_are)
           (missed-counted policy opened entries stood event (sym (takes entries stood.desk) ∙ some) cache at-here)
 
       -- where it takes memory, and is counted at its cache
-      pub miss-counted : (entries : List (Entry K)) → AuditRepresents policy now entries → AnswersMissed policy now entries event claim.Legal (record { desk = desk; counts = after })
+      pub miss-counted : (entries : List (Entry K)) → AuditRepresents policy now entries
+          → AnswersMissed policy now entries event claim.Legal (record { desk = desk; counts = after })
       miss-counted =
           subst (λ (a : AuditState K D). (entries : List (Entry K)) → AuditRepresents policy a entries → AnswersMissed policy a entries event claim.Legal (record { desk = desk; counts = after })) is
           (λ entries stood. (sym (takes entries stood.desk) ∙ some, represents-lost entries stood))
 
-      pub miss-invariant : (lines : List (List CallId)) → IsAudit policy opened lines → IsAudit policy (record { desk = desk; counts = after }) lines
+      pub miss-invariant : (lines : List (List CallId)) → IsAudit policy opened lines
+          → IsAudit policy (record { desk = desk; counts = after }) lines
       miss-invariant lines kept = record {
         entries = kept.entries ++ lost_entry event ∷ [];
         represents = represents-lost kept.entries kept.represents;

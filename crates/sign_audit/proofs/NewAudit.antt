@@ -19,19 +19,24 @@ abbrev pub none : Counts
 none = record { asks = 0; signs = 0; refused = 0; cancelled = 0; missed = 0 }
 
 -- a list of one value for each item of another
-replicate-at : {A B : Type 0} (v : B) (xs : List A) (i : ℕ) → slice_get (replicate (length xs) v) i ≡ option_map (λ _. v) (slice_get xs i)
+replicate-at : {A B : Type 0} (v : B) (xs : List A) (i : ℕ)
+    → slice_get (replicate (length xs) v) i ≡ option_map (λ _. v) (slice_get xs i)
 replicate-at v [] i = refl
 replicate-at v (x ∷ xs) zero = refl
 replicate-at v (x ∷ xs) (suc i) = replicate-at v xs i
 
-no_line : (K D : Type 0) (setup : Setup D) (i : ℕ) → (queue_of setup (committed_entries {K = K} []) i).line ≡ []
+no_line : (K D : Type 0) (setup : Setup D) (i : ℕ)
+    → (queue_of setup (committed_entries {K = K} []) i).line ≡ []
 unfolding committed_entries poll_order
 no_line K D setup i = refl
 
 item-is : {A : Type 0} (x y : A) → Some x ≡ Some y → x ≡ y
 item-is x y e = cc
 
-lines-none : {A : Type 0} (queues : List Queue) (loaders : List A) (q : ℕ → Queue) → ((i : ℕ) → (q i).line ≡ []) → ((i : ℕ) → slice_get queues i ≡ option_map (λ _. q i) (slice_get loaders i)) → lines_of queues ≡ replicate (length loaders) []
+lines-none : {A : Type 0} (queues : List Queue) (loaders : List A) (q : ℕ → Queue)
+    → ((i : ℕ) → (q i).line ≡ [])
+    → ((i : ℕ) → slice_get queues i ≡ option_map (λ _. q i) (slice_get loaders i))
+    → lines_of queues ≡ replicate (length loaders) []
 lines-none [] [] q e h = refl
 lines-none [] (l ∷ ls) q e h = let no = h 0 in absurd (cc)
 lines-none (x ∷ xs) [] q e h = let no = h 0 in absurd (cc)
@@ -49,7 +54,8 @@ module _ {K D : Type 0} (policy : Policy K D) (desk : DeskState K D) (counts : L
   }
 
   -- it is an auditor
-  pub audit-new : (lines : List (List CallId)) → lines ≡ replicate caches [] → IsAudit policy (record { desk = desk; counts = counts }) lines
+  pub audit-new : (lines : List (List CallId)) → lines ≡ replicate caches []
+      → IsAudit policy (record { desk = desk; counts = counts }) lines
   audit-new lines empty = record {
     entries = [];
     represents = represents-new;
@@ -64,7 +70,8 @@ all-left : (n len : ℕ) → len ≡ 0 → n - len ≡ n
 all-left n len none-yet = omega (arith, none-yet)
 
 -- an empty list that is filled up
-pub filled : {E : Type 0} (r : Result (Unit {0}) E) (n len : ℕ) (old new : List Counts) (v : Counts) (failed : Bool) → old ≡ [] → len ≡ 0 → v ≡ none → failed ≡ false → failed ≡ is_err r
+pub filled : {E : Type 0} (r : Result (Unit {0}) E) (n len : ℕ) (old new : List Counts) (v : Counts)
+    (failed : Bool) → old ≡ [] → len ≡ 0 → v ≡ none → failed ≡ false → failed ≡ is_err r
     → new ≡ (if is_ok r then take n old ++ replicate (n - len) v else old) → new ≡ replicate n none
 filled (Ok x) n len old new v failed empty zeros is fine at h =
     h ∙ ap (λ (xs : List Counts). take n xs ++ replicate (n - len) v) empty ∙ ap (λ (xs : List Counts). xs ++ replicate (n - len) v) (take-none n) ∙ ap (λ k. replicate k v) (all-left n len zeros) ∙ ap (λ w. replicate n w) is

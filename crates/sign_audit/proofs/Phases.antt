@@ -25,27 +25,36 @@ module _ {K D : Type 0} (policy : Policy K D) (setup : Setup D) (call : CallId) 
   unfolding phase_of phase_in entries_of
   start = refl
 
-  refuses : (entries : List (Entry K)) (event : Event K) → same_call call (call_of event) ≡ true → expected_reply policy setup entries event ≡ NotNow
+  refuses : (entries : List (Entry K)) (event : Event K) → same_call call (call_of event) ≡ true
+      → expected_reply policy setup entries event ≡ NotNow
   unfolding expected_reply
   refuses entries event own = let none : cache_of setup (call_of event) ≡ None = ap (cache_of setup) (sym (same_call-eq call (call_of event) own)) ∙ unset in rw none refl
 
-  stays : (entries : List (Entry K)) (event : Event K) (own : Bool) → same_call call (call_of event) ≡ own → phase_of entries call ≡ Unknown → phase_of (entries ++ record { event = event; reply = expected_reply policy setup entries event } ∷ []) call ≡ Unknown
+  stays : (entries : List (Entry K)) (event : Event K) (own : Bool) → same_call call (call_of event) ≡ own
+      → phase_of entries call ≡ Unknown
+      → phase_of (entries ++ record { event = event; reply = expected_reply policy setup entries event } ∷ [])
+      call
+      ≡ Unknown
   stays entries event true own p = rw (refuses entries event own) (refused_phase setup entries 0 event call own ∙ p)
   stays entries event false own p = phase-other setup entries 0 (record { event = event; reply = expected_reply policy setup entries event }) call own ∙ p
 
   -- a call under no handle stays unknown
-  pub phase-unset : (entries : List (Entry K)) → IsLegal policy setup entries → phase_of (committed_entries entries) call ≡ Unknown
+  pub phase-unset : (entries : List (Entry K)) → IsLegal policy setup entries
+      → phase_of (committed_entries entries) call ≡ Unknown
   phase-unset entries legal = legal_keeps policy setup (λ es. phase_of es call ≡ Unknown) (λ es event p. stays es event _ refl p) start entries legal
 
 module _ {K D : Type 0} (policy : Policy K D) (desk : DeskState K D) (entries : List (Entry K)) (stood : Represents policy desk entries) (call : CallId) where
   -- a call with a record is as far as the record says
-  pub phase-kept : (r : CallRecord) → find_call call desk.calls ≡ Some r → phase_of (committed_entries entries) call ≡ phase_of_stage r.stage
+  pub phase-kept : (r : CallRecord) → find_call call desk.calls ≡ Some r
+      → phase_of (committed_entries entries) call ≡ phase_of_stage r.stage
   phase-kept r found = (record_says (live_view r) _ _ _ (ap (option_map live_view) (sym found) ∙ stood.calls call)).phase
 
   -- one without is not live
-  pub phase-ended : find_call call desk.calls ≡ None → is_live (phase_of (committed_entries entries) call) ≡ false
+  pub phase-ended : find_call call desk.calls ≡ None
+      → is_live (phase_of (committed_entries entries) call) ≡ false
   phase-ended found = by_cache (cache_of (setup_of desk) call) refl
     where
-      by_cache : (o : Option ℕ) → cache_of (setup_of desk) call ≡ o → is_live (phase_of (committed_entries entries) call) ≡ false
+      by_cache : (o : Option ℕ) → cache_of (setup_of desk) call ≡ o
+          → is_live (phase_of (committed_entries entries) call) ≡ false
       by_cache None unset = ap is_live (phase-unset policy (setup_of desk) call unset entries stood.legal)
       by_cache (Some i) at = not_live policy desk entries stood call i at found

@@ -23,7 +23,8 @@ abbrev days_since : ℤ → ℕ → ℕ → ℕ
 days_since z m d = day_count z m d - 3652425
 
 -- counting off leads to the date's year ..
-year_found : (year m d : ℕ) → IsCivilDate (pos year) m d → 3652425 ≤ day_count (pos year) m d → year_reached (days_since (pos year) m d) ≡ (year, day_of_year (pos year) m d - 1)
+year_found : (year m d : ℕ) → IsCivilDate (pos year) m d → 3652425 ≤ day_count (pos year) m d
+    → year_reached (days_since (pos year) m d) ≡ (year, day_of_year (pos year) m d - 1)
 year_found year m d h low =
     let same : 0 + year ≡ year = omega arith in
     let within : year ≤ 9999 = omega (arith, signed_arith, h.0.1) in
@@ -33,7 +34,8 @@ year_found year m d h low =
     rw same at (count_years-found year 9999 0 (days_since (pos year) m d) (day_of_year (pos year) m d - 1) within (rw same split) (rw same (omega (arith, inside, h.2.0))))
 
 -- .. and in it to its month
-month_found : (year m d : ℕ) → IsCivilDate (pos year) m d → count_months year 11 1 (day_of_year (pos year) m d - 1) ≡ (m, d - 1)
+month_found : (year m d : ℕ) → IsCivilDate (pos year) m d
+    → count_months year 11 1 (day_of_year (pos year) m d - 1) ≡ (m, d - 1)
 month_found year m d h =
     let same : 1 + (m - 1) ≡ m = omega (arith, h.1.0) in
     let start : 1 - 1 ≡ 0 = refl in
@@ -42,7 +44,8 @@ month_found year m d h =
 
 -- a date that does not come before the year 0 is what is counted off
 pub date_found : (z : ℤ) (m d : ℕ) → IsCivilDate z m d → 3652425 ≤ day_count z m d
-    → (z ≡ pos (year_reached (days_since z m d)).0) × (m ≡ (month_reached (days_since z m d)).0) × (d ≡ (month_reached (days_since z m d)).1 + 1)
+    → (z ≡ pos (year_reached (days_since z m d)).0) × (m ≡ (month_reached (days_since z m d)).0)
+    × (d ≡ (month_reached (days_since z m d)).1 + 1)
 date_found (pos year) m d h low =
     let years = year_found year m d h low in
     let months : month_reached (days_since (pos year) m d) ≡ (m, d - 1) = rw years (month_found year m d h) in
@@ -51,7 +54,8 @@ date_found (pos year) m d h low =
 date_found (negsuc before) m d h low = absurd (omega (arith, day_count-year_0, day_count-lt_year (negsuc before) m d (pos 0) 1 1 h (omega arith) (omega (arith, signed_arith))))
 
 -- the weekday by the days since the year 0 began
-weekday_found : (z : ℤ) (m d : ℕ) → 3652425 ≤ day_count z m d → weekday_number (days_from_civil z m d) ≡ weekday_of_day (days_since z m d)
+weekday_found : (z : ℤ) (m d : ℕ) → 3652425 ≤ day_count z m d
+    → weekday_number (days_from_civil z m d) ≡ weekday_of_day (days_since z m d)
 unfolding weekday_number
 weekday_found z m d low =
     let shifted : days_from_civil z m d +ℤ pos 3 +ℤ pos (102790 * 7) ≡ pos (days_since z m d + 5) = omega (arith, signed_arith, days_from_civil-day_count z m d, low) in
@@ -59,7 +63,9 @@ weekday_found z m d low =
 
 -- a moment from the year 0 on, as days since then and the time of day
 since_found : (shown : DateTime) (t : ℤ) → civil_nanos shown ≡ t → IsFourDigitYear t
-    → (3652425 ≤ day_count shown.date.year shown.date.month shown.date.day) × (since_year_0 t ≡ days_since shown.date.year shown.date.month shown.date.day * day_nanos + time_nanos shown.time)
+    → (3652425 ≤ day_count shown.date.year shown.date.month shown.date.day)
+    × (since_year_0 t
+    ≡ days_since shown.date.year shown.date.month shown.date.day * day_nanos + time_nanos shown.time)
 since_found shown t e low =
     let parts = civil_nanos-parts shown in
     let day = days_from_civil-day_count shown.date.year shown.date.month shown.date.day in
@@ -69,11 +75,14 @@ since_found shown t e low =
     (late, ap unsigned_abs whole)
 
 -- the time of day by the seconds since midnight
-clock_found : (shown : DateTime) (seconds : ℕ) → seconds ≡ time_seconds shown.time → (shown.time.hour ≡ seconds / 3600) × (shown.time.minute ≡ seconds / 60 % 60) × (shown.time.second ≡ seconds % 60)
+clock_found : (shown : DateTime) (seconds : ℕ) → seconds ≡ time_seconds shown.time
+    → (shown.time.hour ≡ seconds / 3600) × (shown.time.minute ≡ seconds / 60 % 60)
+    × (shown.time.second ≡ seconds % 60)
 clock_found shown seconds e = (omega (arith, e), omega (arith, e), omega (arith, e))
 
 -- a date and time that lies at a moment shows what the calendar and the clock show there
-pub civil_shown : (shown : DateTime) (t : ℤ) → civil_nanos shown ≡ t → IsFourDigitYear t → ShowsCivil shown (civil_of t)
+pub civil_shown : (shown : DateTime) (t : ℤ) → civil_nanos shown ≡ t → IsFourDigitYear t
+    → ShowsCivil shown (civil_of t)
 civil_shown shown t e low =
     let since = since_found shown t e low in
     let bound = time_nanos_bound shown.time in
@@ -92,7 +101,8 @@ civil_shown shown t e low =
     }
 
 -- the years from 0 on do not begin before the year 0
-pub not_before_year_0 : (year month day : ℕ) → IsCivilDate (pos year) month day → 3652425 ≤ day_count (pos year) month day
+pub not_before_year_0 : (year month day : ℕ) → IsCivilDate (pos year) month day
+    → 3652425 ≤ day_count (pos year) month day
 not_before_year_0 zero month day h =
     omega (arith, day_count-year_0, day_count-day_of_year (pos 0) month day h.2.0, h.2.0)
 not_before_year_0 (suc n) month day h =

@@ -8,7 +8,8 @@ use Rattle.sign_base.specs.MomentRead as read
 use Rattle.sign_base.proofs.CountingOff.{days_before, days_before-next, counts_here, counts_on, days_before_month, days_before_month-next, months_here, months_on}
 
 -- the years that were counted off and the rest are the days
-pub count_years-keeps : (most year days : ℕ) → (count_years most year days).1 + days_before (count_years most year days).0 ≡ days + days_before year
+pub count_years-keeps : (most year days : ℕ)
+    → (count_years most year days).1 + days_before (count_years most year days).0 ≡ days + days_before year
 unfolding count_years
 count_years-keeps zero year days = refl
 count_years-keeps (suc most) year days =
@@ -30,7 +31,8 @@ count_years-most (suc most) year days =
     ]
 
 -- where these are enough, the rest lies in the year
-pub count_years-within : (most year days : ℕ) → days + days_before year < days_before (year + suc most) → (count_years most year days).1 < days_in_year (pos (count_years most year days).0)
+pub count_years-within : (most year days : ℕ) → days + days_before year < days_before (year + suc most)
+    → (count_years most year days).1 < days_in_year (pos (count_years most year days).0)
 unfolding count_years
 count_years-within zero year days h = omega (arith, days_before-next year, h)
 count_years-within (suc most) year days h =
@@ -45,7 +47,8 @@ count_years-within (suc most) year days h =
 -- the same of months
 pub count_months-keeps : (year most month days : ℕ) → 1 ≤ month
     → (1 ≤ (count_months year most month days).0)
-    × ((count_months year most month days).1 + days_before_month year (count_months year most month days).0 ≡ days + days_before_month year month)
+    × ((count_months year most month days).1 + days_before_month year (count_months year most month days).0
+    ≡ days + days_before_month year month)
 unfolding count_months
 count_months-keeps year zero month days low = (low, refl)
 count_months-keeps year (suc most) month days low =
@@ -65,7 +68,9 @@ count_months-most year (suc most) month days =
       | inr on ↦ rw (months_on year most month days on) (let rest = count_months-most year most (month + 1) (days - days_in_month (pos year) month) in omega (arith, rest))
     ]
 
-pub count_months-within : (year most month days : ℕ) → 1 ≤ month → days + days_before_month year month < days_before_month year (month + suc most) → (count_months year most month days).1 < days_in_month (pos year) (count_months year most month days).0
+pub count_months-within : (year most month days : ℕ) → 1 ≤ month
+    → days + days_before_month year month < days_before_month year (month + suc most)
+    → (count_months year most month days).1 < days_in_month (pos year) (count_months year most month days).0
 unfolding count_months
 count_months-within year zero month days low h = omega (arith, days_before_month-next year month low, h)
 count_months-within year (suc most) month days low h =
@@ -78,7 +83,8 @@ count_months-within year (suc most) month days low h =
     ]
 
 -- a date that was counted off has as many days before it
-pub days_before-reached : (day : ℕ) → read.days_before (year_reached day).0 (month_reached day).0 ((month_reached day).1 + 1) ≡ day
+pub days_before-reached : (day : ℕ)
+    → read.days_before (year_reached day).0 (month_reached day).0 ((month_reached day).1 + 1) ≡ day
 days_before-reached day =
     let years = count_years-keeps 9999 0 day in
     let months = count_months-keeps (year_reached day).0 11 1 (year_reached day).1 (omega arith) in

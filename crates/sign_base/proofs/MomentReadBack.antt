@@ -15,7 +15,9 @@ use Rattle.sign_base.proofs.DaysCounted.{count_years-most, count_years-within, c
 two_glyphs : (n : ℕ) → n < 100 → two_digits n ≡ (48 + n / 10) ∷ (48 + n % 10) ∷ []
 two_glyphs n small = ap₂ (λ x y. x ++ y) (decimal_digit (n / 10) (omega arith)) (decimal_digit (n % 10) (omega arith))
 
-four_glyphs : (n : ℕ) → n < 10000 → four_digits n ≡ (48 + n / 100 / 10) ∷ (48 + n / 100 % 10) ∷ (48 + n % 100 / 10) ∷ (48 + n % 100 % 10) ∷ []
+four_glyphs : (n : ℕ) → n < 10000
+    → four_digits n
+    ≡ (48 + n / 100 / 10) ∷ (48 + n / 100 % 10) ∷ (48 + n % 100 / 10) ∷ (48 + n % 100 % 10) ∷ []
 four_glyphs n small = ap₂ (λ x y. x ++ y) (two_glyphs (n / 100) (omega arith)) (two_glyphs (n % 100) (omega arith))
 
 -- each field of the date and time is printed whole
@@ -102,10 +104,13 @@ since_is t low =
       | inr some ↦ omega (arith, signed_arith, low, some)
     ]
 
-pub second_found : (t : ℤ) → IsFourDigitYear t → pos (since_year_0 t / second_nanos) +ℤ neg_ℤ (pos (days_before_1970 * 86400)) ≡ int_div_euclid t (pos second_nanos)
+pub second_found : (t : ℤ) → IsFourDigitYear t
+    → pos (since_year_0 t / second_nanos) +ℤ neg_ℤ (pos (days_before_1970 * 86400))
+    ≡ int_div_euclid t (pos second_nanos)
 second_found t low = omega (arith, signed_arith, since_is t low)
 
-pub shown_moment-printed : (t : ℤ) → IsMoment t → IsFourDigitYear t → shown_moment (iso8601_text (civil_of t)) ≡ whole_second t
+pub shown_moment-printed : (t : ℤ) → IsMoment t → IsFourDigitYear t
+    → shown_moment (iso8601_text (civil_of t)) ≡ whole_second t
 shown_moment-printed t h low =
     let seconds : shown_days (iso8601_text (civil_of t)) * 86400 + shown_time (iso8601_text (civil_of t)) ≡ since_year_0 t / second_nanos =
     omega (arith, days_read t h low, time_read t h low, whole_days (since_year_0 t)) in

@@ -9,12 +9,14 @@ use Rattle.std.proofs.lemmas.List.Folds.{concat-append}
 
 module _ {W : Type 0} (took : W → List ℕ → W → Type 0) where
   -- calls after calls
-  calls-append : (w v u : W) (xs ys : List (List ℕ)) → FoldsTo took w xs v → FoldsTo took v ys u → FoldsTo took w (xs ++ ys) u
+  calls-append : (w v u : W) (xs ys : List (List ℕ)) → FoldsTo took w xs v → FoldsTo took v ys u
+      → FoldsTo took w (xs ++ ys) u
   calls-append w v u [] ys first next = subst (λ x. FoldsTo took x ys u) (sym first) next
   calls-append w v u (x ∷ xs) ys first next = (first.0, first.1, calls-append first.0 v u xs ys first.2 next)
 
   -- a text after a text
-  styled-append : (f g h : Formatter W) (a b : List ℕ) → HasWrittenStyled took f a g → HasWrittenStyled took g b h → HasWrittenStyled took f (a ++ b) h
+  styled-append : (f g h : Formatter W) (a b : List ℕ) → HasWrittenStyled took f a g
+      → HasWrittenStyled took g b h → HasWrittenStyled took f (a ++ b) h
   styled-append f g h a b first next = record {
     wrote = record {
       parts = first.wrote.parts ++ next.wrote.parts;
@@ -26,8 +28,8 @@ module _ {W : Type 0} (took : W → List ℕ → W → Type 0) where
   }
 
   -- three texts, the last of which is written only where the first two were
-  pub styled-three : (f g h k : Formatter W) (r s t : Result (Unit {0}) Error) (a b c all : List ℕ) → IsOk r → IsOk s
-      → WritesStyledOnOk took f r a g → WritesStyledOnOk took g s b h → WritesStyledOnOk took h t c k
+  pub styled-three : (f g h k : Formatter W) (r s t : Result (Unit {0}) Error) (a b c all : List ℕ) → IsOk r
+      → IsOk s → WritesStyledOnOk took f r a g → WritesStyledOnOk took g s b h → WritesStyledOnOk took h t c k
       → all ≡ a ++ (b ++ c) → WritesStyledOnOk took f t all k
   styled-three f g h k r s t a b c all r_ok s_ok first next last whole flush t_ok =
       let wrote = first flush r_ok in

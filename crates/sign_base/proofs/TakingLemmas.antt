@@ -14,7 +14,8 @@ Takes old new before after =
     (bytes : List ℕ) × Consumes before after bytes × TakenByNeed old bytes × (new ≡ with_taken old bytes)
 
 -- a read was needed with fewer bytes too
-pub NeedsRead-earlier : (input : LineInput) (bytes : List ℕ) → NeedsRead (with_taken input bytes) → NeedsRead input
+pub NeedsRead-earlier : (input : LineInput) (bytes : List ℕ) → NeedsRead (with_taken input bytes)
+    → NeedsRead input
 NeedsRead-earlier input bytes needs = (
   needs.0,
   omega (arith, needs.1, length-append input.held bytes),
@@ -26,13 +27,15 @@ NeedsRead-earlier input bytes needs = (
 )
 
 -- nothing was taken where no read was needed
-pub nothing-taken : (input : LineInput) (bytes : List ℕ) → (NeedsRead input → ⊥) → TakenByNeed input bytes → bytes ≡ []
+pub nothing-taken : (input : LineInput) (bytes : List ℕ) → (NeedsRead input → ⊥) → TakenByNeed input bytes
+    → bytes ≡ []
 nothing-taken input bytes ready (inl none) = none
 nothing-taken input bytes ready (inr (earlier, piece, is, needs)) = absurd (ready (NeedsRead-earlier input earlier needs))
 
 -- one piece more was taken
 pub takes-more : (old now new : LineInput) (before middle after : Option (List ℕ)) (piece : List ℕ)
-    → Takes old now before middle → NeedsRead now → Consumes middle after piece → new ≡ with_taken now piece → Takes old new before after
+    → Takes old now before middle → NeedsRead now → Consumes middle after piece → new ≡ with_taken now piece
+    → Takes old new before after
 takes-more old now new before middle after piece (bytes, gave, needed, is) needs gives new_is = (
   bytes ++ piece,
   Consumes-trans before middle after bytes piece gave gives,
@@ -41,7 +44,8 @@ takes-more old now new before middle after piece (bytes, gave, needed, is) needs
 )
 
 -- where a read is needed after some were taken, one was needed before
-pub needed-first : (old now : LineInput) (before middle : Option (List ℕ)) → Takes old now before middle → NeedsRead now → NeedsRead old
+pub needed-first : (old now : LineInput) (before middle : Option (List ℕ)) → Takes old now before middle
+    → NeedsRead now → NeedsRead old
 needed-first old now before middle (bytes, gave, needed, is) needs = NeedsRead-earlier old bytes (subst NeedsRead is needs)
 
 -- a read that gave nothing at the end of the source ends the taking
@@ -55,7 +59,8 @@ fills-at-end old now new before middle after piece taken needs gives new_is none
     (more.0, more.1, more.2, more.3, (subst NeedsRead (sym same) needs, ends))
 
 -- a read that failed ends the taking
-pub fills-failed : (old now new : LineInput) (before middle after : Option (List ℕ)) → Takes old now before middle
-    → NeedsRead now → Keeps middle after → new ≡ now → Fills old before after Failed new
+pub fills-failed : (old now new : LineInput) (before middle after : Option (List ℕ))
+    → Takes old now before middle → NeedsRead now → Keeps middle after → new ≡ now
+    → Fills old before after Failed new
 fills-failed old now new before middle after (bytes, gave, needed, is) needs keeps same =
     (bytes, Consumes-kept before middle after bytes gave keeps, needed, same ∙ is, subst NeedsRead (sym same) needs)

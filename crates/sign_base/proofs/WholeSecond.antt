@@ -18,7 +18,8 @@ whole_second-IsFourDigitYear t low = omega (arith, signed_arith)
 pub whole_second-IsMoment : (t : ℤ) → IsMoment t → IsFourDigitYear t → IsMoment (whole_second t)
 whole_second-IsMoment t h low = let late = whole_second-le t in let early = whole_second-IsFourDigitYear t low in grind (arith, signed_arith)
 
-since_whole : (t : ℤ) → IsFourDigitYear t → since_year_0 (whole_second t) ≡ since_year_0 t / second_nanos * second_nanos
+since_whole : (t : ℤ) → IsFourDigitYear t
+    → since_year_0 (whole_second t) ≡ since_year_0 t / second_nanos * second_nanos
 since_whole t low =
     let found = second_found t low in
     let shifted : whole_second t +ℤ pos (days_before_1970 * day_nanos) ≡ pos (since_year_0 t / second_nanos * second_nanos) = omega (arith, signed_arith, found) in
@@ -28,7 +29,8 @@ since_whole t low =
 same_day : (n : ℕ) → n / second_nanos * second_nanos / day_nanos ≡ n / day_nanos
 same_day n = omega arith
 
-same_second : (n : ℕ) → n / second_nanos * second_nanos % day_nanos / second_nanos ≡ n % day_nanos / second_nanos
+same_second : (n : ℕ)
+    → n / second_nanos * second_nanos % day_nanos / second_nanos ≡ n % day_nanos / second_nanos
 same_second n = omega arith
 
 civil_at : ℕ → ℕ → Civil

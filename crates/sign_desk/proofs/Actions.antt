@@ -1,4 +1,5 @@
--- What all that a desk does has in common: it leaves the records of other calls, says what becomes of its call's, and takes
+-- What all that a desk does has in common: it leaves the records of other calls, says what becomes of its
+-- call's, and takes
 -- memory only for a step.
 use Rattle.std.proofs.Common.{◌≡◌, ℤ, Bool, true, false, cond, IsTrue, Option, Some, None, option_map, length, refl, sym, ◌∙◌, ap, subst}
 use Rattle.wake_lock.specs.declared.CallId.{CallId}
@@ -57,30 +58,37 @@ module _ {K D : Type 0} (old : DeskState K D) where
     one : one_if (find_call view.call old.calls) ≡ 1
     one = ap one_if found
 
-    stays : (desk : DeskState K D) → desk.calls ≡ old.calls → (change : CallRecord → CallRecord) → one_if (option_map change (find_call view.call desk.calls)) ≡ 1
+    stays : (desk : DeskState K D) → desk.calls ≡ old.calls → (change : CallRecord → CallRecord)
+        → one_if (option_map change (find_call view.call desk.calls)) ≡ 1
     stays desk same change = ap (λ cs. one_if (option_map change (find_call view.call cs))) same ∙ ap (λ o. one_if (option_map change o)) found
 
-    hold_plain : (hold : Hold K D) → hold.asking_desk.calls ≡ old.calls → ((c : K) → (hold.signing_desk c).calls ≡ old.calls) → hold.ended_desk.calls ≡ old.calls → (progress : Option (Progress K)) → IsPlain view.call (hold_action hold view progress)
+    hold_plain : (hold : Hold K D) → hold.asking_desk.calls ≡ old.calls
+        → ((c : K) → (hold.signing_desk c).calls ≡ old.calls) → hold.ended_desk.calls ≡ old.calls
+        → (progress : Option (Progress K)) → IsPlain view.call (hold_action hold view progress)
     hold_plain hold a s o None = refl
     hold_plain hold a s o (Some (Asking k)) = (a, (one, stays hold.asking_desk a _))
     hold_plain hold a s o (Some (Over (HandOut c) left)) = ((s c, (one, stays (hold.signing_desk c) (s c) _)), refl)
     hold_plain hold a s o (Some (Over (Refuse why) left)) = (o, (one, refl))
 
-    first_plain : (b : Bool) (look : Option (Progress K)) → IsPlain view.call (first_poll_action old view b look)
+    first_plain : (b : Bool) (look : Option (Progress K))
+        → IsPlain view.call (first_poll_action old view b look)
     first_plain true look = (refl, (one, stays old refl _))
     first_plain false look = hold_plain (first_hold old view) refl (λ c. refl) refl look
 
-    later_plain : (b : Bool) (look : Option (Progress K)) → IsPlain view.call (later_poll_action old view b look)
+    later_plain : (b : Bool) (look : Option (Progress K))
+        → IsPlain view.call (later_poll_action old view b look)
     later_plain true look = hold_plain (waited_hold old view) refl (λ c. refl) refl look
     later_plain false look = refl
 
-    poll_plain : (policy : Policy K D) (now : ℤ) (s : Stage) → IsPlain view.call (poll_action policy old now view s)
+    poll_plain : (policy : Policy K D) (now : ℤ) (s : Stage)
+        → IsPlain view.call (poll_action policy old now view s)
     poll_plain policy now stage.Unpolled = first_plain (is_held_line (line_at view.cache old.queues)) (desk_lookup policy old now view)
     poll_plain policy now stage.Queued = later_plain (is_first view.call (line_at view.cache old.queues)) (desk_lookup policy old now view)
     poll_plain policy now stage.Loading = refl
     poll_plain policy now stage.Signing = refl
 
-    provided_plain : (load : Action K D) → IsPlain view.call load → (s : Stage) → IsPlain view.call (provided_action load s)
+    provided_plain : (load : Action K D) → IsPlain view.call load → (s : Stage)
+        → IsPlain view.call (provided_action load s)
     provided_plain load k stage.Loading = k
     provided_plain load k stage.Unpolled = refl
     provided_plain load k stage.Queued = refl
@@ -102,15 +110,22 @@ module _ {K D : Type 0} (old : DeskState K D) where
     cancel_plain stage.Loading = (refl, (one, refl))
     cancel_plain stage.Signing = (refl, (one, refl))
 
-  live_plain : (call : CallId) (action : LiveCallView → Action K D) → ((h : Handle) (r : CallRecord) → find_call call old.calls ≡ Some r → IsPlain call (action (stored_view call h r))) → IsPlain call (live_action action (find_view old call))
+  live_plain : (call : CallId) (action : LiveCallView → Action K D)
+      → ((h : Handle) (r : CallRecord) → find_call call old.calls ≡ Some r
+      → IsPlain call (action (stored_view call h r)))
+      → IsPlain call (live_action action (find_view old call))
   live_plain call action each = view-cases old call (λ v. IsPlain call (live_action action v)) (λ _. refl) (λ _ _ _. refl) (λ h r _ found. each h r found)
 
-  begin_plain : (b : Bool) (call : CallId) (live : CallRecord) → IsPlain call (cond b (Allocates (record { reply = Begun; desk = with_begin call old; live = Some live })) (Leaves NotNow))
+  begin_plain : (b : Bool) (call : CallId) (live : CallRecord)
+      → IsPlain call
+      (cond b (Allocates (record { reply = Begun; desk = with_begin call old; live = Some live }))
+      (Leaves NotNow))
   begin_plain true call live = ((refl, tt), refl)
   begin_plain false call live = refl
 
   -- what is done at an event
-  pub action-plain : (policy : Policy K D) (event : Event K) → IsPlain (call_of event) (action_of policy old event)
+  pub action-plain : (policy : Policy K D) (event : Event K)
+      → IsPlain (call_of event) (action_of policy old event)
   action-plain policy (Begin call head expires_in) = begin_plain (can_begin old call) call (new_record head expires_in)
   action-plain policy (Poll call now) = live_plain call (λ view. poll_action policy old now view view.stage) (λ h r f. poll_plain (stored_view call h r) r f policy now r.stage)
   action-plain policy (Provided call now answer) =

@@ -29,16 +29,20 @@ says_own (Done head) = refl
 says_own (Cancelled wake) = refl
 
 module _ {K D : Type 0} where
-  steps_by : (old : DeskState K D) (call : CallId) (action : Action K D) → IsPlain old call action → AllocatesFor (IsCaused TakesMemory) action
+  steps_by : (old : DeskState K D) (call : CallId) (action : Action K D) → IsPlain old call action
+      → AllocatesFor (IsCaused TakesMemory) action
   steps_by old call (Leaves reply) k = tt
   steps_by old call (Does effect) k = tt
   steps_by old call (Allocates effect) k = inl k.1
 
   -- what is previewed has its cause
-  pub previewed-caused : (policy : Policy K D) (event : Event K) (old : DeskState K D) (reply : Reply K) → Previews (action_of policy old event) reply → IsCaused (cause_of policy old event) reply
+  pub previewed-caused : (policy : Policy K D) (event : Event K) (old : DeskState K D) (reply : Reply K)
+      → Previews (action_of policy old event) reply → IsCaused (cause_of policy old event) reply
   previewed-caused policy event old reply h =
       previewed-by said_by OutOfMemory (λ cause r. IsCaused cause r) says_own (inr refl) (action_of policy old event) (steps_by old (call_of event) (action_of policy old event) (action-plain old policy event)) reply h
 
   -- what a step replies has its cause
-  pub caused : (policy : Policy K D) (event : Event K) (old : DeskState K D) (reply : Reply K) (new : DeskState K D) → Transition policy event old reply new → IsCaused (cause_of policy old event) reply
+  pub caused : (policy : Policy K D) (event : Event K) (old : DeskState K D) (reply : Reply K)
+      (new : DeskState K D) → Transition policy event old reply new
+      → IsCaused (cause_of policy old event) reply
   caused policy event old reply new m = previewed-caused policy event old reply (performed-previews OutOfMemory (action_of policy old event) (call_of event) old reply new m)

@@ -40,7 +40,8 @@ module _ {K D : Type 0} (policy : Policy K D) where
   not_started old d h = subst (Represents policy old) (d.empty h) d.represents
 
   -- one more cache leaves a desk
-  pub desk-with_cache : (old : DeskState K D) → IsDesk policy old → old.started ≡ false → (loader : Loader) → length old.loaders < 4294967295 → IsDesk policy (with_cache loader old)
+  pub desk-with_cache : (old : DeskState K D) → IsDesk policy old → old.started ≡ false → (loader : Loader)
+      → length old.loaders < 4294967295 → IsDesk policy (with_cache loader old)
   desk-with_cache old d h loader few = record {
     set_up = set_up-cache (setup_of old) d.set_up loader few;
     entries = [];
@@ -49,7 +50,8 @@ module _ {K D : Type 0} (policy : Policy K D) where
   }
 
   -- one more rule leaves a desk
-  pub desk-with_rule : (old : DeskState K D) → IsDesk policy old → old.started ≡ false → (rule : D) → length old.rules < 4294967295 → IsDesk policy (with_rule rule old)
+  pub desk-with_rule : (old : DeskState K D) → IsDesk policy old → old.started ≡ false → (rule : D)
+      → length old.rules < 4294967295 → IsDesk policy (with_rule rule old)
   desk-with_rule old d h rule few = record {
     set_up = set_up-rule (setup_of old) d.set_up rule few;
     entries = [];
@@ -58,7 +60,9 @@ module _ {K D : Type 0} (policy : Policy K D) where
   }
 
   -- one more handle leaves a desk
-  pub desk-with_handle : (old : DeskState K D) → IsDesk policy old → old.started ≡ false → (cache rule : ℕ) → length old.handles < 4294967295 → cache < length old.loaders → rule < length old.rules → IsDesk policy (with_handle cache rule old)
+  pub desk-with_handle : (old : DeskState K D) → IsDesk policy old → old.started ≡ false → (cache rule : ℕ)
+      → length old.handles < 4294967295 → cache < length old.loaders → rule < length old.rules
+      → IsDesk policy (with_handle cache rule old)
   desk-with_handle old d h cache rule few c r = record {
     set_up = set_up-handle (setup_of old) d.set_up (record { cache = cache; rule = rule }) few c r;
     entries = [];
@@ -67,11 +71,17 @@ module _ {K D : Type 0} (policy : Policy K D) where
   }
 
   -- the expected reply to a first event accepts a begin, or it does not fit
-  begin_first : (b : Bool) → (is_begun (cond b (let r : Reply K = Begun in r) NotNow) || is_not_now (cond b (let r : Reply K = Begun in r) NotNow)) ≡ true
+  begin_first : (b : Bool)
+      → (is_begun (cond b (let r : Reply K = Begun in r) NotNow) || is_not_now
+      (cond b (let r : Reply K = Begun in r) NotNow))
+      ≡ true
   begin_first true = refl
   begin_first false = refl
 
-  first_at : (setup : Setup D) (event : Event K) (o : Option ℕ) → (is_begun (reply_at policy setup (committed_entries []) event o) || is_not_now (reply_at policy setup (committed_entries []) event o)) ≡ true
+  first_at : (setup : Setup D) (event : Event K) (o : Option ℕ)
+      → (is_begun (reply_at policy setup (committed_entries []) event o) || is_not_now
+      (reply_at policy setup (committed_entries []) event o))
+      ≡ true
   unfolding committed_entries phase_of phase_in entries_of
   first_at setup event None = refl
   first_at setup (Begin call head expires_in) (Some i) = begin_first (begin_fits setup (committed_entries {K = K} []) call)
@@ -80,16 +90,23 @@ module _ {K D : Type 0} (policy : Policy K D) where
   first_at setup (Signed call answer) (Some i) = refl
   first_at setup (Cancel call) (Some i) = refl
 
-  first_expected : (setup : Setup D) (event : Event K) → (is_begun (expected_reply policy setup (committed_entries []) event) || is_not_now (expected_reply policy setup (committed_entries []) event)) ≡ true
+  first_expected : (setup : Setup D) (event : Event K)
+      → (is_begun (expected_reply policy setup (committed_entries []) event) || is_not_now
+      (expected_reply policy setup (committed_entries []) event))
+      ≡ true
   unfolding expected_reply
   first_expected setup event = first_at setup event (cache_of setup (call_of event))
 
-  legal_first : (setup : Setup D) (e : Entry K) → IsLegal policy setup ([] ++ e ∷ []) → IsLegalEntry policy setup (committed_entries []) e
+  legal_first : (setup : Setup D) (e : Entry K) → IsLegal policy setup ([] ++ e ∷ [])
+      → IsLegalEntry policy setup (committed_entries []) e
   unfolding IsLegal
   legal_first setup e l = l.0
 
   -- a committed step of a desk that represents the empty transcript, is a begin
-  committed_begun : (setup : Setup D) (event : Event K) (reply : Reply K) → is_out_of_memory reply ≡ false → is_not_now reply ≡ false → IsLegalEntry policy setup (committed_entries []) (record { event = event; reply = reply }) → is_begun reply ≡ true
+  committed_begun : (setup : Setup D) (event : Event K) (reply : Reply K) → is_out_of_memory reply ≡ false
+      → is_not_now reply ≡ false
+      → IsLegalEntry policy setup (committed_entries []) (record { event = event; reply = reply })
+      → is_begun reply ≡ true
   committed_begun setup event reply m n (inr l) = let o : reply ≡ OutOfMemory = l.0 in let c : is_out_of_memory reply ≡ true = ap is_out_of_memory o in absurd (cc)
   committed_begun setup event reply m n (inl l) =
       let either : (is_begun reply || is_not_now reply) ≡ true = ap (λ (r : Reply K). is_begun r || is_not_now r) l ∙ first_expected setup event in
@@ -117,7 +134,8 @@ module _ {K D : Type 0} (policy : Policy K D) where
     }
 
   -- a step keeps what holds of every desk
-  pub desk-step : (old new : DeskState K D) (event : Event K) (reply : Reply K) (d : IsDesk policy old) → setup_of new ≡ setup_of old → UnchangedBy reply old new
+  pub desk-step : (old new : DeskState K D) (event : Event K) (reply : Reply K) (d : IsDesk policy old)
+      → setup_of new ≡ setup_of old → UnchangedBy reply old new
       → Represents policy new (d.entries ++ record { event = event; reply = reply } ∷ []) → IsDesk policy new
   desk-step old new event NotNow d s u next = subst (IsDesk policy) (sym u) d
   desk-step old new event OutOfMemory d s u next = subst (IsDesk policy) (sym u) d

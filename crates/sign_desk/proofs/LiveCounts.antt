@@ -16,7 +16,8 @@ use Rattle.sign_desk.specs.Records.{CallRecord}
 use Rattle.sign_desk.specs.Transition.{action_of, Transition}
 use Rattle.sign_desk.proofs.Actions.{RecordsBy, KeepsRecords, IsPlain, action-plain}
 
-count_by : {K : Type 0} (reply : Reply K) (found live : Option CallRecord) (n m : ℕ) → RecordsBy reply found live → m + one_if found ≡ n + one_if live → LiveAfter reply n m
+count_by : {K : Type 0} (reply : Reply K) (found live : Option CallRecord) (n m : ℕ)
+    → RecordsBy reply found live → m + one_if found ≡ n + one_if live → LiveAfter reply n m
 count_by Begun found None n m r c = omega (arith, c)
 count_by Begun found (Some x) n m r c = omega (arith, c)
 count_by (Refused why wake) found live n m r c = let k : one_if live ≡ 0 = ap one_if r.1 in omega (arith, c, k, r.0)
@@ -29,7 +30,8 @@ count_by (Ask k) found live n m r c = omega (arith, c, r.0, r.1)
 count_by (Sign k wake) found live n m r c = omega (arith, c, r.0, r.1)
 
 module _ {K D : Type 0} (old : DeskState K D) (call : CallId) (reply : Reply K) (new : DeskState K D) where
-  effect_count : (effect : Effect K D) → KeepsRecords old call effect → TakesEffect effect call reply new → LiveAfter reply (length old.calls) (length new.calls)
+  effect_count : (effect : Effect K D) → KeepsRecords old call effect → TakesEffect effect call reply new
+      → LiveAfter reply (length old.calls) (length new.calls)
   effect_count effect k m =
       let c : length new.calls + one_if (find_call call effect.desk.calls) ≡ length effect.desk.calls + one_if effect.live = m.1.count in
       let same : one_if (find_call call effect.desk.calls) ≡ one_if (find_call call old.calls) = ap (λ cs. one_if (find_call call cs)) k.0 in
@@ -37,12 +39,15 @@ module _ {K D : Type 0} (old : DeskState K D) (call : CallId) (reply : Reply K) 
       let counted : length new.calls + one_if (find_call call old.calls) ≡ length old.calls + one_if effect.live = omega (arith, c, same, as_many) in
       subst (λ x. LiveAfter x (length old.calls) (length new.calls)) (sym m.0) (count_by effect.reply (find_call call old.calls) effect.live (length old.calls) (length new.calls) k.1 counted)
 
-  performed_count : (action : Action K D) → IsPlain old call action → Performs action call old reply new → LiveAfter reply (length old.calls) (length new.calls)
+  performed_count : (action : Action K D) → IsPlain old call action → Performs action call old reply new
+      → LiveAfter reply (length old.calls) (length new.calls)
   performed_count (Leaves given) k m = rw (m.0, m.1) k
   performed_count (Does effect) k m = effect_count effect k m
   performed_count (Allocates effect) k (inl m) = effect_count effect k.0 m
   performed_count (Allocates effect) k (inr m) = rw (m.0, m.1) refl
 
 -- how many calls are live after a step
-pub live-after : {K D : Type 0} (policy : Policy K D) (old : DeskState K D) (reply : Reply K) (new : DeskState K D) (event : Event K) → Transition policy event old reply new → LiveAfter reply (length old.calls) (length new.calls)
+pub live-after : {K D : Type 0} (policy : Policy K D) (old : DeskState K D) (reply : Reply K)
+    (new : DeskState K D) (event : Event K) → Transition policy event old reply new
+    → LiveAfter reply (length old.calls) (length new.calls)
 live-after policy old reply new event m = performed_count old (call_of event) reply new (action_of policy old event) (action-plain old policy event) m

@@ -27,7 +27,8 @@ use Rattle.sign_desk.specs.Records.{CallRecord}
 use Rattle.desk_parts.proofs.LiveRecord.{RecordSays, record_says, Lives}
 use Rattle.sign_desk.proofs.Refine.{ran}
 
-begun_live : (p : Phase) (n : ℕ) (o : Option BeginInput) → is_some o ≡ true → is_live p ≡ true → live_by p n o ≡ None → ⊥
+begun_live : (p : Phase) (n : ℕ) (o : Option BeginInput) → is_some o ≡ true → is_live p ≡ true
+    → live_by p n o ≡ None → ⊥
 begun_live p n None s l h = cc
 begun_live Unpolled n (Some b) s l h = cc
 begun_live Queued n (Some b) s l h = cc
@@ -43,16 +44,19 @@ next_holder-is call (x ∷ rest) = elim (same_call call x) as (λ v. first_of (c
 
 module _ {K D : Type 0} (policy : Policy K D) (old : DeskState K D) (entries : List (Entry K)) (stood : Represents policy old entries) where
   -- a call without a record is not live
-  pub not_live : (call : CallId) (i : ℕ) → cache_of (setup_of old) call ≡ Some i → find_call call old.calls ≡ None → is_live (phase_of (committed_entries entries) call) ≡ false
+  pub not_live : (call : CallId) (i : ℕ) → cache_of (setup_of old) call ≡ Some i
+      → find_call call old.calls ≡ None → is_live (phase_of (committed_entries entries) call) ≡ false
   not_live call i at f = live_is (phase_of (committed_entries entries) call) refl (stands policy (setup_of old) (committed_entries entries) (ran policy old entries stood) call i at)
     where
       none : live_call (committed_entries entries) call ≡ None
       none = sym (stood.calls call) ∙ ap (option_map live_view) f
 
-      not_begun : (p : Phase) → phase_of (committed_entries entries) call ≡ p → is_live p ≡ true → is_some (begin_of (committed_entries entries) call) ≡ true → ⊥
+      not_begun : (p : Phase) → phase_of (committed_entries entries) call ≡ p → is_live p ≡ true
+          → is_some (begin_of (committed_entries entries) call) ≡ true → ⊥
       not_begun p e l b = begun_live (phase_of (committed_entries entries) call) (length (answers_of (committed_entries entries) call)) (begin_of (committed_entries entries) call) b (ap is_live e ∙ l) none
 
-      live_is : (p : Phase) → phase_of (committed_entries entries) call ≡ p → CallInvariant (setup_of old) (committed_entries entries) i call p → is_live p ≡ false
+      live_is : (p : Phase) → phase_of (committed_entries entries) call ≡ p
+          → CallInvariant (setup_of old) (committed_entries entries) i call p → is_live p ≡ false
       live_is Unknown e s = refl
       live_is Ended e s = refl
       live_is Unpolled e (unpolled_call w _ _) = absurd (not_begun Unpolled e refl w.begun)
@@ -60,17 +64,21 @@ module _ {K D : Type 0} (policy : Policy K D) (old : DeskState K D) (entries : L
       live_is Loading e (loading_call l) = absurd (not_begun Loading e refl l.begun)
       live_is Signing e (signing_call s) = absurd (not_begun Signing e refl s.begun)
 
-  misfit_none : (event : Event K) → cache_of (setup_of old) (call_of event) ≡ None → NotNow ≡ expected_reply policy (setup_of old) (committed_entries entries) event
+  misfit_none : (event : Event K) → cache_of (setup_of old) (call_of event) ≡ None
+      → NotNow ≡ expected_reply policy (setup_of old) (committed_entries entries) event
   unfolding expected_reply
   misfit_none event h = rw h refl
 
   -- the reply to an event that does not fit how far its call is
-  pub misfit : (event : Event K) (i : ℕ) → cache_of (setup_of old) (call_of event) ≡ Some i → event_fits (setup_of old) (committed_entries entries) event ≡ false → NotNow ≡ expected_reply policy (setup_of old) (committed_entries entries) event
+  pub misfit : (event : Event K) (i : ℕ) → cache_of (setup_of old) (call_of event) ≡ Some i
+      → event_fits (setup_of old) (committed_entries entries) event ≡ false
+      → NotNow ≡ expected_reply policy (setup_of old) (committed_entries entries) event
   unfolding expected_reply
   misfit event i at f = rw (at, f) refl
 
   -- and to one under no handle
-  pub misfit_unset : (event : Event K) → slice_get old.handles (call_of event).handle ≡ None → NotNow ≡ expected_reply policy (setup_of old) (committed_entries entries) event
+  pub misfit_unset : (event : Event K) → slice_get old.handles (call_of event).handle ≡ None
+      → NotNow ≡ expected_reply policy (setup_of old) (committed_entries entries) event
   misfit_unset event h = misfit_none event (ap (option_map (λ (x : Handle). x.cache)) h)
 
   module _ (call : CallId) (h : Handle) (r : CallRecord) (lives : Lives old call h r) where
@@ -83,7 +91,8 @@ module _ {K D : Type 0} (policy : Policy K D) (old : DeskState K D) (entries : L
     rule-is = ap (option_and_then (λ (x : Handle). slice_get old.rules x.rule)) lives.under ∙ lives.ruled
 
     -- what its cache holds
-    pub cached : slice_get old.caches h.cache ≡ Some (sequential_cache policy (setup_of old) (committed_entries entries) h.cache)
+    pub cached : slice_get old.caches h.cache
+        ≡ Some (sequential_cache policy (setup_of old) (committed_entries entries) h.cache)
     cached = stood.caches h.cache ∙ ap (option_map (λ _. sequential_cache policy (setup_of old) (committed_entries entries) h.cache)) lives.loads
 
     -- the line at its cache
@@ -91,7 +100,8 @@ module _ {K D : Type 0} (policy : Policy K D) (old : DeskState K D) (entries : L
     line-is = ap queue_line (stood.queues h.cache ∙ ap (option_map (λ _. queue_of (setup_of old) (committed_entries entries) h.cache)) lives.loads)
 
     -- what the transcript says of it
-    pub says : RecordSays (live_view r) (phase_of (committed_entries entries) call) (length (answers_of (committed_entries entries) call)) (begin_of (committed_entries entries) call)
+    pub says : RecordSays (live_view r) (phase_of (committed_entries entries) call)
+        (length (answers_of (committed_entries entries) call)) (begin_of (committed_entries entries) call)
     says = record_says (live_view r) (phase_of (committed_entries entries) call) (length (answers_of (committed_entries entries) call)) (begin_of (committed_entries entries) call) (ap (option_map live_view) (sym lives.found) ∙ stood.calls call)
 
     -- it was begun
@@ -99,7 +109,8 @@ module _ {K D : Type 0} (policy : Policy K D) (old : DeskState K D) (entries : L
     begun = ap is_some says.begin
 
     -- what holds of a call in its phase
-    pub invariant : (p : Phase) → phase_of_stage r.stage ≡ p → CallInvariant (setup_of old) (committed_entries entries) h.cache call p
+    pub invariant : (p : Phase) → phase_of_stage r.stage ≡ p
+        → CallInvariant (setup_of old) (committed_entries entries) h.cache call p
     invariant p e = subst (CallInvariant (setup_of old) (committed_entries entries) h.cache call) (says.phase ∙ e) (stands policy (setup_of old) (committed_entries entries) (ran policy old entries stood) call h.cache at)
 
     -- its phase
@@ -111,5 +122,6 @@ module _ {K D : Type 0} (policy : Policy K D) (old : DeskState K D) (entries : L
     here = ap (is_number h.cache) at ∙ number_refl h.cache
 
     -- what it was begun with stays
-    pub own-begin : (e : Entry K) → call_of e.event ≡ call → is_begun e.reply ≡ false → begin_of (committed_entries entries ++ e ∷ []) call ≡ Some (live_view r).begin
+    pub own-begin : (e : Entry K) → call_of e.event ≡ call → is_begun e.reply ≡ false
+        → begin_of (committed_entries entries ++ e ∷ []) call ≡ Some (live_view r).begin
     own-begin e same b = begin-own (setup_of old) (committed_entries entries) 0 e call (ap (same_call call) same ∙ same_call-refl call) b ∙ says.begin

@@ -52,29 +52,50 @@ waits_to_queued Ended h = cc
 
 module _ {K D : Type 0} (policy : Policy K D) (setup : Setup D) where
   -- a provider is asked only where there is one more
-  asks_more : (loader : Loader) (input : HoldInput K D) (cache : Option K) (k : ℕ) → Asking k ≡ sequential_call policy cache loader input → length input.answers < provider_count loader
+  asks_more : (loader : Loader) (input : HoldInput K D) (cache : Option K) (k : ℕ)
+      → Asking k ≡ sequential_call policy cache loader input → length input.answers < provider_count loader
   asks_more loader input cache k h = look-asks cache k (check_refreshed policy input.rule input.duration) loader input.answers (cache_lookup policy cache input.rule input.duration input.now) h
 
-  input_answers : (rule : Option D) (begin : Option BeginInput) (moment : Option ℤ) (answers : List (Answer K × ℤ)) (input : HoldInput K D) → input_by rule begin moment answers ≡ Some input → input.answers ≡ answers
+  input_answers : (rule : Option D) (begin : Option BeginInput) (moment : Option ℤ)
+      (answers : List (Answer K × ℤ)) (input : HoldInput K D)
+      → input_by rule begin moment answers ≡ Some input → input.answers ≡ answers
   input_answers None begin moment answers input h = cc
   input_answers (Some rule) None moment answers input h = cc
   input_answers (Some rule) (Some begin) None answers input h = cc
   input_answers (Some rule) (Some begin) (Some now) answers input h =
       let e : record { rule = rule; duration = begin.duration; now = now; answers = answers } ≡ input = cc in ap (λ (x : HoldInput K D). x.answers) (sym e)
 
-  loads_row : (entries : List (Entry K)) (run : IsRun policy setup entries) (event : Event K) (reply : Reply K) → LegalStep policy setup entries event reply
-      → (call : CallId) (i : ℕ) (at : cache_of setup call ≡ Some i) (loader : Loader) → slice_get setup.loaders i ≡ Some loader
+  loads_row : (entries : List (Entry K)) (run : IsRun policy setup entries) (event : Event K)
+      (reply : Reply K) → LegalStep policy setup entries event reply
+      → (call : CallId) (i : ℕ) (at : cache_of setup call ≡ Some i) (loader : Loader)
+      → slice_get setup.loaders i ≡ Some loader
       → (is_loading (phase_of entries call) ≡ true → length (answers_of entries call) < provider_count loader)
-      → is_loading (phase_of (entries ++ record { event = event; reply = reply } ∷ []) call) ≡ true → length (answers_of (entries ++ record { event = event; reply = reply } ∷ []) call) < provider_count loader
+      → is_loading (phase_of (entries ++ record { event = event; reply = reply } ∷ []) call) ≡ true
+      → length (answers_of (entries ++ record { event = event; reply = reply } ∷ []) call)
+      < provider_count loader
   loads_row entries run event reply row call i at loader there before h = by_own (same_call call (call_of event)) refl
     where
       -- the entry leaves the answers, and loads only where the call did
-      stays : (event : Event K) (reply : Reply K) → answers_of (entries ++ record { event = event; reply = reply } ∷ []) call ≡ answers_of entries call → is_loading (phase_of entries call) ≡ true → length (answers_of (entries ++ record { event = event; reply = reply } ∷ []) call) < provider_count loader
+      stays : (event : Event K) (reply : Reply K)
+          → answers_of (entries ++ record { event = event; reply = reply } ∷ []) call
+          ≡ answers_of entries call
+          → is_loading (phase_of entries call) ≡ true
+          → length (answers_of (entries ++ record { event = event; reply = reply } ∷ []) call)
+          < provider_count loader
       stays event reply a l = rw a (before l)
 
       -- the reply ends the load, or comes before it
-      marked : (event : Event K) (reply : Reply K) → same_call call (call_of event) ≡ true → is_mark reply ≡ true → is_loading (phase_by (list_any is_waiting_poll (entries_of entries call) || is_waiting_poll (record { event = event; reply = reply })) reply) ≡ false
-          → is_loading (phase_of (entries ++ record { event = event; reply = reply } ∷ []) call) ≡ true → length (answers_of (entries ++ record { event = event; reply = reply } ∷ []) call) < provider_count loader
+      marked : (event : Event K) (reply : Reply K) → same_call call (call_of event) ≡ true
+          → is_mark reply ≡ true
+          → is_loading
+          (phase_by
+          (list_any is_waiting_poll (entries_of entries
+          call) || is_waiting_poll (record { event = event; reply = reply }))
+          reply)
+          ≡ false
+          → is_loading (phase_of (entries ++ record { event = event; reply = reply } ∷ []) call) ≡ true
+          → length (answers_of (entries ++ record { event = event; reply = reply } ∷ []) call)
+          < provider_count loader
       marked event reply s m n k =
           let p : is_loading (phase_of (entries ++ record { event = event; reply = reply } ∷ []) call) ≡ false = ap is_loading (phase-own_mark setup entries 0 (record { event = event; reply = reply }) call s m) ∙ n in
           absurd (cc)
@@ -83,8 +104,11 @@ module _ {K D : Type 0} (policy : Policy K D) (setup : Setup D) where
       begun_not true = refl
       begun_not false = refl
 
-      by_row : (event : Event K) (reply : Reply K) → LegalStep policy setup entries event reply → same_call call (call_of event) ≡ true → is_loading (phase_of (entries ++ record { event = event; reply = reply } ∷ []) call) ≡ true
-          → length (answers_of (entries ++ record { event = event; reply = reply } ∷ []) call) < provider_count loader
+      by_row : (event : Event K) (reply : Reply K) → LegalStep policy setup entries event reply
+          → same_call call (call_of event) ≡ true
+          → is_loading (phase_of (entries ++ record { event = event; reply = reply } ∷ []) call) ≡ true
+          → length (answers_of (entries ++ record { event = event; reply = reply } ∷ []) call)
+          < provider_count loader
       by_row event NotNow (not_now _) s k =
           stays event NotNow (refused_answers setup entries 0 event call s) (ap is_loading (sym (refused_phase setup entries 0 event call s)) ∙ k)
       by_row event Begun (begins c head expires_in j at' new) s k = marked (Begin c head expires_in) Begun s refl (begun_not (list_any is_waiting_poll (entries_of entries call) || false)) k
@@ -129,16 +153,20 @@ module _ {K D : Type 0} (policy : Policy K D) (setup : Setup D) where
       by_row event reply (fails c e j _ _) s k = marked event reply s refl refl k
       by_row event reply (cancels c wake _) s k = marked event reply s refl refl k
 
-      by_own : (s : Bool) → same_call call (call_of event) ≡ s → length (answers_of (entries ++ record { event = event; reply = reply } ∷ []) call) < provider_count loader
+      by_own : (s : Bool) → same_call call (call_of event) ≡ s
+          → length (answers_of (entries ++ record { event = event; reply = reply } ∷ []) call)
+          < provider_count loader
       by_own true s = by_row event reply row s h
       by_own false s = stays event reply (answers-other setup entries 0 (record { event = event; reply = reply }) call s) (ap is_loading (sym (phase-other setup entries 0 (record { event = event; reply = reply }) call s)) ∙ h)
 
-  none_loads : (call : CallId) (loader : Loader) → is_loading (phase_of {K = K} [] call) ≡ true → length (answers_of {K = K} [] call) < provider_count loader
+  none_loads : (call : CallId) (loader : Loader) → is_loading (phase_of {K = K} [] call) ≡ true
+      → length (answers_of {K = K} [] call) < provider_count loader
   unfolding phase_of phase_in entries_of
   none_loads call loader h = absurd (cc)
 
   -- a call that loads had fewer answers than there are providers
-  pub loads_few : (entries : List (Entry K)) → IsRun policy setup entries → (call : CallId) (i : ℕ) → cache_of setup call ≡ Some i → (loader : Loader) → slice_get setup.loaders i ≡ Some loader
+  pub loads_few : (entries : List (Entry K)) → IsRun policy setup entries → (call : CallId) (i : ℕ)
+      → cache_of setup call ≡ Some i → (loader : Loader) → slice_get setup.loaders i ≡ Some loader
       → is_loading (phase_of entries call) ≡ true → length (answers_of entries call) < provider_count loader
   loads_few _ start call i at loader there h = none_loads call loader h
   loads_few _ (more entries event reply run row) call i at loader there h = loads_row entries run event reply row call i at loader there (loads_few entries run call i at loader there) h

@@ -33,7 +33,8 @@ module _ {K D : Type 0} (policy : Policy K D) where
   unfolding sequential_cache committed_entries poll_order
   no_cache setup i = refl
 
-  no_queue : (setup : Setup D) (i : ℕ) → queue_of setup (committed_entries {K = K} []) i ≡ record { line = []; unpolled = 0 }
+  no_queue : (setup : Setup D) (i : ℕ)
+      → queue_of setup (committed_entries {K = K} []) i ≡ record { line = []; unpolled = 0 }
   unfolding committed_entries poll_order begun_calls
   no_queue setup i = refl
 
@@ -69,7 +70,9 @@ module _ {K D : Type 0} (policy : Policy K D) where
     caches_empty : (i : ℕ) → slice_get old.caches i ≡ option_map (λ _. None) (slice_get old.loaders i)
     caches_empty i = stood.caches i ∙ ap (λ c. option_map (λ _. c) (slice_get old.loaders i)) (no_cache (setup_of old) i)
 
-    queues_empty : (i : ℕ) → slice_get old.queues i ≡ option_map (λ _. record { line = []; unpolled = 0 }) (slice_get old.loaders i)
+    queues_empty : (i : ℕ)
+        → slice_get old.queues i
+        ≡ option_map (λ _. record { line = []; unpolled = 0 }) (slice_get old.loaders i)
     queues_empty i = stood.queues i ∙ ap (λ q. option_map (λ _. q) (slice_get old.loaders i)) (no_queue (setup_of old) i)
 
     greatest_empty : (h : ℕ) → slice_get old.greatest h ≡ option_map (λ _. None) (slice_get old.handles h)

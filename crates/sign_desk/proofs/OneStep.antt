@@ -20,7 +20,8 @@ module _ {K D : Type 0} (policy : Policy K D) (old : DeskState K D) (d : IsDesk 
   pub desk-sound : StepPrecondition old
   desk-sound = step-precondition policy old d.entries d.represents d.set_up
 
-  numbered_by : {A B : Type 0} (o : Option A) (f : A → B) (p : Option B) → p ≡ option_map f o → IsSome o → IsSome p
+  numbered_by : {A B : Type 0} (o : Option A) (f : A → B) (p : Option B) → p ≡ option_map f o → IsSome o
+      → IsSome p
   numbered_by None f p e h = absurd (cc)
   numbered_by (Some x) f p e h = subst (λ q. IsSome q) (sym e) refl
 
@@ -29,7 +30,8 @@ module _ {K D : Type 0} (policy : Policy K D) (old : DeskState K D) (d : IsDesk 
   desk-numbered handle there = numbered_by (slice_get old.handles handle) _ (slice_get old.greatest handle) (d.represents.greatest handle) there
 
   module _ (event : Event K) (reply : Reply K) (new : DeskState K D) (done : Transition policy event old reply new) where
-    refines : (entries : List (Entry K)) → Represents policy old entries → Refines policy old entries (record { event = event; reply = reply }) new
+    refines : (entries : List (Entry K)) → Represents policy old entries
+        → Refines policy old entries (record { event = event; reply = reply }) new
     refines entries stood = refines-step policy old entries stood d.set_up reply new event done
 
     -- it leaves a desk

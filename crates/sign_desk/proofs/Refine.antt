@@ -1,4 +1,5 @@
--- A desk that represents a transcript represents it with one more entry, where what it keeps follows the entry.
+-- A desk that represents a transcript represents it with one more entry, where what it keeps follows the
+-- entry.
 use Rattle.std.proofs.Common.{◌≡◌, ◌<◌, ℕ, ℤ, Bool, true, false, cond, ◌&&◌, ◌||◌, ◌+◌, ◌==◌, List, [], ◌∷◌, ◌++◌, Option, Some, None, is_some, option_map, slice_get, slice_set, length, refl, sym, ◌∙◌, ap, subst, inl, inr, IsTrue, arith}
 use Rattle.std.specs.Option.{IsSomeAnd}
 use Rattle.wake_lock.specs.declared.CallId.{CallId}
@@ -46,7 +47,8 @@ use Rattle.desk_parts.proofs.OneChange.{keeps-all, setup-same, caches-alike, liv
 
 module _ {K D : Type 0} where
   -- a reply that took effect, or that waits, says nothing of what stays
-  pub unchanged-effect : (reply : Reply K) (old new : DeskState K D) → is_out_of_memory reply ≡ false → is_not_now reply ≡ false → UnchangedBy reply old new
+  pub unchanged-effect : (reply : Reply K) (old new : DeskState K D) → is_out_of_memory reply ≡ false
+      → is_not_now reply ≡ false → UnchangedBy reply old new
   unchanged-effect NotNow old new m n = cc
   unchanged-effect OutOfMemory old new m n = cc
   unchanged-effect Begun old new m n = tt
@@ -58,12 +60,14 @@ module _ {K D : Type 0} where
   unchanged-effect (Cancelled w) old new m n = tt
 
   -- where nothing found is handed out, all caches stay
-  pub caches_after-same : (event : Event K) (reply : Reply K) (old new : DeskState K D) → is_refresh event reply ≡ false → new.caches ≡ old.caches → CachesAfter event reply old new
+  pub caches_after-same : (event : Event K) (reply : Reply K) (old new : DeskState K D)
+      → is_refresh event reply ≡ false → new.caches ≡ old.caches → CachesAfter event reply old new
   caches_after-same (Provided call now (Found c)) (Sign d w) old new r h = cc
   caches_after-same event reply old new r h = h
 
   -- what is done to the caches is known by the caches alone
-  pub caches_after-alike : (event : Event K) (reply : Reply K) (old base new : DeskState K D) → new.caches ≡ base.caches → CachesAfter event reply old base → CachesAfter event reply old new
+  pub caches_after-alike : (event : Event K) (reply : Reply K) (old base new : DeskState K D)
+      → new.caches ≡ base.caches → CachesAfter event reply old base → CachesAfter event reply old new
   caches_after-alike (Provided call now (Found c)) (Sign d w) old base new h k = (k.0, caches-alike call c old base new h k.1)
   caches_after-alike event reply old base new h k = h ∙ k
 
@@ -75,8 +79,13 @@ module _ {K D : Type 0} (policy : Policy K D) where
     pub handles : base.handles ≡ old.handles
     pub calls : base.calls ≡ old.calls
     pub caches : CachesAfter e.event e.reply old base
-    pub queues : (j : ℕ) → slice_get base.queues j ≡ option_map (λ _. queue_of (setup_of old) (committed_entries entries ++ e ∷ []) j) (slice_get old.loaders j)
-    pub greatest : (h : ℕ) → slice_get base.greatest h ≡ option_map (λ _. greatest_begun h (committed_entries entries ++ e ∷ [])) (slice_get old.handles h)
+    pub queues : (j : ℕ)
+        → slice_get base.queues j
+        ≡ option_map (λ _. queue_of (setup_of old) (committed_entries entries ++ e ∷ []) j)
+        (slice_get old.loaders j)
+    pub greatest : (h : ℕ)
+        → slice_get base.greatest h
+        ≡ option_map (λ _. greatest_begun h (committed_entries entries ++ e ∷ [])) (slice_get old.handles h)
     pub started : base.started ≡ was_begun (committed_entries entries ++ e ∷ [])
 
   -- the new desk is the old one after the entry
@@ -100,7 +109,8 @@ module _ {K D : Type 0} (policy : Policy K D) where
     pub ran : IsRun policy (setup_of old) (committed_entries entries)
     ran = legal_run policy (setup_of old) entries stood.legal
 
-    live-other : (e : Entry K) (call : CallId) → same_call call (call_of e.event) ≡ false → live_call (after e) call ≡ live_call before call
+    live-other : (e : Entry K) (call : CallId) → same_call call (call_of e.event) ≡ false
+        → live_call (after e) call ≡ live_call before call
     unfolding phase_of
     live-other e call s = rw (entries_of-other before call e s) refl
 
@@ -109,27 +119,36 @@ module _ {K D : Type 0} (policy : Policy K D) where
       abbrev CachedAfter : Entry K → Type 0
       CachedAfter e = (j : ℕ) → slice_get new.caches j ≡ option_map (λ _. sequential_cache policy setup (after e) j) (slice_get old.loaders j)
 
-      cached_same : (event : Event K) (reply : Reply K) → LegalStep policy setup before event reply → is_refresh event reply ≡ false → new.caches ≡ old.caches → CachedAfter (record { event = event; reply = reply })
+      cached_same : (event : Event K) (reply : Reply K) → LegalStep policy setup before event reply
+          → is_refresh event reply ≡ false → new.caches ≡ old.caches
+          → CachedAfter (record { event = event; reply = reply })
       cached_same event reply step r h j =
           ap (λ (cs : List (Option K)). slice_get cs j) h
           ∙ stood.caches j
           ∙ ap (λ c. option_map (λ _. c) (slice_get old.loaders j)) (sym (others_leave policy setup before ran event reply step r j))
 
-      cached_one : (e : Entry K) (c : K) (i : ℕ) → cache_of setup (call_of e.event) ≡ Some i → sequential_cache policy setup (after e) i ≡ Some c
-          → ((j : ℕ) → is_of_cache setup j (call_of e.event) ≡ false → sequential_cache policy setup (after e) j ≡ sequential_cache policy setup before j) → i < length old.caches → new.caches ≡ slice_set old.caches i (Some c) → CachedAfter e
+      cached_one : (e : Entry K) (c : K) (i : ℕ) → cache_of setup (call_of e.event) ≡ Some i
+          → sequential_cache policy setup (after e) i ≡ Some c
+          → ((j : ℕ) → is_of_cache setup j (call_of e.event) ≡ false
+          → sequential_cache policy setup (after e) j ≡ sequential_cache policy setup before j)
+          → i < length old.caches → new.caches ≡ slice_set old.caches i (Some c) → CachedAfter e
       cached_one e c i at cached others within h j =
           ap (λ (cs : List (Option K)). slice_get cs j) h
           ∙ stored-at old.caches old.loaders (sequential_cache policy setup before) (sequential_cache policy setup (after e)) i c stood.caches within cached
           (λ k n. others k (ap (is_number k) at ∙ number_comm k i ∙ n)) j
 
-      cached_found : (call : CallId) (now : ℤ) (c handed : K) (wake : Option CallId) → LegalStep policy setup before (Provided call now (Found c)) (Sign handed wake) → (o : Option ℕ) → cache_of setup call ≡ o
-          → IsSomeAnd o (λ (i : ℕ). (i < length old.caches) × (new.caches ≡ slice_set old.caches i (Some c))) → CachedAfter (record { event = Provided call now (Found c); reply = Sign handed wake })
+      cached_found : (call : CallId) (now : ℤ) (c handed : K) (wake : Option CallId)
+          → LegalStep policy setup before (Provided call now (Found c)) (Sign handed wake) → (o : Option ℕ)
+          → cache_of setup call ≡ o
+          → IsSomeAnd o (λ (i : ℕ). (i < length old.caches) × (new.caches ≡ slice_set old.caches i (Some c)))
+          → CachedAfter (record { event = Provided call now (Found c); reply = Sign handed wake })
       cached_found call now c handed wake step None at x = absurd x
       cached_found call now c handed wake step (Some i) at x =
           cached_one (record { event = Provided call now (Found c); reply = Sign handed wake }) c i at (signed_found_is_cached policy setup before ran call now c handed wake i step at).1
           (cache_elsewhere policy setup before ran (Provided call now (Found c)) (Sign handed wake) step) x.0 x.1
 
-      cached_after : (event : Event K) (reply : Reply K) → LegalStep policy setup before event reply → CachesAfter event reply old new → CachedAfter (record { event = event; reply = reply })
+      cached_after : (event : Event K) (reply : Reply K) → LegalStep policy setup before event reply
+          → CachesAfter event reply old new → CachedAfter (record { event = event; reply = reply })
       cached_after (Provided call now (Found c)) (Sign handed wake) step k = cached_found call now c handed wake step (cache_of setup call) refl k.1
       cached_after (Provided call now Missing) (Sign handed wake) step k = let no : Missing ≡ Found handed = found_is_handed_out policy setup before ran call now Missing (Sign handed wake) handed step refl in absurd (cc)
       cached_after (Provided call now (Failed x)) (Sign handed wake) step k = let no : Failed x ≡ Found handed = found_is_handed_out policy setup before ran call now (Failed x) (Sign handed wake) handed step refl in absurd (cc)
@@ -138,9 +157,11 @@ module _ {K D : Type 0} (policy : Policy K D) where
 
     -- an entry with the expected reply, where what is kept follows it
     module _ (e : Entry K) (expected : e.reply ≡ expected_reply policy setup before e.event) (committed : is_out_of_memory e.reply ≡ false) where
-      represents-more : (base new : DeskState K D) → Follows old entries base e → (r : Option CallRecord) → ChangesOnlyCall base (call_of e.event) r new
+      represents-more : (base new : DeskState K D) → Follows old entries base e → (r : Option CallRecord)
+          → ChangesOnlyCall base (call_of e.event) r new
           → option_map live_view r ≡ live_call (after e) (call_of e.event)
-          → length (live_calls before) + one_if r ≡ length (live_calls (after e)) + one_if (find_call (call_of e.event) old.calls)
+          → length (live_calls before) + one_if r
+          ≡ length (live_calls (after e)) + one_if (find_call (call_of e.event) old.calls)
           → Represents policy new (entries ++ e ∷ [])
       represents-more base new follows r changes own live =
           let same : setup_of new ≡ setup_of old = setup-same old new (changes.loaders ∙ follows.loaders) (changes.rules ∙ follows.rules) (changes.handles ∙ follows.handles) in
@@ -158,9 +179,11 @@ module _ {K D : Type 0} (policy : Policy K D) where
           }
 
       -- and the new desk is the old one after it
-      pub refines-more : is_not_now e.reply ≡ false → (base new : DeskState K D) → Follows old entries base e → (r : Option CallRecord) → ChangesOnlyCall base (call_of e.event) r new
+      pub refines-more : is_not_now e.reply ≡ false → (base new : DeskState K D) → Follows old entries base e
+          → (r : Option CallRecord) → ChangesOnlyCall base (call_of e.event) r new
           → option_map live_view r ≡ live_call (after e) (call_of e.event)
-          → length (live_calls before) + one_if r ≡ length (live_calls (after e)) + one_if (find_call (call_of e.event) old.calls)
+          → length (live_calls before) + one_if r
+          ≡ length (live_calls (after e)) + one_if (find_call (call_of e.event) old.calls)
           → Refines old entries e new
       refines-more fits base new follows r changes own live = record {
         represents = represents-more base new follows r changes own live;
@@ -170,7 +193,8 @@ module _ {K D : Type 0} (policy : Policy K D) where
       }
 
     -- an event that ran out of memory changes nothing
-    pub refines-lost : (event : Event K) → IsTrue (allocates policy setup before event) → Refines old entries (record { event = event; reply = OutOfMemory }) old
+    pub refines-lost : (event : Event K) → IsTrue (allocates policy setup before event)
+        → Refines old entries (record { event = event; reply = OutOfMemory }) old
     refines-lost event takes =
         let e : Entry K = record { event = event; reply = OutOfMemory } in
         let k : committed_entries (entries ++ record { event = event; reply = OutOfMemory } ∷ []) ≡ committed_entries entries = committed_entries-lost entries e refl in
@@ -194,7 +218,8 @@ module _ {K D : Type 0} (policy : Policy K D) where
         not_refresh event = refl
 
     -- the greatest numbers stay, but at a begin
-    pub greatest_same : (e : Entry K) → is_begun e.reply ≡ false → (h : ℕ) → slice_get old.greatest h ≡ option_map (λ _. greatest_begun h (after e)) (slice_get old.handles h)
+    pub greatest_same : (e : Entry K) → is_begun e.reply ≡ false → (h : ℕ)
+        → slice_get old.greatest h ≡ option_map (λ _. greatest_begun h (after e)) (slice_get old.handles h)
     greatest_same e b h =
         stood.greatest h
         ∙ ap (λ c. option_map (λ _. c) (slice_get old.handles h))
@@ -204,17 +229,22 @@ module _ {K D : Type 0} (policy : Policy K D) where
     pub started_same : (e : Entry K) → is_begun e.reply ≡ false → old.started ≡ was_begun (after e)
     started_same e b = stood.started ∙ sym (list_any-more (λ (x : Entry K). is_begun x.reply) before e ∙ ap (λ v. was_begun before || v) b ∙ or_false (was_begun before))
 
-    mapped : (change : Queue → Queue) (q p : Queue) (o : Option Loader) → p ≡ change q → option_map change (option_map (λ _. q) o) ≡ option_map (λ _. p) o
+    mapped : (change : Queue → Queue) (q p : Queue) (o : Option Loader) → p ≡ change q
+        → option_map change (option_map (λ _. q) o) ≡ option_map (λ _. p) o
     mapped change q p None h = refl
     mapped change q p (Some l) h = ap Some (sym h)
 
     -- the queues, where that of one cache changed
-    pub queues_changed : (e : Entry K) (i : ℕ) (change : Queue → Queue) → queue_of setup (after e) i ≡ change (queue_of setup before i)
-        → ((j : ℕ) → (i ≡ j → ⊥) → queue_of setup (after e) j ≡ queue_of setup before j)
-        → (j : ℕ) → slice_get (with_changed change i old.queues) j ≡ option_map (λ _. queue_of setup (after e) j) (slice_get old.loaders j)
+    pub queues_changed : (e : Entry K) (i : ℕ) (change : Queue → Queue)
+        → queue_of setup (after e) i ≡ change (queue_of setup before i)
+        → ((j : ℕ) → (i ≡ j → ⊥) → queue_of setup (after e) j ≡ queue_of setup before j) → (j : ℕ)
+        → slice_get (with_changed change i old.queues) j
+        ≡ option_map (λ _. queue_of setup (after e) j) (slice_get old.loaders j)
     queues_changed e i change here elsewhere j = by_number (i == j) refl
       where
-        by_number : (b : Bool) → (i == j) ≡ b → slice_get (with_changed change i old.queues) j ≡ option_map (λ _. queue_of setup (after e) j) (slice_get old.loaders j)
+        by_number : (b : Bool) → (i == j) ≡ b
+            → slice_get (with_changed change i old.queues) j
+            ≡ option_map (λ _. queue_of setup (after e) j) (slice_get old.loaders j)
         by_number true n =
             subst (λ k. slice_get (with_changed change i old.queues) k ≡ option_map (λ _. queue_of setup (after e) k) (slice_get old.loaders k)) (same_number i j n)
             (changed-same change old.queues i ∙ ap (option_map change) (stood.queues i) ∙ mapped change (queue_of setup before i) (queue_of setup (after e) i) (slice_get old.loaders i) here)
@@ -223,7 +253,8 @@ module _ {K D : Type 0} (policy : Policy K D) where
             ∙ stood.queues j
             ∙ ap (λ q. option_map (λ _. q) (slice_get old.loaders j)) (sym (elsewhere j (other_number i j n)))
 
-    follows-same : (e : Entry K) → is_begun e.reply ≡ false → CachesAfter e.event e.reply old old → ((j : ℕ) → queue_of setup (after e) j ≡ queue_of setup before j) → Follows old entries old e
+    follows-same : (e : Entry K) → is_begun e.reply ≡ false → CachesAfter e.event e.reply old old
+        → ((j : ℕ) → queue_of setup (after e) j ≡ queue_of setup before j) → Follows old entries old e
     follows-same e b caches queues = record {
       loaders = refl;
       rules = refl;
@@ -236,8 +267,10 @@ module _ {K D : Type 0} (policy : Policy K D) where
     }
 
     -- an entry after which the queue of its call's cache changed, and perhaps the caches
-    pub follows-changed : (e : Entry K) (i : ℕ) (change : Queue → Queue) (caches : List (Option K)) → cache_of setup (call_of e.event) ≡ Some i → is_begun e.reply ≡ false
-        → CachesAfter e.event e.reply old (record old { caches = caches; queues = with_changed change i old.queues })
+    pub follows-changed : (e : Entry K) (i : ℕ) (change : Queue → Queue) (caches : List (Option K))
+        → cache_of setup (call_of e.event) ≡ Some i → is_begun e.reply ≡ false
+        → CachesAfter e.event e.reply old
+        (record old { caches = caches; queues = with_changed change i old.queues })
         → queue_of setup (after e) i ≡ change (queue_of setup before i)
         → Follows old entries (record old { caches = caches; queues = with_changed change i old.queues }) e
     follows-changed e i change caches at b cached here = record {
@@ -252,7 +285,8 @@ module _ {K D : Type 0} (policy : Policy K D) where
     }
 
     -- an entry after which all queues are as they were
-    pub follows-stays : (e : Entry K) (i : ℕ) → cache_of setup (call_of e.event) ≡ Some i → is_begun e.reply ≡ false → CachesAfter e.event e.reply old old
+    pub follows-stays : (e : Entry K) (i : ℕ) → cache_of setup (call_of e.event) ≡ Some i
+        → is_begun e.reply ≡ false → CachesAfter e.event e.reply old old
         → queue_of setup (after e) i ≡ queue_of setup before i → Follows old entries old e
     follows-stays e i at b caches here = follows-same e b caches (λ j. by_number j (i == j) refl)
       where
@@ -260,24 +294,34 @@ module _ {K D : Type 0} (policy : Policy K D) where
         by_number j true n = subst (λ k. queue_of setup (after e) k ≡ queue_of setup before k) (same_number i j n) here
         by_number j false n = queue-elsewhere policy setup before ran e i at b j (other_number i j n)
 
-    live-same : (e : Entry K) → is_begun e.reply ≡ false → is_live (phase_of before (call_of e.event)) ≡ is_live (phase_of (after e) (call_of e.event)) → live_calls (after e) ≡ live_calls before
+    live-same : (e : Entry K) → is_begun e.reply ≡ false
+        → is_live (phase_of before (call_of e.event)) ≡ is_live (phase_of (after e) (call_of e.event))
+        → live_calls (after e) ≡ live_calls before
     live-same e b h = passing-same policy setup (λ _ p. is_live p) before e b h
 
     -- as many calls are live, where the entry's call stays live
-    pub live-stays : (e : Entry K) (r s : CallRecord) → is_begun e.reply ≡ false → is_live (phase_of before (call_of e.event)) ≡ is_live (phase_of (after e) (call_of e.event)) → find_call (call_of e.event) old.calls ≡ Some r
-        → length (live_calls before) + one_if (Some s) ≡ length (live_calls (after e)) + one_if (find_call (call_of e.event) old.calls)
+    pub live-stays : (e : Entry K) (r s : CallRecord) → is_begun e.reply ≡ false
+        → is_live (phase_of before (call_of e.event)) ≡ is_live (phase_of (after e) (call_of e.event))
+        → find_call (call_of e.event) old.calls ≡ Some r
+        → length (live_calls before) + one_if (Some s)
+        ≡ length (live_calls (after e)) + one_if (find_call (call_of e.event) old.calls)
     live-stays e r s b h f = rw (f, live-same e b h) refl
 
     -- and one fewer, where it ends
-    pub live-ended : (e : Entry K) (r : CallRecord) → is_begun e.reply ≡ false → is_some (begin_of before (call_of e.event)) ≡ true → is_live (phase_of before (call_of e.event)) ≡ true → is_live (phase_of (after e) (call_of e.event)) ≡ false
+    pub live-ended : (e : Entry K) (r : CallRecord) → is_begun e.reply ≡ false
+        → is_some (begin_of before (call_of e.event)) ≡ true
+        → is_live (phase_of before (call_of e.event)) ≡ true
+        → is_live (phase_of (after e) (call_of e.event)) ≡ false
         → find_call (call_of e.event) old.calls ≡ Some r
-        → length (live_calls before) + 0 ≡ length (live_calls (after e)) + one_if (find_call (call_of e.event) old.calls)
+        → length (live_calls before) + 0
+        ≡ length (live_calls (after e)) + one_if (find_call (call_of e.event) old.calls)
     live-ended e r b begun lives ended f =
         let fewer : length (live_calls before) ≡ length (live_calls (after e)) + 1 = passing-fewer policy setup (λ _ p. is_live p) before e (begun_once policy setup before ran) b begun lives ended in
         rw f (omega (arith, fewer))
 
     -- an event that does not fit changes nothing
-    pub refines-not_now : (event : Event K) → NotNow ≡ expected_reply policy setup before event → Refines old entries (record { event = event; reply = NotNow }) old
+    pub refines-not_now : (event : Event K) → NotNow ≡ expected_reply policy setup before event
+        → Refines old entries (record { event = event; reply = NotNow }) old
     refines-not_now event expected =
         let e : Entry K = record { event = event; reply = NotNow } in
         let own : same_call (call_of event) (call_of event) ≡ true = same_call-refl (call_of event) in

@@ -58,7 +58,9 @@ module _ {K D : Type 0} (policy : Policy K D) where
     ran = legal_run policy (setup_of old) entries stood.legal
 
     -- whether a begin fits, on what is kept
-    handle_by : (call : CallId) (n : Option ℕ) → (o : Option Handle) → slice_get old.handles call.handle ≡ o → (is_some o && is_new_at call.number (option_map (λ _. n) o)) ≡ (is_some (option_map (λ (h : Handle). h.cache) o) && is_above call.number n)
+    handle_by : (call : CallId) (n : Option ℕ) → (o : Option Handle) → slice_get old.handles call.handle ≡ o
+        → (is_some o && is_new_at call.number (option_map (λ _. n) o))
+        ≡ (is_some (option_map (λ (h : Handle). h.cache) o) && is_above call.number n)
     handle_by call n None h = refl
     handle_by call n (Some x) h = refl
 
@@ -68,36 +70,49 @@ module _ {K D : Type 0} (policy : Policy K D) where
         ∙ handle_by call (greatest_begun call.handle before) (slice_get old.handles call.handle) refl
         ∙ ap (λ v. is_some (cache_of setup call) && v) (sym (is_new_number-is before call))
 
-    begun_by : (call : CallId) (head : Head) (expires_in : Option Duration) (o : Option ℕ) → cache_of setup call ≡ o → (b : Bool) → begin_fits setup before call ≡ b → is_some o ≡ true → b ≡ true → Begun ≡ reply_at policy setup before (Begin call head expires_in) o
+    begun_by : (call : CallId) (head : Head) (expires_in : Option Duration) (o : Option ℕ)
+        → cache_of setup call ≡ o → (b : Bool) → begin_fits setup before call ≡ b → is_some o ≡ true
+        → b ≡ true → Begun ≡ reply_at policy setup before (Begin call head expires_in) o
     begun_by call head expires_in None at b f s t = absurd (cc)
     begun_by call head expires_in (Some i) at b f s t = rw (f, t) refl
 
-    begin_expected : (call : CallId) (head : Head) (expires_in : Option Duration) → begin_fits setup before call ≡ true → Begun ≡ expected_reply policy setup before (Begin call head expires_in)
+    begin_expected : (call : CallId) (head : Head) (expires_in : Option Duration)
+        → begin_fits setup before call ≡ true
+        → Begun ≡ expected_reply policy setup before (Begin call head expires_in)
     unfolding expected_reply
     begin_expected call head expires_in fits = begun_by call head expires_in (cache_of setup call) refl (begin_fits setup before call) refl (and_left _ _ fits) fits
 
-    unfit_by : (call : CallId) (head : Head) (expires_in : Option Duration) (o : Option ℕ) → begin_fits setup before call ≡ false → NotNow ≡ reply_at policy setup before (Begin call head expires_in) o
+    unfit_by : (call : CallId) (head : Head) (expires_in : Option Duration) (o : Option ℕ)
+        → begin_fits setup before call ≡ false
+        → NotNow ≡ reply_at policy setup before (Begin call head expires_in) o
     unfit_by call head expires_in None f = refl
     unfit_by call head expires_in (Some i) f = rw f refl
 
-    unfit_expected : (call : CallId) (head : Head) (expires_in : Option Duration) → begin_fits setup before call ≡ false → NotNow ≡ expected_reply policy setup before (Begin call head expires_in)
+    unfit_expected : (call : CallId) (head : Head) (expires_in : Option Duration)
+        → begin_fits setup before call ≡ false
+        → NotNow ≡ expected_reply policy setup before (Begin call head expires_in)
     unfolding expected_reply
     unfit_expected call head expires_in f = unfit_by call head expires_in (cache_of setup call) f
 
-    greatest_here : (n : ℕ) (o : Option Handle) (g : Option ℕ) → is_some o ≡ true → g ≡ Some n → Some (Some n) ≡ option_map (λ _. g) o
+    greatest_here : (n : ℕ) (o : Option Handle) (g : Option ℕ) → is_some o ≡ true → g ≡ Some n
+        → Some (Some n) ≡ option_map (λ _. g) o
     greatest_here n None g s e = cc
     greatest_here n (Some x) g s e = ap Some (sym e)
 
-    there_both : (n : ℕ) (o : Option Handle) (g : Option ℕ) → is_some (option_map (λ (h : Handle). h.cache) o) ≡ true → is_some (option_map (λ _. g) o) ≡ true
+    there_both : (n : ℕ) (o : Option Handle) (g : Option ℕ)
+        → is_some (option_map (λ (h : Handle). h.cache) o) ≡ true → is_some (option_map (λ _. g) o) ≡ true
     there_both n None g h = cc
     there_both n (Some x) g h = refl
 
-    there_handle : (o : Option Handle) → is_some (option_map (λ (h : Handle). h.cache) o) ≡ true → is_some o ≡ true
+    there_handle : (o : Option Handle) → is_some (option_map (λ (h : Handle). h.cache) o) ≡ true
+        → is_some o ≡ true
     there_handle None h = cc
     there_handle (Some x) h = refl
 
-    greatest_begins : (call : CallId) (head : Head) (expires_in : Option Duration) → begin_fits setup before call ≡ true → (h : ℕ) → (s : Bool) → (call.handle == h) ≡ s
-        → slice_get (slice_set old.greatest call.handle (Some call.number)) h ≡ option_map (λ _. greatest_begun h (after call head expires_in)) (slice_get old.handles h)
+    greatest_begins : (call : CallId) (head : Head) (expires_in : Option Duration)
+        → begin_fits setup before call ≡ true → (h : ℕ) → (s : Bool) → (call.handle == h) ≡ s
+        → slice_get (slice_set old.greatest call.handle (Some call.number)) h
+        ≡ option_map (λ _. greatest_begun h (after call head expires_in)) (slice_get old.handles h)
     greatest_begins call head expires_in fits h true s =
         let here : call.handle ≡ h = same_number call.handle h s in
         let e : Entry K = record { event = Begin call head expires_in; reply = Begun } in
@@ -162,29 +177,43 @@ module _ {K D : Type 0} (policy : Policy K D) where
         started = sym (list_any-more (λ (x : Entry K). is_begun x.reply) before begins ∙ or_true (was_begun before));
       }
 
-      begin_refines : (new : DeskState K D) → ChangesOnlyCall (with_begin call old) call (Some (new_record head expires_in)) new → Refines policy old entries begins new
+      begin_refines : (new : DeskState K D)
+          → ChangesOnlyCall (with_begin call old) call (Some (new_record head expires_in)) new
+          → Refines policy old entries begins new
       begin_refines new changes =
           let counted : length (live_calls (after call head expires_in)) ≡ length (live_calls before) + 1 = passing-more policy setup (λ _ p. is_live p) before begins refl new_number (ap is_live phase_begun) in
           let none : one_if (find_call call old.calls) ≡ 0 = not_kept (find_call call old.calls) refl in
           refines-more policy old entries stood begins (begin_expected call head expires_in fits) refl refl (with_begin call old) new begin_follows
           (Some (new_record head expires_in)) changes own_begun (omega (arith, counted, none))
 
-    begin_by : (call : CallId) (head : Head) (expires_in : Option Duration) → begin_fits setup before call ≡ true → (o : Option ℕ) → cache_of setup call ≡ o → is_some o ≡ true → (new : DeskState K D)
-        → ChangesOnlyCall (with_begin call old) call (Some (new_record head expires_in)) new → Refines policy old entries (record { event = Begin call head expires_in; reply = Begun }) new
+    begin_by : (call : CallId) (head : Head) (expires_in : Option Duration)
+        → begin_fits setup before call ≡ true → (o : Option ℕ) → cache_of setup call ≡ o → is_some o ≡ true
+        → (new : DeskState K D)
+        → ChangesOnlyCall (with_begin call old) call (Some (new_record head expires_in)) new
+        → Refines policy old entries (record { event = Begin call head expires_in; reply = Begun }) new
     begin_by call head expires_in fits None at s new changes = absurd (cc)
     begin_by call head expires_in fits (Some i) at s new changes = begin_refines call head expires_in fits i at new changes
 
-    begin_allocates : (call : CallId) (head : Head) (expires_in : Option Duration) → begin_fits setup before call ≡ true → IsTrue (allocates policy setup before (Begin call head expires_in))
+    begin_allocates : (call : CallId) (head : Head) (expires_in : Option Duration)
+        → begin_fits setup before call ≡ true
+        → IsTrue (allocates policy setup before (Begin call head expires_in))
     begin_allocates call head expires_in fits = rw fits refl
 
-    begin_at : (call : CallId) (head : Head) (expires_in : Option Duration) (b : Bool) → can_begin old call ≡ b → (reply : Reply K) (new : DeskState K D)
-        → Performs (cond b (Allocates (record { reply = Begun; desk = with_begin call old; live = Some (new_record head expires_in) })) (Leaves NotNow)) call old reply new
+    begin_at : (call : CallId) (head : Head) (expires_in : Option Duration) (b : Bool)
+        → can_begin old call ≡ b → (reply : Reply K) (new : DeskState K D)
+        → Performs
+        (cond b
+        (Allocates (record { reply = Begun; desk = with_begin call old; live = Some (new_record head expires_in) }))
+        (Leaves NotNow))
+        call old reply new
         → Refines policy old entries (record { event = Begin call head expires_in; reply = reply }) new
     begin_at call head expires_in true c reply new (inl m) = rw (m.0) (begin_by call head expires_in (sym (fits_same call) ∙ c) (cache_of setup call) refl (and_left _ _ (sym (fits_same call) ∙ c)) new m.1)
     begin_at call head expires_in true c reply new (inr m) = rw (m.0, m.1) (refines-lost policy old entries stood (Begin call head expires_in) (begin_allocates call head expires_in (sym (fits_same call) ∙ c)))
     begin_at call head expires_in false c reply new m = rw (m.0, m.1) (refines-not_now policy old entries stood (Begin call head expires_in) (unfit_expected call head expires_in (sym (fits_same call) ∙ c)))
 
     -- what is done at a begin
-    pub refines-begin : (call : CallId) (head : Head) (expires_in : Option Duration) (reply : Reply K) (new : DeskState K D) → Performs (begin_action old call (new_record head expires_in)) call old reply new
+    pub refines-begin : (call : CallId) (head : Head) (expires_in : Option Duration) (reply : Reply K)
+        (new : DeskState K D)
+        → Performs (begin_action old call (new_record head expires_in)) call old reply new
         → Refines policy old entries (record { event = Begin call head expires_in; reply = reply }) new
     refines-begin call head expires_in reply new m = begin_at call head expires_in (can_begin old call) refl reply new m

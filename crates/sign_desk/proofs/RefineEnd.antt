@@ -59,15 +59,20 @@ module _ {K D : Type 0} (policy : Policy K D) (old : DeskState K D) (entries : L
   ran = legal_run policy (setup_of old) entries stood.legal
 
   -- the expected replies to a service's answer and to a cancel
-  expected_accepts : (candidate : Head) → is_signing (phase_of before call) ≡ true → Done (done_head (begin_of before call) candidate) ≡ expected_reply policy setup before (Signed call (Accepted candidate))
+  expected_accepts : (candidate : Head) → is_signing (phase_of before call) ≡ true
+      → Done (done_head (begin_of before call) candidate)
+      ≡ expected_reply policy setup before (Signed call (Accepted candidate))
   unfolding expected_reply
   expected_accepts candidate s = rw (at policy old entries stood call h r lives, s) refl
 
-  expected_fails : (e : ℕ) → is_signing (phase_of before call) ≡ true → Refused (why.Service e) None ≡ expected_reply policy setup before (Signed call (Failed e))
+  expected_fails : (e : ℕ) → is_signing (phase_of before call) ≡ true
+      → Refused (why.Service e) None ≡ expected_reply policy setup before (Signed call (Failed e))
   unfolding expected_reply
   expected_fails e s = rw (at policy old entries stood call h r lives, s) refl
 
-  expected_cancels : is_live (phase_of before call) ≡ true → Cancelled (call_to_wake setup before h.cache (record { event = Cancel call; reply = Cancelled None })) ≡ expected_reply policy setup before (Cancel call)
+  expected_cancels : is_live (phase_of before call) ≡ true
+      → Cancelled (call_to_wake setup before h.cache (record { event = Cancel call; reply = Cancelled None }))
+      ≡ expected_reply policy setup before (Cancel call)
   unfolding expected_reply
   expected_cancels l = rw (at policy old entries stood call h r lives, l) refl
 
@@ -80,10 +85,13 @@ module _ {K D : Type 0} (policy : Policy K D) (old : DeskState K D) (entries : L
     answered reply = record { event = Signed call answer; reply = reply }
 
     -- an answer to a call that does not sign does not fit
-    unfit : (s : Stage) → r.stage ≡ s → is_signing (phase_of_stage s) ≡ false → Refines policy old entries (answered NotNow) old
+    unfit : (s : Stage) → r.stage ≡ s → is_signing (phase_of_stage s) ≡ false
+        → Refines policy old entries (answered NotNow) old
     unfit s e l = refines-not_now policy old entries stood (Signed call answer) (misfit policy old entries stood (Signed call answer) h.cache (at policy old entries stood call h r lives) (ap is_signing (phase-is policy old entries stood call h r lives (phase_of_stage s) (ap phase_of_stage e)) ∙ l))
 
-  refines-accept : phase_of_stage r.stage ≡ Signing → (candidate : Head) (reply : Reply K) (new : DeskState K D) → Performs (accept_action old candidate (Some r)) call old reply new
+  refines-accept : phase_of_stage r.stage ≡ Signing
+      → (candidate : Head) (reply : Reply K) (new : DeskState K D)
+      → Performs (accept_action old candidate (Some r)) call old reply new
       → Refines policy old entries (record { event = Signed call (Accepted candidate); reply = reply }) new
   refines-accept signing candidate reply new (inr m) = rw (m.0, m.1) (refines-lost policy old entries stood (Signed call (Accepted candidate)) (rw (phase-is policy old entries stood call h r lives Signing signing) refl))
   refines-accept signing candidate reply new (inl m) =
@@ -97,7 +105,8 @@ module _ {K D : Type 0} (policy : Policy K D) (old : DeskState K D) (entries : L
       (queue-stays policy setup before ran e h.cache (at policy old entries stood call h r lives) refl refl (order-stays policy setup before ran e refl h.cache) (ap is_unpolled was ∙ sym (ap is_unpolled is))))
       is reply new m
 
-  refines-fail : phase_of_stage r.stage ≡ Signing → (x : ℕ) (reply : Reply K) (new : DeskState K D) → TakesEffect (end_effect old (Refused (why.Service x) None)) call reply new
+  refines-fail : phase_of_stage r.stage ≡ Signing → (x : ℕ) (reply : Reply K) (new : DeskState K D)
+      → TakesEffect (end_effect old (Refused (why.Service x) None)) call reply new
       → Refines policy old entries (record { event = Signed call (Failed x); reply = reply }) new
   refines-fail signing x reply new m =
       let e : Entry K = record { event = Signed call (Failed x); reply = Refused (why.Service x) None } in
@@ -109,13 +118,17 @@ module _ {K D : Type 0} (policy : Policy K D) (old : DeskState K D) (entries : L
       (queue-gone policy setup before ran e h.cache (at policy old entries stood call h r lives) refl refl refl (served_of (invariant policy old entries stood call h r lives Signing signing)).finished (ap is_unpolled was ∙ sym (ap is_unpolled is))))
       is reply new m
 
-  refines-verdict : phase_of_stage r.stage ≡ Signing → (answer : Verdict) (reply : Reply K) (new : DeskState K D) → Performs (signed_action old answer view stage.Signing) call old reply new → Refines policy old entries (answered answer reply) new
+  refines-verdict : phase_of_stage r.stage ≡ Signing
+      → (answer : Verdict) (reply : Reply K) (new : DeskState K D)
+      → Performs (signed_action old answer view stage.Signing) call old reply new
+      → Refines policy old entries (answered answer reply) new
   refines-verdict signing (Accepted candidate) reply new m =
       refines-accept signing candidate reply new (subst (λ (o : Option CallRecord). Performs (accept_action old candidate o) call old reply new) lives.found m)
   refines-verdict signing (Failed x) reply new m = refines-fail signing x reply new m
 
   -- a service's answer to a live call
-  pub refines-signed : (answer : Verdict) (s : Stage) → r.stage ≡ s → (reply : Reply K) (new : DeskState K D) → Performs (signed_action old answer view s) call old reply new
+  pub refines-signed : (answer : Verdict) (s : Stage) → r.stage ≡ s → (reply : Reply K) (new : DeskState K D)
+      → Performs (signed_action old answer view s) call old reply new
       → Refines policy old entries (record { event = Signed call answer; reply = reply }) new
   refines-signed answer stage.Signing e reply new m = refines-verdict (ap phase_of_stage e) answer reply new m
   refines-signed (Accepted candidate) stage.Unpolled e reply new m = rw (m.0, m.1) (unfit (Accepted candidate) stage.Unpolled e refl)
@@ -129,10 +142,13 @@ module _ {K D : Type 0} (policy : Policy K D) (old : DeskState K D) (entries : L
   abbrev cancels : Reply K → Entry K
   cancels reply = record { event = Cancel call; reply = reply }
 
-  cancelled_phase : (wake : Option CallId) → phase_of (before ++ record { event = Cancel call; reply = Cancelled wake } ∷ []) call ≡ Ended
+  cancelled_phase : (wake : Option CallId)
+      → phase_of (before ++ record { event = Cancel call; reply = Cancelled wake } ∷ []) call ≡ Ended
   cancelled_phase wake = phase-own_mark setup before h.cache (cancels (Cancelled wake)) call (same_call-refl call) refl
 
-  cancel_order : (reply : Reply K) → is_not_now reply ≡ false → poll_order setup (before ++ record { event = Cancel call; reply = reply } ∷ []) h.cache ≡ poll_order setup before h.cache
+  cancel_order : (reply : Reply K) → is_not_now reply ≡ false
+      → poll_order setup (before ++ record { event = Cancel call; reply = reply } ∷ []) h.cache
+      ≡ poll_order setup before h.cache
   cancel_order reply n = order-stays policy setup before ran (cancels reply) refl h.cache
 
   nobody_behind : (xs : List CallId) → list_any (same_call call) xs ≡ false → next_holder call xs ≡ None
@@ -140,15 +156,19 @@ module _ {K D : Type 0} (policy : Policy K D) (old : DeskState K D) (entries : L
   nobody_behind (x ∷ rest) n = let s : same_call call x ≡ false = or_left _ _ n in rw s refl
 
   -- a call that is not in the line wakes nobody
-  wakes_nobody : list_any (same_call call) (open_calls setup before h.cache) ≡ false → call_to_wake setup before h.cache (cancels (Cancelled None)) ≡ None
+  wakes_nobody : list_any (same_call call) (open_calls setup before h.cache) ≡ false
+      → call_to_wake setup before h.cache (cancels (Cancelled None)) ≡ None
   wakes_nobody absent =
       wakes policy setup before ran h.cache (cancels (Cancelled None)) refl (cancel_order (Cancelled None) refl)
       ∙ next_holder-is call (open_calls setup before h.cache)
       ∙ nobody_behind (open_calls setup before h.cache) absent
 
   -- of a call that holds or waits
-  refines-leave : (s : Stage) → r.stage ≡ s → is_unpolled (phase_of_stage s) ≡ false → (reply : Reply K) (new : DeskState K D)
-      → TakesEffect (end_effect (waited_hold old view).ended_desk (Cancelled (waited_hold old view).wake)) call reply new → Refines policy old entries (cancels reply) new
+  refines-leave : (s : Stage) → r.stage ≡ s → is_unpolled (phase_of_stage s) ≡ false
+      → (reply : Reply K) (new : DeskState K D)
+      → TakesEffect (end_effect (waited_hold old view).ended_desk (Cancelled (waited_hold old view).wake))
+      call reply new
+      → Refines policy old entries (cancels reply) new
   refines-leave s e f reply new m =
       let polled : is_unpolled (phase_of before call) ≡ false = ap is_unpolled (phase-is policy old entries stood call h r lives (phase_of_stage s) (ap phase_of_stage e)) ∙ f in
       refines-end policy old entries stood (Cancel call) h r lives (waited_hold old view).ended_desk (Cancelled (waited_hold old view).wake)
@@ -157,10 +177,13 @@ module _ {K D : Type 0} (policy : Policy K D) (old : DeskState K D) (entries : L
       (cancelled_phase (waited_hold old view).wake) reply new m
 
   -- of a call that was not polled
-  refines-unpolled : r.stage ≡ stage.Unpolled → (reply : Reply K) (new : DeskState K D) → TakesEffect (end_effect (with_queue without_room h.cache old) (Cancelled None)) call reply new → Refines policy old entries (cancels reply) new
+  refines-unpolled : r.stage ≡ stage.Unpolled → (reply : Reply K) (new : DeskState K D)
+      → TakesEffect (end_effect (with_queue without_room h.cache old) (Cancelled None)) call reply new
+      → Refines policy old entries (cancels reply) new
   refines-unpolled e reply new m = by_phase (invariant policy old entries stood call h r lives Unpolled (ap phase_of_stage e))
     where
-      by_phase : CallInvariant setup before h.cache call Unpolled → Refines policy old entries (cancels reply) new
+      by_phase : CallInvariant setup before h.cache call Unpolled
+          → Refines policy old entries (cancels reply) new
       by_phase (unpolled_call w _ first) =
           refines-end policy old entries stood (Cancel call) h r lives (with_queue without_room h.cache old) (Cancelled None)
           (record { expected = ap Cancelled (sym (wakes_nobody (unpolled-absent policy setup before ran (cancels (Cancelled None)) call h.cache first))) ∙ expected_cancels (says policy old entries stood call h r lives).live; committed = refl; fits = refl; no_begin = refl })
@@ -170,7 +193,9 @@ module _ {K D : Type 0} (policy : Policy K D) (old : DeskState K D) (entries : L
           (cancelled_phase None) reply new m
 
   -- of a call that signs
-  refines-signing : r.stage ≡ stage.Signing → (reply : Reply K) (new : DeskState K D) → TakesEffect (end_effect old (Cancelled None)) call reply new → Refines policy old entries (cancels reply) new
+  refines-signing : r.stage ≡ stage.Signing → (reply : Reply K) (new : DeskState K D)
+      → TakesEffect (end_effect old (Cancelled None)) call reply new
+      → Refines policy old entries (cancels reply) new
   refines-signing e reply new m =
       let served : IsServed setup before h.cache call = served_of (invariant policy old entries stood call h r lives Signing (ap phase_of_stage e)) in
       refines-end policy old entries stood (Cancel call) h r lives old (Cancelled None)
@@ -181,7 +206,8 @@ module _ {K D : Type 0} (policy : Policy K D) (old : DeskState K D) (entries : L
       (cancelled_phase None) reply new m
 
   -- a cancel of a live call
-  pub refines-cancel : (s : Stage) → r.stage ≡ s → (reply : Reply K) (new : DeskState K D) → Performs (cancel_action old view s) call old reply new
+  pub refines-cancel : (s : Stage) → r.stage ≡ s → (reply : Reply K) (new : DeskState K D)
+      → Performs (cancel_action old view s) call old reply new
       → Refines policy old entries (record { event = Cancel call; reply = reply }) new
   refines-cancel stage.Unpolled e reply new m = refines-unpolled e reply new m
   refines-cancel stage.Queued e reply new m = refines-leave stage.Queued e refl reply new m

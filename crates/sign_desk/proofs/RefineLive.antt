@@ -1,4 +1,5 @@
--- An effect on a live call is one more entry of the transcript, where what is kept beside the calls follows the entry;
+-- An effect on a live call is one more entry of the transcript, where what is kept beside the calls follows
+-- the entry;
 -- and so is what is done by how far a hold gets.
 use Rattle.std.proofs.Common.{◌≡◌, ℕ, true, false, List, [], ◌∷◌, ◌++◌, Option, Some, None, option_map, length, refl, sym, ◌∙◌, ap, subst, ◌||◌, inl, inr, IsTrue}
 use Rattle.std.specs.List.{list_any}
@@ -70,9 +71,12 @@ module _ {K D : Type 0} (policy : Policy K D) (old : DeskState K D) (entries : L
     pub no_begin : is_begun reply ≡ false
 
   -- where the call stays live
-  pub refines-live : (desk : DeskState K D) (s : Stage) (answers : ℕ) (reply : Reply K) → IsExpected reply → Follows policy old entries desk (entry reply)
-      → phase_of (after reply) (call_of event) ≡ phase_of_stage s → length (answers_of (after reply) (call_of event)) ≡ answers
-      → (given : Reply K) (new : DeskState K D) → TakesEffect (live_effect desk (viewed (call_of event) h r s answers) reply) (call_of event) given new → Refines policy old entries (entry given) new
+  pub refines-live : (desk : DeskState K D) (s : Stage) (answers : ℕ) (reply : Reply K) → IsExpected reply
+      → Follows policy old entries desk (entry reply)
+      → phase_of (after reply) (call_of event) ≡ phase_of_stage s
+      → length (answers_of (after reply) (call_of event)) ≡ answers → (given : Reply K) (new : DeskState K D)
+      → TakesEffect (live_effect desk (viewed (call_of event) h r s answers) reply) (call_of event) given new
+      → Refines policy old entries (entry given) new
   refines-live desk s answers reply goes follows phase count given new m =
       let kept : option_map (as_viewed (viewed (call_of event) h r s answers)) (find_call (call_of event) desk.calls) ≡ Some (as_viewed (viewed (call_of event) h r s answers) r) =
       ap (option_map (as_viewed (viewed (call_of event) h r s answers))) (ap (find_call (call_of event)) follows.calls ∙ lives.found) in
@@ -83,15 +87,20 @@ module _ {K D : Type 0} (policy : Policy K D) (old : DeskState K D) (entries : L
       (live-stays policy old entries stood (entry reply) r (as_viewed (viewed (call_of event) h r s answers) r) goes.no_begin
       ((says policy old entries stood (call_of event) h r lives).live ∙ sym (ap is_live phase ∙ stage_lives s)) lives.found))
     where
-      live_by_stage : (s : Stage) → Some (live_view (as_viewed (viewed (call_of event) h r s answers) r)) ≡ live_by (phase_of_stage s) answers (Some (live_view r).begin)
+      live_by_stage : (s : Stage)
+          → Some (live_view (as_viewed (viewed (call_of event) h r s answers) r))
+          ≡ live_by (phase_of_stage s) answers (Some (live_view r).begin)
       live_by_stage stage.Unpolled = refl
       live_by_stage stage.Queued = refl
       live_by_stage stage.Loading = refl
       live_by_stage stage.Signing = refl
 
   -- where the call ends
-  pub refines-end : (desk : DeskState K D) (reply : Reply K) → IsExpected reply → Follows policy old entries desk (entry reply) → phase_of (after reply) (call_of event) ≡ Ended
-      → (given : Reply K) (new : DeskState K D) → TakesEffect (end_effect desk reply) (call_of event) given new → Refines policy old entries (entry given) new
+  pub refines-end : (desk : DeskState K D) (reply : Reply K) → IsExpected reply
+      → Follows policy old entries desk (entry reply) → phase_of (after reply) (call_of event) ≡ Ended
+      → (given : Reply K) (new : DeskState K D)
+      → TakesEffect (end_effect desk reply) (call_of event) given new
+      → Refines policy old entries (entry given) new
   refines-end desk reply goes follows phase given new m =
       rw (m.0)
       (refines-more policy old entries stood (entry reply) goes.expected goes.committed goes.fits desk new follows None m.1
@@ -103,20 +112,32 @@ module _ {K D : Type 0} (policy : Policy K D) (old : DeskState K D) (entries : L
 
   -- what is known of an event at which the hold of its call gets this far
   pub record HoldLaw (hold : Hold K D) (answers : ℕ) (progress : Progress K) : Type 0 where
-    pub expected : hold_reply setup before h.cache event (Some progress) ≡ expected_reply policy setup before event
-    pub woken : (reply : Reply K) → ends_hold reply ≡ true → is_not_now reply ≡ false → call_to_wake setup before h.cache (entry reply) ≡ hold.wake
-    pub answered : (reply : Reply K) → is_not_now reply ≡ false → length (answers_of (after reply) (call_of event)) ≡ answers
+    pub expected : hold_reply setup before h.cache event (Some progress)
+        ≡ expected_reply policy setup before event
+    pub woken : (reply : Reply K) → ends_hold reply ≡ true → is_not_now reply ≡ false
+        → call_to_wake setup before h.cache (entry reply) ≡ hold.wake
+    pub answered : (reply : Reply K) → is_not_now reply ≡ false
+        → length (answers_of (after reply) (call_of event)) ≡ answers
     pub asking_desk : (provider : ℕ) → Follows policy old entries hold.asking_desk (entry (Ask provider))
-    pub signing_desk : (credential : K) (cached : Option K) → progress ≡ Over (HandOut credential) cached → Follows policy old entries (hold.signing_desk credential) (entry (Sign credential hold.wake))
-    pub ended_desk : (cause : Why) → Follows policy old entries hold.ended_desk (entry (Refused cause hold.wake))
-    pub allocating : (credential : K) (cached : Option K) → progress ≡ Over (HandOut credential) cached → IsTrue (allocates policy setup before event)
+    pub signing_desk : (credential : K) (cached : Option K) → progress ≡ Over (HandOut credential) cached
+        → Follows policy old entries (hold.signing_desk credential) (entry (Sign credential hold.wake))
+    pub ended_desk : (cause : Why)
+        → Follows policy old entries hold.ended_desk (entry (Refused cause hold.wake))
+    pub allocating : (credential : K) (cached : Option K) → progress ≡ Over (HandOut credential) cached
+        → IsTrue (allocates policy setup before event)
 
-  phase_after : (reply : Reply K) → is_mark reply ≡ true → phase_of (after reply) (call_of event) ≡ phase_by (list_any is_waiting_poll (entries_of before (call_of event)) || is_waiting_poll (entry reply)) reply
+  phase_after : (reply : Reply K) → is_mark reply ≡ true
+      → phase_of (after reply) (call_of event)
+      ≡ phase_by
+      (list_any is_waiting_poll (entries_of before (call_of event)) || is_waiting_poll (entry reply)) reply
   phase_after reply m = phase-own_mark setup before h.cache (entry reply) (call_of event) (same_call-refl (call_of event)) m
 
   -- what is done is one more entry
-  pub refines-hold : (hold : Hold K D) (answers : ℕ) (progress : Progress K) → HoldLaw hold answers progress → (reply : Reply K) (new : DeskState K D)
-      → Performs (hold_action hold (viewed (call_of event) h r r.stage answers) (Some progress)) (call_of event) old reply new → Refines policy old entries (entry reply) new
+  pub refines-hold : (hold : Hold K D) (answers : ℕ) (progress : Progress K) → HoldLaw hold answers progress
+      → (reply : Reply K) (new : DeskState K D)
+      → Performs (hold_action hold (viewed (call_of event) h r r.stage answers) (Some progress))
+      (call_of event) old reply new
+      → Refines policy old entries (entry reply) new
   refines-hold hold answers (Asking provider) law reply new m =
       refines-live hold.asking_desk stage.Loading answers (Ask provider)
       (record { expected = law.expected; committed = refl; fits = refl; no_begin = refl }) (law.asking_desk provider) (phase_after (Ask provider) refl) (law.answered (Ask provider) refl) reply new m
@@ -136,22 +157,31 @@ module _ {K D : Type 0} (policy : Policy K D) (old : DeskState K D) (entries : L
     view = stored_view (call_of event) h r
 
     -- the next in line is woken
-    pub waited_wakes : (reply : Reply K) → ends_hold reply ≡ true → is_not_now reply ≡ false → call_to_wake setup before h.cache (entry reply) ≡ (waited_hold old view).wake
+    pub waited_wakes : (reply : Reply K) → ends_hold reply ≡ true → is_not_now reply ≡ false
+        → call_to_wake setup before h.cache (entry reply) ≡ (waited_hold old view).wake
     waited_wakes reply ends fits =
         wakes policy setup before ran h.cache (entry reply) ends (order reply fits)
         ∙ next_holder-is (call_of event) (open_calls setup before h.cache)
         ∙ ap (next_holder (call_of event)) (sym (line-is policy old entries stood (call_of event) h r lives))
 
     -- the queues stay, where the call asks
-    pub waited_asks : (provider : ℕ) → CachesAfter event (Ask provider) old old → Follows policy old entries old (entry (Ask provider))
+    pub waited_asks : (provider : ℕ) → CachesAfter event (Ask provider) old old
+        → Follows policy old entries old (entry (Ask provider))
     waited_asks provider caches =
         follows-stays policy old entries stood (entry (Ask provider)) h.cache (at policy old entries stood (call_of event) h r lives) refl caches
         (queue-stays policy setup before ran (entry (Ask provider)) h.cache (at policy old entries stood (call_of event) h r lives) refl refl (order (Ask provider) refl) (polled ∙ sym (ap is_unpolled (phase_after (Ask provider) refl))))
 
     -- the call is out of its queue, where its hold ends
-    pub waited_leaves : (reply : Reply K) → ends_hold reply ≡ true → is_not_now reply ≡ false → is_begun reply ≡ false → is_unpolled (phase_of (after reply) (call_of event)) ≡ false → (caches : List (Option K))
-        → CachesAfter event reply old (record old { caches = caches; queues = with_changed (without_call (call_of event)) h.cache old.queues })
-        → Follows policy old entries (record old { caches = caches; queues = with_changed (without_call (call_of event)) h.cache old.queues }) (entry reply)
+    pub waited_leaves : (reply : Reply K) → ends_hold reply ≡ true → is_not_now reply ≡ false
+        → is_begun reply ≡ false → is_unpolled (phase_of (after reply) (call_of event)) ≡ false
+        → (caches : List (Option K))
+        → CachesAfter event reply old
+        (record old
+        { caches = caches; queues = with_changed (without_call (call_of event)) h.cache old.queues })
+        → Follows policy old entries
+        (record old
+        { caches = caches; queues = with_changed (without_call (call_of event)) h.cache old.queues })
+        (entry reply)
     waited_leaves reply ends fits begins phase caches cached =
         follows-changed policy old entries stood (entry reply) h.cache (without_call (call_of event)) caches (at policy old entries stood (call_of event) h r lives) begins cached
         (queue-without_call policy setup before ran (entry reply) h.cache (at policy old entries stood (call_of event) h r lives) begins ends (order reply fits) (polled ∙ sym phase))

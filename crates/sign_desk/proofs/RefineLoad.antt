@@ -60,16 +60,20 @@ forget (Asking k) = Asking k
 forget (Over outcome left) = Over outcome None
 
 module _ {K : Type 0} where
-  found-forgets : (outcome : Outcome K) (left : Option K) → forget (found_progress outcome None) ≡ forget (found_progress outcome left)
+  found-forgets : (outcome : Outcome K) (left : Option K)
+      → forget (found_progress outcome None) ≡ forget (found_progress outcome left)
   found-forgets (HandOut c) left = refl
   found-forgets (Refuse cause) left = refl
 
-  chain-forgets : (count : ℕ) (left : Option K) (b : Bool) → forget (cond b (let p : Progress K = Asking count in p) (Over (Refuse why.Missing) None)) ≡ forget (cond b (Asking count) (Over (Refuse why.Missing) left))
+  chain-forgets : (count : ℕ) (left : Option K) (b : Bool)
+      → forget (cond b (let p : Progress K = Asking count in p) (Over (Refuse why.Missing) None))
+      ≡ forget (cond b (Asking count) (Over (Refuse why.Missing) left))
   chain-forgets count left true = refl
   chain-forgets count left false = refl
 
   -- what is done does not depend on the cache that a hold leaves
-  action-forgets : {D : Type 0} (hold : Hold K D) (view : LiveCallView) (progress : Option (Progress K)) → hold_action hold view progress ≡ hold_action hold view (option_map forget progress)
+  action-forgets : {D : Type 0} (hold : Hold K D) (view : LiveCallView) (progress : Option (Progress K))
+      → hold_action hold view progress ≡ hold_action hold view (option_map forget progress)
   action-forgets hold view None = refl
   action-forgets hold view (Some (Asking k)) = refl
   action-forgets hold view (Some (Over (HandOut c) left)) = refl
@@ -101,7 +105,12 @@ module _ {K D : Type 0} (policy : Policy K D) (old : DeskState K D) (entries : L
 
   -- a load on what the desk keeps is one on the sequential cache
   load_by : (l : Loader) (a : Answer K) → slice_get old.loaders h.cache ≡ Some l
-      → option_map forget (desk_load policy old now view a) ≡ Some (forget (load_progress (check_refreshed policy lives.rule (option_map as_nanos r.expires_in)) l (sequential_cache policy setup before h.cache) (r.answers + 1) (Some (a, now))))
+      → option_map forget (desk_load policy old now view a)
+      ≡ Some
+      (forget
+      (load_progress (check_refreshed policy lives.rule
+      (option_map as_nanos r.expires_in)) l (sequential_cache policy setup before
+      h.cache) (r.answers + 1) (Some (a, now))))
   load_by Single (Found c) l = rw lives.ruled (ap Some (found-forgets (check_refreshed policy lives.rule (option_map as_nanos r.expires_in) c now) (sequential_cache policy setup before h.cache)))
   load_by (Chain n) (Found c) l = rw lives.ruled (ap Some (found-forgets (check_refreshed policy lives.rule (option_map as_nanos r.expires_in) c now) (sequential_cache policy setup before h.cache)))
   load_by Single Missing l = rw l refl
@@ -110,7 +119,8 @@ module _ {K D : Type 0} (policy : Policy K D) (old : DeskState K D) (entries : L
   load_by (Chain n) (Failed e) l = rw l (ap Some (chain-forgets (r.answers + 1) (sequential_cache policy setup before h.cache) (nat_lt (r.answers + 1) n)))
 
   -- an answer to a call that does not load does not fit
-  unfit : (s : Stage) → r.stage ≡ s → is_loading (phase_of_stage s) ≡ false → Refines policy old entries (entry NotNow) old
+  unfit : (s : Stage) → r.stage ≡ s → is_loading (phase_of_stage s) ≡ false
+      → Refines policy old entries (entry NotNow) old
   unfit s e l = refines-not_now policy old entries stood (Provided call now answer) (misfit policy old entries stood (Provided call now answer) h.cache (at policy old entries stood call h r lives) (ap is_loading (phase-is policy old entries stood call h r lives (phase_of_stage s) (ap phase_of_stage e)) ∙ l))
 
   module _ (loading : phase_of_stage r.stage ≡ Loading) where
@@ -130,36 +140,51 @@ module _ {K D : Type 0} (policy : Policy K D) (old : DeskState K D) (entries : L
     abbrev input : List (Answer K × ℤ) → HoldInput K D
     input answers = record { rule = lives.rule; duration = option_map as_nanos r.expires_in; now = loads.had.moment; answers = answers }
 
-    inputs : (answers : List (Answer K × ℤ)) → input_by (rule_of setup call) (begin_of before call) (turn_moment setup before h.cache call) answers ≡ Some (input answers)
+    inputs : (answers : List (Answer K × ℤ))
+        → input_by (rule_of setup call) (begin_of before call) (turn_moment setup before h.cache call) answers
+        ≡ Some (input answers)
     inputs answers = rw (rule-is policy old entries stood call h r lives, (says policy old entries stood call h r lives).begin, loads.had.at) refl
 
-    looked_none : cache_lookup policy (sequential_cache policy setup before h.cache) lives.rule (option_map as_nanos r.expires_in) loads.had.moment ≡ None
+    looked_none : cache_lookup policy (sequential_cache policy setup before h.cache) lives.rule
+        (option_map as_nanos r.expires_in) loads.had.moment
+        ≡ None
     looked_none =
         let made : hold_input setup before h.cache call ≡ Some (input (answers_of before call)) = inputs (answers_of before call) in
         let these : Some on.input ≡ Some (input (answers_of before call)) = sym on.inputs ∙ made in
         let same : on.input ≡ input (answers_of before call) = cc in
         ap (λ (x : HoldInput K D). cache_lookup policy (sequential_cache policy setup before h.cache) x.rule x.duration x.now) (sym same) ∙ on.none
 
-    reached : sequential_call policy (sequential_cache policy setup before h.cache) lives.loader (input (answers_of before call ++ (answer, now) ∷ [])) ≡ progress
+    reached : sequential_call policy (sequential_cache policy setup before h.cache) lives.loader
+        (input (answers_of before call ++ (answer, now) ∷ []))
+        ≡ progress
     reached =
         call_loads policy (sequential_cache policy setup before h.cache) lives.loader (input (answers_of before call ++ (answer, now) ∷ [])) (answers_of before call) (answer, now) looked_none refl
         ∙ ap (λ n. load_progress (check_refreshed policy lives.rule (option_map as_nanos r.expires_in)) lives.loader (sequential_cache policy setup before h.cache) (n + 1) (Some (answer, now))) (says policy old entries stood call h r lives).answers
 
-    expected_load : hold_reply setup before h.cache (Provided call now answer) (hold_progress policy (sequential_cache policy setup before h.cache) (slice_get old.loaders h.cache) (input_by (rule_of setup call) (begin_of before call) (turn_moment setup before h.cache call) (answers_of before call ++ (answer, now) ∷ [])))
+    expected_load : hold_reply setup before h.cache (Provided call now answer)
+        (hold_progress policy (sequential_cache policy setup before h.cache) (slice_get old.loaders h.cache)
+        (input_by (rule_of setup call) (begin_of before call) (turn_moment setup before h.cache
+        call) (answers_of before call ++ (answer, now) ∷ [])))
         ≡ expected_reply policy setup before (Provided call now answer)
     unfolding expected_reply
     expected_load = rw (at policy old entries stood call h r lives, was_loading) refl
 
-    progress_by : (l : Option Loader) → l ≡ Some lives.loader → (o : Option (HoldInput K D)) → o ≡ Some (input (answers_of before call ++ (answer, now) ∷ [])) → hold_progress policy (sequential_cache policy setup before h.cache) l o ≡ Some progress
+    progress_by : (l : Option Loader) → l ≡ Some lives.loader → (o : Option (HoldInput K D))
+        → o ≡ Some (input (answers_of before call ++ (answer, now) ∷ []))
+        → hold_progress policy (sequential_cache policy setup before h.cache) l o ≡ Some progress
     progress_by l lh o oh = rw (lh, oh) (ap Some reached)
 
-    expected : hold_reply setup before h.cache (Provided call now answer) (Some progress) ≡ expected_reply policy setup before (Provided call now answer)
+    expected : hold_reply setup before h.cache (Provided call now answer) (Some progress)
+        ≡ expected_reply policy setup before (Provided call now answer)
     expected = ap (hold_reply setup before h.cache (Provided call now answer)) (sym (progress_by (slice_get old.loaders h.cache) lives.loads _ (inputs (answers_of before call ++ (answer, now) ∷ [])))) ∙ expected_load
 
-    phase_after : (reply : Reply K) → is_mark reply ≡ true → phase_of (after reply) call ≡ phase_by (list_any is_waiting_poll (entries_of before call) || is_waiting_poll (entry reply)) reply
+    phase_after : (reply : Reply K) → is_mark reply ≡ true
+        → phase_of (after reply) call
+        ≡ phase_by (list_any is_waiting_poll (entries_of before call) || is_waiting_poll (entry reply)) reply
     phase_after reply m = phase-own_mark setup before h.cache (entry reply) call (same_call-refl call) m
 
-    answered : (reply : Reply K) → is_not_now reply ≡ false → length (answers_of (after reply) call) ≡ r.answers + 1
+    answered : (reply : Reply K) → is_not_now reply ≡ false
+        → length (answers_of (after reply) call) ≡ r.answers + 1
     answered reply n =
         ap length (ap answers_in (entries_of-own before call (entry reply) (same_call-refl call)) ∙ answers_in-more (entries_of before call) (entry reply) (answer, now) n refl)
         ∙ length-append (answers_of before call) ((answer, now) ∷ [])
@@ -172,10 +197,12 @@ module _ {K D : Type 0} (policy : Policy K D) (old : DeskState K D) (entries : L
         found_is_handed_out policy setup before ran call now answer (Sign c (call_to_wake setup before h.cache (entry (Sign c None)))) c
         (legal_entry_step policy setup before (entry (Sign c (call_to_wake setup before h.cache (entry (Sign c None))))) refl (inl signs)) refl
 
-    stores : (c : K) (wake : Option CallId) → CachesAfter (Provided call now (Found c)) (Sign c wake) old ((loading_hold old view).signing_desk c)
+    stores : (c : K) (wake : Option CallId)
+        → CachesAfter (Provided call now (Found c)) (Sign c wake) old ((loading_hold old view).signing_desk c)
     stores c wake = (refl, caches-stored call c old ((loading_hold old view).signing_desk c) h.cache (at policy old entries stood call h r lives) (slice_get_within old.caches h.cache _ (cached policy old entries stood call h r lives)) refl)
 
-    order : (reply : Reply K) → is_not_now reply ≡ false → poll_order setup (after reply) h.cache ≡ poll_order setup before h.cache
+    order : (reply : Reply K) → is_not_now reply ≡ false
+        → poll_order setup (after reply) h.cache ≡ poll_order setup before h.cache
     order reply n = order-stays policy setup before ran (entry reply) refl h.cache
 
     was_polled : is_unpolled (phase_of before call) ≡ false
@@ -184,7 +211,8 @@ module _ {K D : Type 0} (policy : Policy K D) (old : DeskState K D) (entries : L
     asks : (a : Answer K) (provider : ℕ) → CachesAfter (Provided call now a) (Ask provider) old old
     asks a provider = caches_after-same (Provided call now a) (Ask provider) old old refl refl
 
-    law : HoldLaw policy old entries stood (Provided call now answer) h r lives (loading_hold old view) (r.answers + 1) progress
+    law : HoldLaw policy old entries stood (Provided call now answer) h r lives (loading_hold old view)
+        (r.answers + 1) progress
     law = record {
       expected = expected;
       woken = waited_wakes policy old entries stood (Provided call now answer) h r lives order was_polled;
@@ -197,7 +225,9 @@ module _ {K D : Type 0} (policy : Policy K D) (old : DeskState K D) (entries : L
       allocating = λ c left e. rw (found c left e, was_loading) refl;
     }
 
-    refines-load : (reply : Reply K) (new : DeskState K D) → Performs (load_action policy old now answer view) call old reply new → Refines policy old entries (entry reply) new
+    refines-load : (reply : Reply K) (new : DeskState K D)
+        → Performs (load_action policy old now answer view) call old reply new
+        → Refines policy old entries (entry reply) new
     refines-load reply new m =
         refines-hold policy old entries stood (Provided call now answer) h r lives (loading_hold old view) (r.answers + 1) progress law reply new
         (subst (λ (a : Action K D). Performs a call old reply new)
@@ -206,7 +236,9 @@ module _ {K D : Type 0} (policy : Policy K D) (old : DeskState K D) (entries : L
         ∙ sym (action-forgets (loading_hold old view) (with_answer view) (Some progress))) m)
 
   -- a provider's answer to a live call
-  pub refines-provided : (s : Stage) → r.stage ≡ s → (reply : Reply K) (new : DeskState K D) → Performs (provided_action (load_action policy old now answer view) s) call old reply new → Refines policy old entries (entry reply) new
+  pub refines-provided : (s : Stage) → r.stage ≡ s → (reply : Reply K) (new : DeskState K D)
+      → Performs (provided_action (load_action policy old now answer view) s) call old reply new
+      → Refines policy old entries (entry reply) new
   refines-provided stage.Unpolled e reply new m = rw (m.0, m.1) (unfit stage.Unpolled e refl)
   refines-provided stage.Queued e reply new m = rw (m.0, m.1) (unfit stage.Queued e refl)
   refines-provided stage.Signing e reply new m = rw (m.0, m.1) (unfit stage.Signing e refl)

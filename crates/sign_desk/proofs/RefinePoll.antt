@@ -87,27 +87,38 @@ module _ {K D : Type 0} (policy : Policy K D) (old : DeskState K D) (entries : L
   looked : desk_lookup policy old now view ≡ Some progress
   looked = rw (lives.loads, cached policy old entries stood call h r lives, lives.ruled) refl
 
-  reached : hold_progress policy (sequential_cache policy setup before h.cache) (slice_get old.loaders h.cache) (input_by (rule_of setup call) (begin_of before call) (Some now) []) ≡ Some progress
+  reached : hold_progress policy (sequential_cache policy setup before h.cache)
+      (slice_get old.loaders h.cache) (input_by (rule_of setup call) (begin_of before call) (Some now) [])
+      ≡ Some progress
   reached = rw (lives.loads, rule-is policy old entries stood call h r lives, (says policy old entries stood call h r lives).begin) refl
 
   -- the expected reply to a poll: it waits while the call is busy or has no turn, and else goes by the look
-  expected_busy : is_live (phase_of before call) ≡ true → is_waiting (phase_of before call) ≡ false → Pending ≡ expected_reply policy setup before (Poll call now)
+  expected_busy : is_live (phase_of before call) ≡ true → is_waiting (phase_of before call) ≡ false
+      → Pending ≡ expected_reply policy setup before (Poll call now)
   unfolding expected_reply
   expected_busy l w = rw (at policy old entries stood call h r lives, l, w) refl
 
-  expected_waits : is_live (phase_of before call) ≡ true → is_waiting (phase_of before call) ≡ true → has_turn setup before h.cache call ≡ false → Pending ≡ expected_reply policy setup before (Poll call now)
+  expected_waits : is_live (phase_of before call) ≡ true → is_waiting (phase_of before call) ≡ true
+      → has_turn setup before h.cache call ≡ false
+      → Pending ≡ expected_reply policy setup before (Poll call now)
   unfolding expected_reply
   expected_waits l w t = rw (at policy old entries stood call h r lives, l, w, t) refl
 
-  expected_looks : is_live (phase_of before call) ≡ true → is_waiting (phase_of before call) ≡ true → has_turn setup before h.cache call ≡ true
-      → hold_reply setup before h.cache (Poll call now) (hold_progress policy (sequential_cache policy setup before h.cache) (slice_get old.loaders h.cache) (input_by (rule_of setup call) (begin_of before call) (Some now) [])) ≡ expected_reply policy setup before (Poll call now)
+  expected_looks : is_live (phase_of before call) ≡ true → is_waiting (phase_of before call) ≡ true
+      → has_turn setup before h.cache call ≡ true
+      → hold_reply setup before h.cache (Poll call now)
+      (hold_progress policy (sequential_cache policy setup before h.cache) (slice_get old.loaders h.cache)
+      (input_by (rule_of setup call) (begin_of before call) (Some now) []))
+      ≡ expected_reply policy setup before (Poll call now)
   unfolding expected_reply
   expected_looks l w t = rw (at policy old entries stood call h r lives, l, w, t) refl
 
   poll_at : (reply : Reply K) → is_not_now reply ≡ false → is_poll_at setup h.cache (entry reply) ≡ true
   poll_at reply n = rw (n, here policy old entries stood call h r lives) refl
 
-  phase_after : (reply : Reply K) → is_mark reply ≡ true → phase_of (after reply) call ≡ phase_by (list_any is_waiting_poll (entries_of before call) || is_waiting_poll (entry reply)) reply
+  phase_after : (reply : Reply K) → is_mark reply ≡ true
+      → phase_of (after reply) call
+      ≡ phase_by (list_any is_waiting_poll (entries_of before call) || is_waiting_poll (entry reply)) reply
   phase_after reply m = phase-own_mark setup before h.cache (entry reply) call (same_call-refl call) m
 
   answers_after : (reply : Reply K) → answers_of (after reply) call ≡ answers_of before call
@@ -120,7 +131,10 @@ module _ {K D : Type 0} (policy : Policy K D) (old : DeskState K D) (entries : L
   phase_pending p e = pending_phase policy setup before h.cache call (at policy old entries stood call h r lives) now p (phase-is policy old entries stood call h r lives p e)
 
   -- a poll that changes nothing
-  waits_on : (p : Phase) → phase_of_stage r.stage ≡ p → to_queued p ≡ p → is_polled setup before h.cache call ≡ true → Pending ≡ expected_reply policy setup before (Poll call now) → Refines policy old entries (entry Pending) old
+  waits_on : (p : Phase) → phase_of_stage r.stage ≡ p → to_queued p ≡ p
+      → is_polled setup before h.cache call ≡ true
+      → Pending ≡ expected_reply policy setup before (Poll call now)
+      → Refines policy old entries (entry Pending) old
   waits_on p e q polled expected =
       let was : phase_of before call ≡ p = phase-is policy old entries stood call h r lives p e in
       let is : phase_of (after Pending) call ≡ p = phase_pending p e ∙ q in
@@ -133,10 +147,13 @@ module _ {K D : Type 0} (policy : Policy K D) (old : DeskState K D) (entries : L
 
   module _ (w : Waits setup before h.cache call) (waiting : is_waiting (phase_of before call) ≡ true) where
     -- at its turn the call goes by its look
-    expected_at_turn : has_turn setup before h.cache call ≡ true → hold_reply setup before h.cache (Poll call now) (Some progress) ≡ expected_reply policy setup before (Poll call now)
+    expected_at_turn : has_turn setup before h.cache call ≡ true
+        → hold_reply setup before h.cache (Poll call now) (Some progress)
+        ≡ expected_reply policy setup before (Poll call now)
     expected_at_turn turn = ap (hold_reply setup before h.cache (Poll call now)) (sym reached) ∙ expected_looks (says policy old entries stood call h r lives).live waiting turn
 
-    allocating : has_turn setup before h.cache call ≡ true → (c : K) (left : Option K) → progress ≡ Over (HandOut c) left → IsTrue (allocates policy setup before (Poll call now))
+    allocating : has_turn setup before h.cache call ≡ true → (c : K) (left : Option K)
+        → progress ≡ Over (HandOut c) left → IsTrue (allocates policy setup before (Poll call now))
     allocating turn c left e =
         let signs : Sign c (call_to_wake setup before h.cache (entry (Sign c None))) ≡ expected_reply policy setup before (Poll call now) = ap (λ (p : Progress K). hold_reply setup before h.cache (Poll call now) (Some p)) (sym e) ∙ expected_at_turn turn in
         rw ((says policy old entries stood call h r lives).live, ← signs) refl
@@ -145,17 +162,24 @@ module _ {K D : Type 0} (policy : Policy K D) (old : DeskState K D) (entries : L
       was_unpolled : is_unpolled (phase_of before call) ≡ true
       was_unpolled = ap is_unpolled (phase-is policy old entries stood call h r lives Unpolled unpolled)
 
-      enters : (reply : Reply K) → is_not_now reply ≡ false → is_begun reply ≡ false → ends_hold reply ≡ false → is_unpolled (phase_of (after reply) call) ≡ false → Follows policy old entries (with_queue (with_last call) h.cache old) (entry reply)
+      enters : (reply : Reply K) → is_not_now reply ≡ false → is_begun reply ≡ false → ends_hold reply ≡ false
+          → is_unpolled (phase_of (after reply) call) ≡ false
+          → Follows policy old entries (with_queue (with_last call) h.cache old) (entry reply)
       enters reply n b ends f =
           follows-changed policy old entries stood (entry reply) h.cache (with_last call) old.caches (at policy old entries stood call h r lives) b refl
           (queue-with_last policy setup before ran (entry reply) h.cache (at policy old entries stood call h r lives) b ends (poll_at reply n) first w.unfinished w.begun was_unpolled f)
 
-      passes : is_held_line (open_calls setup before h.cache) ≡ false → (reply : Reply K) → is_not_now reply ≡ false → is_begun reply ≡ false → ends_hold reply ≡ true → is_unpolled (phase_of (after reply) call) ≡ false → Follows policy old entries (with_queue without_room h.cache old) (entry reply)
+      passes : is_held_line (open_calls setup before h.cache) ≡ false → (reply : Reply K)
+          → is_not_now reply ≡ false → is_begun reply ≡ false → ends_hold reply ≡ true
+          → is_unpolled (phase_of (after reply) call) ≡ false
+          → Follows policy old entries (with_queue without_room h.cache old) (entry reply)
       passes free reply n b ends f =
           follows-changed policy old entries stood (entry reply) h.cache without_room old.caches (at policy old entries stood call h r lives) b refl
           (queue-without_room policy setup before ran (entry reply) h.cache (at policy old entries stood call h r lives) b ends (poll_at reply n) first (held-nobody (open_calls setup before h.cache) free) w.begun was_unpolled f)
 
-      first_law : is_held_line (open_calls setup before h.cache) ≡ false → HoldLaw policy old entries stood (Poll call now) h r lives (first_hold old view) r.answers progress
+      first_law : is_held_line (open_calls setup before h.cache) ≡ false
+          → HoldLaw policy old entries stood (Poll call now) h r lives (first_hold old view) r.answers
+          progress
       first_law free =
           let turn : has_turn setup before h.cache call ≡ true = has_turn-unpolled setup before h.cache call first ∙ nobody-held (open_calls setup before h.cache) false free in
           record {
@@ -168,8 +192,10 @@ module _ {K D : Type 0} (policy : Policy K D) (old : DeskState K D) (entries : L
             allocating = allocating turn;
           }
 
-      refines-first : (held : Bool) → is_held_line (line_at h.cache old.queues) ≡ held → (reply : Reply K) (new : DeskState K D)
-          → Performs (first_poll_action old view held (Some progress)) call old reply new → Refines policy old entries (entry reply) new
+      refines-first : (held : Bool) → is_held_line (line_at h.cache old.queues) ≡ held
+          → (reply : Reply K) (new : DeskState K D)
+          → Performs (first_poll_action old view held (Some progress)) call old reply new
+          → Refines policy old entries (entry reply) new
       refines-first true held reply new m =
           let turn : has_turn setup before h.cache call ≡ false = has_turn-unpolled setup before h.cache call first ∙ nobody-held (open_calls setup before h.cache) true (ap is_held_line (sym (line-is policy old entries stood call h r lives)) ∙ held) in
           refines-live policy old entries stood (Poll call now) h r lives (with_queue (with_last call) h.cache old) stage.Queued r.answers Pending
@@ -182,10 +208,13 @@ module _ {K D : Type 0} (policy : Policy K D) (old : DeskState K D) (entries : L
       was_polled : is_unpolled (phase_of before call) ≡ false
       was_polled = ap is_unpolled (phase-is policy old entries stood call h r lives Queued queued)
 
-      order : (reply : Reply K) → is_not_now reply ≡ false → poll_order setup (after reply) h.cache ≡ poll_order setup before h.cache
+      order : (reply : Reply K) → is_not_now reply ≡ false
+          → poll_order setup (after reply) h.cache ≡ poll_order setup before h.cache
       order reply n = order-polled policy setup before ran (entry reply) h.cache polled
 
-      later_law : has_turn setup before h.cache call ≡ true → HoldLaw policy old entries stood (Poll call now) h r lives (waited_hold old view) r.answers progress
+      later_law : has_turn setup before h.cache call ≡ true
+          → HoldLaw policy old entries stood (Poll call now) h r lives (waited_hold old view) r.answers
+          progress
       later_law turn = record {
         expected = expected_at_turn turn;
         woken = waited_wakes policy old entries stood (Poll call now) h r lives order was_polled;
@@ -196,19 +225,26 @@ module _ {K D : Type 0} (policy : Policy K D) (old : DeskState K D) (entries : L
         allocating = allocating turn;
       }
 
-      refines-later : (holds : Bool) → is_first call (line_at h.cache old.queues) ≡ holds → (reply : Reply K) (new : DeskState K D)
-          → Performs (later_poll_action old view holds (Some progress)) call old reply new → Refines policy old entries (entry reply) new
+      refines-later : (holds : Bool) → is_first call (line_at h.cache old.queues) ≡ holds
+          → (reply : Reply K) (new : DeskState K D)
+          → Performs (later_poll_action old view holds (Some progress)) call old reply new
+          → Refines policy old entries (entry reply) new
       refines-later holds first reply new m = by_holds holds (has_turn-polled setup before h.cache call w.unfinished polled ∙ ap (is_first call) (sym (line-is policy old entries stood call h r lives)) ∙ first) m
         where
-          by_holds : (holds : Bool) → has_turn setup before h.cache call ≡ holds → Performs (later_poll_action old view holds (Some progress)) call old reply new → Refines policy old entries (entry reply) new
+          by_holds : (holds : Bool) → has_turn setup before h.cache call ≡ holds
+              → Performs (later_poll_action old view holds (Some progress)) call old reply new
+              → Refines policy old entries (entry reply) new
           by_holds false turn m = rw (m.0, m.1) (waits_on Queued queued refl polled (expected_waits (says policy old entries stood call h r lives).live waiting turn))
           by_holds true turn m = refines-hold policy old entries stood (Poll call now) h r lives (waited_hold old view) r.answers progress (later_law turn) reply new m
 
   -- a poll of a live call
-  pub refines-poll : (s : Stage) → r.stage ≡ s → (reply : Reply K) (new : DeskState K D) → Performs (poll_action policy old now view s) call old reply new → Refines policy old entries (entry reply) new
+  pub refines-poll : (s : Stage) → r.stage ≡ s → (reply : Reply K) (new : DeskState K D)
+      → Performs (poll_action policy old now view s) call old reply new
+      → Refines policy old entries (entry reply) new
   refines-poll stage.Unpolled e reply new m = by_phase (invariant policy old entries stood call h r lives Unpolled (ap phase_of_stage e))
     where
-      by_phase : CallInvariant setup before h.cache call Unpolled → Refines policy old entries (entry reply) new
+      by_phase : CallInvariant setup before h.cache call Unpolled
+          → Refines policy old entries (entry reply) new
       by_phase (unpolled_call w _ first) =
           refines-first w (ap is_waiting (phase-is policy old entries stood call h r lives Unpolled (ap phase_of_stage e))) (ap phase_of_stage e) first (is_held_line (line_at h.cache old.queues)) refl reply new
           (subst (λ (o : Option (Progress K)). Performs (first_poll_action old view (is_held_line (line_at h.cache old.queues)) o) call old reply new) looked m)
@@ -220,9 +256,11 @@ module _ {K D : Type 0} (policy : Policy K D) (old : DeskState K D) (entries : L
           (subst (λ (o : Option (Progress K)). Performs (later_poll_action old view (is_first call (line_at h.cache old.queues)) o) call old reply new) looked m)
   refines-poll stage.Loading e reply new m = rw (m.0, m.1) (by_phase (invariant policy old entries stood call h r lives Loading (ap phase_of_stage e)))
     where
-      by_phase : CallInvariant setup before h.cache call Loading → Refines policy old entries (entry Pending) old
+      by_phase : CallInvariant setup before h.cache call Loading
+          → Refines policy old entries (entry Pending) old
       by_phase (loading_call l) = waits_on Loading (ap phase_of_stage e) refl l.had.polled (expected_busy (says policy old entries stood call h r lives).live (ap is_waiting (phase-is policy old entries stood call h r lives Loading (ap phase_of_stage e))))
   refines-poll stage.Signing e reply new m = rw (m.0, m.1) (by_phase (invariant policy old entries stood call h r lives Signing (ap phase_of_stage e)))
     where
-      by_phase : CallInvariant setup before h.cache call Signing → Refines policy old entries (entry Pending) old
+      by_phase : CallInvariant setup before h.cache call Signing
+          → Refines policy old entries (entry Pending) old
       by_phase (signing_call s) = waits_on Signing (ap phase_of_stage e) refl s.had.polled (expected_busy (says policy old entries stood call h r lives).live (ap is_waiting (phase-is policy old entries stood call h r lives Signing (ap phase_of_stage e))))

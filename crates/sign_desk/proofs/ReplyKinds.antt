@@ -20,23 +20,33 @@ use Rattle.sequential_signer.specs.declared.event.Verdict.TheVariants.{Accepted,
 use Rattle.sign_desk.specs.ReplyKinds.{is_reply_to}
 
 module _ {K D : Type 0} (policy : Policy K D) (setup : Setup D) (entries : List (Entry K)) where
-  poll_kind : (call : CallId) (now : ℤ) (i : ℕ) (o : Option (Progress K)) → is_reply_to (Poll call now) (hold_reply setup entries i (Poll call now) o) ≡ true
+  poll_kind : (call : CallId) (now : ℤ) (i : ℕ) (o : Option (Progress K))
+      → is_reply_to (Poll call now) (hold_reply setup entries i (Poll call now) o) ≡ true
   poll_kind call now i None = refl
   poll_kind call now i (Some (Asking k)) = refl
   poll_kind call now i (Some (Over (HandOut c) left)) = refl
   poll_kind call now i (Some (Over (Refuse why) left)) = refl
 
-  provided_kind : (call : CallId) (now : ℤ) (answer : Answer K) (i : ℕ) (o : Option (Progress K)) → is_reply_to (Provided call now answer) (hold_reply setup entries i (Provided call now answer) o) ≡ true
+  provided_kind : (call : CallId) (now : ℤ) (answer : Answer K) (i : ℕ) (o : Option (Progress K))
+      → is_reply_to (Provided call now answer) (hold_reply setup entries i (Provided call now answer) o)
+      ≡ true
   provided_kind call now answer i None = refl
   provided_kind call now answer i (Some (Asking k)) = refl
   provided_kind call now answer i (Some (Over (HandOut c) left)) = refl
   provided_kind call now answer i (Some (Over (Refuse why) left)) = refl
 
-  turn_kind : (call : CallId) (now : ℤ) (i : ℕ) (b : Bool) → is_reply_to (Poll call now) (cond b (hold_reply setup entries i (Poll call now) (progress_at policy setup entries i (look_input setup entries call now))) Pending) ≡ true
+  turn_kind : (call : CallId) (now : ℤ) (i : ℕ) (b : Bool)
+      → is_reply_to (Poll call now)
+      (cond b
+      (hold_reply setup entries i (Poll call now) (progress_at policy setup entries i
+      (look_input setup entries call now)))
+      Pending)
+      ≡ true
   turn_kind call now i true = poll_kind call now i (progress_at policy setup entries i (look_input setup entries call now))
   turn_kind call now i false = refl
 
-  fitting_kind : (i : ℕ) (event : Event K) → is_reply_to event (fitting_reply policy setup entries i event) ≡ true
+  fitting_kind : (i : ℕ) (event : Event K)
+      → is_reply_to event (fitting_reply policy setup entries i event) ≡ true
   fitting_kind i (Begin call head expires_in) = refl
   fitting_kind i (Poll call now) = turn_kind call now i (is_waiting (phase_of entries call) && has_turn setup entries i call)
   fitting_kind i (Provided call now answer) = provided_kind call now answer i (progress_at policy setup entries i (answered_input setup entries i call (answer, now)))
@@ -44,11 +54,13 @@ module _ {K D : Type 0} (policy : Policy K D) (setup : Setup D) (entries : List 
   fitting_kind i (Signed call (Failed e)) = refl
   fitting_kind i (Cancel call) = refl
 
-  at_kind : (event : Event K) (o : Option ℕ) → is_reply_to event (reply_at policy setup entries event o) ≡ true
+  at_kind : (event : Event K) (o : Option ℕ)
+      → is_reply_to event (reply_at policy setup entries event o) ≡ true
   at_kind event None = refl
   at_kind event (Some i) = by_fit (event_fits setup entries event) refl
     where
-      by_fit : (b : Bool) → event_fits setup entries event ≡ b → is_reply_to event (reply_at policy setup entries event (Some i)) ≡ true
+      by_fit : (b : Bool) → event_fits setup entries event ≡ b
+          → is_reply_to event (reply_at policy setup entries event (Some i)) ≡ true
       by_fit true e = rw e (fitting_kind i event)
       by_fit false e = rw e refl
 

@@ -40,21 +40,27 @@ use Rattle.sequential_signer.proofs.BegunCalls.{begun_there}
 use Rattle.sign_desk.proofs.QueueLaw.{unpolled-absent}
 use Rattle.desk_parts.proofs.LiveRecord.{RecordSays, record_says}
 
-passes_some : (p : CallId → Bool) (c : CallId) (xs : List CallId) → list_any (same_call c) xs ≡ true → p c ≡ true → 0 < length (filter p xs)
+passes_some : (p : CallId → Bool) (c : CallId) (xs : List CallId) → list_any (same_call c) xs ≡ true
+    → p c ≡ true → 0 < length (filter p xs)
 passes_some p c [] m h = cc
 passes_some p c (x ∷ xs) m h = by_place (same_call c x) refl m (λ k. passes_some p c xs k h)
   where
-    by_place : (s : Bool) → same_call c x ≡ s → (s || list_any (same_call c) xs) ≡ true → (list_any (same_call c) xs ≡ true → 0 < length (filter p xs)) → 0 < length (cond (p x) (x ∷ filter p xs) (filter p xs))
+    by_place : (s : Bool) → same_call c x ≡ s → (s || list_any (same_call c) xs) ≡ true
+        → (list_any (same_call c) xs ≡ true → 0 < length (filter p xs))
+        → 0 < length (cond (p x) (x ∷ filter p xs) (filter p xs))
     by_place true s m rest = let px : p x ≡ true = ap p (sym (same_call-eq c x s)) ∙ h in rw px (omega arith)
     by_place false s m rest =
         let k : 0 < length (filter p xs) = rest m in
         elim (p x) as (λ v. 0 < length (cond v (x ∷ filter p xs) (filter p xs))) [ true ↦ omega arith | false ↦ k ]
 
-fewer_pass : (p q : CallId → Bool) → ((c : CallId) → p c ≡ true → q c ≡ true) → (xs : List CallId) → length (filter p xs) ≤ length (filter q xs)
+fewer_pass : (p q : CallId → Bool) → ((c : CallId) → p c ≡ true → q c ≡ true) → (xs : List CallId)
+    → length (filter p xs) ≤ length (filter q xs)
 fewer_pass p q f [] = omega arith
 fewer_pass p q f (x ∷ xs) = by_test (p x) refl (fewer_pass p q f xs)
   where
-    by_test : (b : Bool) → p x ≡ b → length (filter p xs) ≤ length (filter q xs) → length (cond b (x ∷ filter p xs) (filter p xs)) ≤ length (cond (q x) (x ∷ filter q xs) (filter q xs))
+    by_test : (b : Bool) → p x ≡ b → length (filter p xs) ≤ length (filter q xs)
+        → length (cond b (x ∷ filter p xs) (filter p xs))
+        ≤ length (cond (q x) (x ∷ filter q xs) (filter q xs))
     by_test true e k = let qx : q x ≡ true = f x e in rw qx (omega arith)
     by_test false e k = elim (q x) as (λ v. length (filter p xs) ≤ length (cond v (x ∷ filter q xs) (filter q xs))) [ true ↦ omega arith | false ↦ k ]
 
@@ -77,7 +83,8 @@ module _ {K D : Type 0} (policy : Policy K D) (old : DeskState K D) (entries : L
   ran : IsRun policy (setup_of old) (committed_entries entries)
   ran = legal_run policy (setup_of old) entries stood.legal
 
-  has_places : (cache rule : ℕ) → cache < length old.loaders → rule < length old.rules → HasPlaces old cache rule
+  has_places : (cache rule : ℕ) → cache < length old.loaders → rule < length old.rules
+      → HasPlaces old cache rule
   has_places cache rule c r =
       let loader : is_some (slice_get old.loaders cache) ≡ true = place-there old.loaders cache c in
       record {
@@ -87,10 +94,13 @@ module _ {K D : Type 0} (policy : Policy K D) (old : DeskState K D) (entries : L
         rules = r;
       }
 
-  places : (h : ℕ) → IfSome (slice_get old.handles h) (λ (handle : Handle). HasPlaces old handle.cache handle.rule)
+  places : (h : ℕ)
+      → IfSome (slice_get old.handles h) (λ (handle : Handle). HasPlaces old handle.cache handle.rule)
   places h = by_handle (slice_get old.handles h) (set_up.handles h)
     where
-      by_handle : (o : Option Handle) → IfSome o (λ (x : Handle). (x.cache < length old.loaders) × (x.rule < length old.rules)) → IfSome o (λ (handle : Handle). HasPlaces old handle.cache handle.rule)
+      by_handle : (o : Option Handle)
+          → IfSome o (λ (x : Handle). (x.cache < length old.loaders) × (x.rule < length old.rules))
+          → IfSome o (λ (handle : Handle). HasPlaces old handle.cache handle.rule)
       by_handle None k = tt
       by_handle (Some x) k = has_places x.cache x.rule k.0 k.1
 
@@ -102,7 +112,8 @@ module _ {K D : Type 0} (policy : Policy K D) (old : DeskState K D) (entries : L
           let k : length (unpolled_calls setup before i) ≤ length (live_calls before) = fewer_pass (λ call. is_of_cache setup i call && is_unpolled (phase_of before call)) (λ call. is_live (phase_of before call)) (λ call p. unpolled_live (is_of_cache setup i call) (phase_of before call) p) (begun_calls before) in
           rw (stood.live) k
 
-      by_queue : (l : Option Loader) (o : Option Queue) → o ≡ option_map (λ _. queue_of setup before i) l → IfSome o (λ (queue : Queue). queue.unpolled ≤ length old.calls)
+      by_queue : (l : Option Loader) (o : Option Queue) → o ≡ option_map (λ _. queue_of setup before i) l
+          → IfSome o (λ (queue : Queue). queue.unpolled ≤ length old.calls)
       by_queue l None e = tt
       by_queue None (Some q) e = cc
       by_queue (Some l) (Some q) e = let same : q ≡ queue_of setup before i = cc in rw same most
@@ -114,12 +125,14 @@ module _ {K D : Type 0} (policy : Policy K D) (old : DeskState K D) (entries : L
     at : cache_of setup call ≡ Some h.cache
     at = ap (option_map (λ (x : Handle). x.cache)) under
 
-    few : r.stage ≡ stage.Loading → IfSome (slice_get old.loaders h.cache) (λ loader. r.answers < provider_count loader)
+    few : r.stage ≡ stage.Loading
+        → IfSome (slice_get old.loaders h.cache) (λ loader. r.answers < provider_count loader)
     few s =
         if-some (λ loader. r.answers < provider_count loader) (slice_get old.loaders h.cache)
         (λ loader e. subst (λ n. n < provider_count loader) recorded.answers (loads_few policy setup before ran call h.cache at loader e (ap is_loading (recorded.phase ∙ ap phase_of_stage s))))
 
-    unpolled_of : CallInvariant setup before h.cache call Unpolled → is_polled setup before h.cache call ≡ false
+    unpolled_of : CallInvariant setup before h.cache call Unpolled
+        → is_polled setup before h.cache call ≡ false
     unpolled_of (unpolled_call _ _ u) = u
 
     may_enter : r.stage ≡ stage.Unpolled → IfSome (slice_get old.queues h.cache) (MayEnter call)
@@ -137,12 +150,15 @@ module _ {K D : Type 0} (policy : Policy K D) (old : DeskState K D) (entries : L
           counted = passes_some (λ c. is_of_cache setup h.cache c && is_unpolled (phase_of before c)) call (begun_calls before) (begun_there call before (ap is_some recorded.begin)) (rw (ap (is_number h.cache) at ∙ number_refl h.cache, phase) refl);
         }
 
-        by_queue : (l : Option Loader) (o : Option Queue) → o ≡ option_map (λ _. queue_of setup before h.cache) l → IfSome o (MayEnter call)
+        by_queue : (l : Option Loader) (o : Option Queue)
+            → o ≡ option_map (λ _. queue_of setup before h.cache) l → IfSome o (MayEnter call)
         by_queue l None e = tt
         by_queue None (Some q) e = absurd (cc)
         by_queue (Some l) (Some q) e = let same : q ≡ queue_of setup before h.cache = cc in rw same may
 
-    placed_by : IfSome (slice_get old.handles call.handle) (λ (handle : Handle). HasPlaces old handle.cache handle.rule) → IsPlaced old (stored_view call h r)
+    placed_by : IfSome (slice_get old.handles call.handle)
+        (λ (handle : Handle). HasPlaces old handle.cache handle.rule)
+        → IsPlaced old (stored_view call h r)
     placed_by p = record { live = rw found refl; places = rw under at p; few = few; unpolled = may_enter }
 
   calls : (call : CallId) → IfSome (find_view old call) (IsPlaced old)

@@ -15,12 +15,15 @@ use Rattle.sign_pool.proofs.Joined.{all-left}
 use Rattle.sign_pool.proofs.TicketClaims.{claims-same}
 
 -- what is empty is decided by a test
-pub decides-empty : (r : Bool) (N A : Type 0) → IsTrue r ↔ N → (N → A) → ((N → ⊥) → A → ⊥) → MatchBool r A (A → ⊥)
+pub decides-empty : (r : Bool) (N A : Type 0) → IsTrue r ↔ N → (N → A) → ((N → ⊥) → A → ⊥)
+    → MatchBool r A (A → ⊥)
 decides-empty true N A is yes_then no_then = yes_then (is.0 refl)
 decides-empty false N A is yes_then no_then = no_then (λ n. false≢true (is.1 n))
 
 module _ {K : Type 0} (journal : List (Entry K)) (answers : List Answer) (left submitted : List PoolJob) (keys : List Ticket) (apart : HaveOwnTickets submitted) (indexed : IsPermutation (tickets_of submitted) keys) where
-  pub cleared-from : All (Contains submitted) left → All (IsBegunJob submitted journal) answers → IsPermutation keys (answered_tickets answers ++ tickets_of left) → IsCleared journal answers left submitted
+  pub cleared-from : All (Contains submitted) left → All (IsBegunJob submitted journal) answers
+      → IsPermutation keys (answered_tickets answers ++ tickets_of left)
+      → IsCleared journal answers left submitted
   cleared-from kept begun moved = record {
     apart = apart;
     each_once = IsPermutation-trans (tickets_of submitted) keys (answered_tickets answers ++ tickets_of left) indexed moved;
@@ -28,12 +31,15 @@ module _ {K : Type 0} (journal : List (Entry K)) (answers : List Answer) (left s
     begun = All-weaker (IsBegunJob submitted journal) (AreBegunAs submitted journal) (λ a b. b.1) answers begun;
   }
 
-  pub each-from : IsCleared journal answers left submitted → IsPermutation keys (answered_tickets answers ++ tickets_of left)
+  pub each-from : IsCleared journal answers left submitted
+      → IsPermutation keys (answered_tickets answers ++ tickets_of left)
   each-from cleared =
       IsPermutation-trans keys (tickets_of submitted) (answered_tickets answers ++ tickets_of left) (IsPermutation-sym (tickets_of submitted) keys indexed) cleared.each_once
 
 -- the answers of a cleared pool are of submitted jobs
-pub begun-jobs : {K : Type 0} (journal : List (Entry K)) (answers : List Answer) (left submitted : List PoolJob) → IsCleared journal answers left submitted → All (IsBegunJob submitted journal) answers
+pub begun-jobs : {K : Type 0} (journal : List (Entry K)) (answers : List Answer)
+    (left submitted : List PoolJob) → IsCleared journal answers left submitted
+    → All (IsBegunJob submitted journal) answers
 begun-jobs journal answers left submitted cleared = λ k d below.
     let among = claims-same (tickets_of submitted) (answered_tickets answers ++ tickets_of left) cleared.each_once cleared.apart in
     let all : All (Contains (tickets_of submitted)) (answered_tickets answers) = all-left (Contains (tickets_of submitted)) (answered_tickets answers) (tickets_of left) among.among in

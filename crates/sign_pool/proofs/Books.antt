@@ -28,11 +28,13 @@ use Rattle.sign_pool.specs.declared.seats.Worker.{Worker}
 use Rattle.sign_pool.proofs.CallNotes.{open-some}
 use Rattle.sign_pool.proofs.OwnCalls.{only-beside}
 
-pub all-joined : {X : Type 0} (P : X → Type 0) (lists : List (List X)) → All (All P) lists → All P (joined lists)
+pub all-joined : {X : Type 0} (P : X → Type 0) (lists : List (List X)) → All (All P) lists
+    → All P (joined lists)
 all-joined P [] h = All-nil P
 all-joined P (l ∷ lists) h = All-append P l (joined lists) (All-head (All P) l lists h) (all-joined P lists (All-tail (All P) l lists h))
 
-places-apart : {K : Type 0} (rs : List (Receipt K)) → AllPairs (λ a b. a.place ≢ b.place) rs → AllPairs (λ (m n : ℕ). m ≢ n) (places rs)
+places-apart : {K : Type 0} (rs : List (Receipt K)) → AllPairs (λ a b. a.place ≢ b.place) rs
+    → AllPairs (λ (m n : ℕ). m ≢ n) (places rs)
 places-apart [] h = λ i j d before within. absurd (omega (arith, within))
 places-apart (r ∷ rest) h = λ i j d before within same.
     let rs : List (Receipt _) = r ∷ rest in
@@ -48,7 +50,10 @@ module _ {K : Type 0} (journal : List (Entry K)) (passes : List (List (Receipt K
   place-named : (p : ℕ) → p < length journal → Contains (places (all_receipts passes)) p
   place-named p below = by_member (list_any (eqb p) (places (all_receipts passes))) refl
     where
-      decides : (list_any (eqb p) (places (all_receipts passes)) ≡ true → Contains (places (all_receipts passes)) p) × (Contains (places (all_receipts passes)) p → list_any (eqb p) (places (all_receipts passes)) ≡ true)
+      decides : (list_any (eqb p) (places (all_receipts passes)) ≡ true
+          → Contains (places (all_receipts passes)) p)
+          × (Contains (places (all_receipts passes)) p
+          → list_any (eqb p) (places (all_receipts passes)) ≡ true)
       decides = is_member-Decides {eq = eqb} unsigned_Decides (places (all_receipts passes)) p
 
       all-below : All (λ n. n < length journal) (places (all_receipts passes))
@@ -67,7 +72,8 @@ module _ {K : Type 0} (journal : List (Entry K)) (passes : List (List (Receipt K
           let many : length (places (all_receipts passes)) ≡ length (all_receipts passes) = length-map (all_receipts passes) (λ (r : Receipt K). r.place) in
           omega (arith, few, many, settled.counted)
 
-      by_member : (b : Bool) → list_any (eqb p) (places (all_receipts passes)) ≡ b → Contains (places (all_receipts passes)) p
+      by_member : (b : Bool) → list_any (eqb p) (places (all_receipts passes)) ≡ b
+          → Contains (places (all_receipts passes)) p
       by_member true h = decides.0 h
       by_member false h = absurd (too-many h)
 
@@ -77,7 +83,9 @@ module _ {K : Type 0} (journal : List (Entry K)) (passes : List (List (Receipt K
       let (k, within, is) = place-named p below in
       read k (omega (arith, length-map (all_receipts passes) (λ (r : Receipt K). r.place), within)) (all_receipts passes) refl p d below is
     where
-      read : (k : ℕ) → k < length (all_receipts passes) → (l : List (Receipt K)) → l ≡ all_receipts passes → (p : ℕ) (d : Entry K) → p < length journal → get_or (places (all_receipts passes)) k p ≡ p → P (get_or journal p d)
+      read : (k : ℕ) → k < length (all_receipts passes) → (l : List (Receipt K)) → l ≡ all_receipts passes
+          → (p : ℕ) (d : Entry K) → p < length journal → get_or (places (all_receipts passes)) k p ≡ p
+          → P (get_or journal p d)
       read k within [] e p d below is = absurd (omega (arith, ap length e, within))
       read k within (r ∷ rest) e p d below is =
           let mine : Receipt K = get_or (all_receipts passes) k r in
@@ -93,26 +101,34 @@ all-pass p (x ∷ xs) h = All-cons (λ y. p y ≡ true) x xs (and_left (p x) (li
 
 module _ {K : Type 0} where
   -- the receipts of all workers are about the calls of their answers
-  only-theirs : (workers : List (Worker K)) → has_only_calls_of (joined (lists_of (map (λ w. w.answers) workers))) (joined (map (λ w. w.pass) workers)) ≡ true
+  only-theirs : (workers : List (Worker K))
+      → has_only_calls_of (joined (lists_of (map (λ w. w.answers) workers)))
+      (joined (map (λ w. w.pass) workers))
+      ≡ true
   only-theirs [] = refl
   only-theirs (w ∷ workers) =
       only-beside w.answers.items (joined (lists_of (map (λ (x : Worker K). x.answers) workers))) w.pass (joined (map (λ (x : Worker K). x.pass) workers)) w.calls (only-theirs workers)
 
   -- so are the entries of a journal that is settled with their passes
-  pub journal-theirs : (journal : List (Entry K)) (workers : List (Worker K)) → IsSettled journal (map (λ w. w.pass) workers)
-      → All (λ e. IsTrue (is_among (call_of e.event) (calls_of (joined (lists_of (map (λ w. w.answers) workers)))))) journal
+  pub journal-theirs : (journal : List (Entry K)) (workers : List (Worker K))
+      → IsSettled journal (map (λ w. w.pass) workers)
+      → All
+      (λ e. IsTrue (is_among (call_of e.event) (calls_of (joined (lists_of (map (λ w. w.answers) workers))))))
+      journal
   journal-theirs journal workers settled =
       let calls : List CallId = calls_of (joined (lists_of (map (λ (x : Worker K). x.answers) workers))) in
       from-receipts journal (map (λ (w : Worker K). w.pass) workers) settled (λ e. IsTrue (is_among (call_of e.event) calls))
       (all-pass (λ (r : Receipt K). is_among (call_of r.entry.event) calls) (joined (map (λ (w : Worker K). w.pass) workers)) (only-theirs workers))
 
-  none-and-some : (call : CallId) (journal : List (Entry K)) (p : ℕ) → HasNoneOf call journal → IsLastOf call journal p → ⊥
+  none-and-some : (call : CallId) (journal : List (Entry K)) (p : ℕ) → HasNoneOf call journal
+      → IsLastOf call journal p → ⊥
   none-and-some call journal p none last =
       let f = open-some (slice_get journal p) (λ e. call_of e.event ≡ call) last.about in
       let here : get_or journal p f.0 ≡ f.0 = get_or_from_slice_get journal p f.0 f.0 f.1 in
       none p f.0 (slice_get_within journal p f.0 f.1) (ap (λ (e : Entry K). call_of e.event) here ∙ f.2)
 
-  later-entry : (call : CallId) (journal : List (Entry K)) (p q : ℕ) → p < q → IsLastOf call journal p → IsLastOf call journal q → ⊥
+  later-entry : (call : CallId) (journal : List (Entry K)) (p q : ℕ) → p < q → IsLastOf call journal p
+      → IsLastOf call journal q → ⊥
   later-entry call journal p q before first second =
       let f = open-some (slice_get journal q) (λ e. call_of e.event ≡ call) second.about in
       let here : get_or journal q f.0 ≡ f.0 = get_or_from_slice_get journal q f.0 f.0 f.1 in
@@ -122,7 +138,8 @@ module _ {K : Type 0} where
       let moved : get_or (drop (p + 1) journal) k f.0 ≡ f.0 = get_or-drop (p + 1) journal k f.0 ∙ ap (λ n. get_or journal n f.0) same ∙ here in
       first.last k f.0 (simp length-drop (omega (arith, before, within))) (ap (λ (e : Entry K). call_of e.event) moved ∙ f.2)
 
-  one-last : (call : CallId) (journal : List (Entry K)) (p q : ℕ) → IsLastOf call journal p → IsLastOf call journal q → p ≡ q
+  one-last : (call : CallId) (journal : List (Entry K)) (p q : ℕ) → IsLastOf call journal p
+      → IsLastOf call journal q → p ≡ q
   one-last call journal p q a b =
       ⊎_elim (λ lt. absurd (later-entry call journal p q lt a b)) (λ rest. ⊎_elim (λ gt. absurd (later-entry call journal q p gt b a)) (λ eq. eq) rest) (sides p q)
     where
@@ -149,13 +166,15 @@ module _ {K : Type 0} where
     As last = MatchOption last (HasNoneOf answer.call journal × IsReadFrom {K = K} None answer.outcome) (λ at. IsSomeAnd (slice_get pass at) (IsReadOff journal answer))
 
     -- an answer without a receipt
-    pub true-none : answer.last ≡ None → note.last ≡ None → answer.outcome ≡ OutOfMemory → IsTrueAnswer journal pass answer
+    pub true-none : answer.last ≡ None → note.last ≡ None → answer.outcome ≡ OutOfMemory
+        → IsTrueAnswer journal pass answer
     true-none e n o = subst As (sym e) (none-noted n, o)
 
     pub false-noted : answer.last ≡ None → (p : ℕ) → note.last ≡ Some p → IsTrueAnswer journal pass answer → ⊥
     false-noted e p n t = none-and-some answer.call journal p (subst As e t).0 (last-noted p n)
 
-    pub false-outcome : answer.last ≡ None → answer.outcome ≢ OutOfMemory → IsTrueAnswer journal pass answer → ⊥
+    pub false-outcome : answer.last ≡ None → answer.outcome ≢ OutOfMemory → IsTrueAnswer journal pass answer
+        → ⊥
     false-outcome e o t = o (subst As e t).1
 
     -- an answer with a receipt
@@ -167,7 +186,8 @@ module _ {K : Type 0} where
         pub read-off : IsTrueAnswer journal pass answer → IsReadOff journal answer r
         read-off t = let P : Option (Receipt K) → Type 0 = λ o. IsSomeAnd o (IsReadOff journal answer) in subst P there (subst As e t)
 
-        pub true-some : IsEntryOf journal r → note.last ≡ Some r.place → IsReadFrom (Some r.entry.reply) answer.outcome → IsTrueAnswer journal pass answer
+        pub true-some : IsEntryOf journal r → note.last ≡ Some r.place
+            → IsReadFrom (Some r.entry.reply) answer.outcome → IsTrueAnswer journal pass answer
         true-some entry n o =
             let P : Option (Receipt K) → Type 0 = λ x. IsSomeAnd x (IsReadOff journal answer) in
             subst As (sym e) (subst P (sym there) (record { entry = entry; last = last-noted r.place n; outcome = o }))
@@ -175,5 +195,6 @@ module _ {K : Type 0} where
         pub false-last : note.last ≢ Some r.place → IsTrueAnswer journal pass answer → ⊥
         false-last n t = n (noted-is r.place (read-off t).last)
 
-        pub false-read : (IsReadFrom (Some r.entry.reply) answer.outcome → ⊥) → IsTrueAnswer journal pass answer → ⊥
+        pub false-read : (IsReadFrom (Some r.entry.reply) answer.outcome → ⊥)
+            → IsTrueAnswer journal pass answer → ⊥
         false-read o t = o (read-off t).outcome

@@ -26,7 +26,8 @@ pub open-some : {X : Type 0} (o : Option X) (P : X → Type 0) → IsSomeAnd o P
 open-some None P h = absurd h
 open-some (Some x) P h = (x, refl, h)
 
-slice-left : {X : Type 0} (xs ys : List X) (p : ℕ) (x : X) → slice_get xs p ≡ Some x → slice_get (xs ++ ys) p ≡ Some x
+slice-left : {X : Type 0} (xs ys : List X) (p : ℕ) (x : X) → slice_get xs p ≡ Some x
+    → slice_get (xs ++ ys) p ≡ Some x
 slice-left [] ys p x h = absurd (cc)
 slice-left (y ∷ xs) ys zero x h = h
 slice-left (y ∷ xs) ys (suc p) x h = slice-left xs ys p x h
@@ -51,7 +52,9 @@ module _ {K : Type 0} (call : CallId) (xs : List (Entry K)) (e : Entry K) where
   }
 
   -- an entry of another call leaves it
-  pub last-stays : call_of e.event ≢ call → (last : Option ℕ) → MatchOption last (HasNoneOf call xs) (IsLastOf call xs) → MatchOption last (HasNoneOf call (xs ++ e ∷ [])) (IsLastOf call (xs ++ e ∷ []))
+  pub last-stays : call_of e.event ≢ call → (last : Option ℕ)
+      → MatchOption last (HasNoneOf call xs) (IsLastOf call xs)
+      → MatchOption last (HasNoneOf call (xs ++ e ∷ [])) (IsLastOf call (xs ++ e ∷ []))
   last-stays other None h = All-push (λ (x : Entry K). call_of x.event ≢ call) xs e h other
   last-stays other (Some p) h =
       let P : Entry K → Type 0 = λ x. call_of x.event ≡ call in
@@ -77,7 +80,8 @@ module _ {K : Type 0} (call : CallId) (xs : List (Entry K)) (e : Entry K) where
         ))
     begins-idle Differ h = λ head expires_in all. h head expires_in (all-left (λ (x : Entry K). IfBegins call head expires_in x.event) xs (e ∷ []) all)
 
-  last-of : (head : Head) (expires_in : Option Duration) → AreBeginsWith call (xs ++ e ∷ []) head expires_in → IfBegins call head expires_in e.event
+  last-of : (head : Head) (expires_in : Option Duration) → AreBeginsWith call (xs ++ e ∷ []) head expires_in
+      → IfBegins call head expires_in e.event
   last-of head expires_in all =
       All-head (λ (x : Entry K). IfBegins call head expires_in x.event) e [] (all-right (λ (x : Entry K). IfBegins call head expires_in x.event) xs (e ∷ []) all)
 
@@ -85,14 +89,17 @@ module _ {K : Type 0} (call : CallId) (xs : List (Entry K)) (e : Entry K) where
     own : other ≡ call
     own = sym (ap call_of is) ∙ about
 
-    meets : (head : Head) (expires_in : Option Duration) → IfBegins call head expires_in e.event → (mine ≡ head) × (how_long ≡ expires_in)
+    meets : (head : Head) (expires_in : Option Duration) → IfBegins call head expires_in e.event
+        → (mine ≡ head) × (how_long ≡ expires_in)
     meets head expires_in h = (let P : Event K → Type 0 = λ x. IfBegins call head expires_in x in subst P is h) own
 
-    meant : (head : Head) (expires_in : Option Duration) → mine ≡ head → how_long ≡ expires_in → IfBegins call head expires_in e.event
+    meant : (head : Head) (expires_in : Option Duration) → mine ≡ head → how_long ≡ expires_in
+        → IfBegins call head expires_in e.event
     meant head expires_in m d = let P : Event K → Type 0 = λ x. IfBegins call head expires_in x in subst P (sym is) (λ _. (m, d))
 
     -- the first begin of the call
-    pub begins-first : (place : ℕ) → place ≡ length xs → AreBegins call xs Never → AreBegins call (xs ++ e ∷ []) (Like place)
+    pub begins-first : (place : ℕ) → place ≡ length xs → AreBegins call xs Never
+        → AreBegins call (xs ++ e ∷ []) (Like place)
     begins-first place at h =
         let Same : Entry K → Type 0 = λ x. (head : Head) (expires_in : Option Duration) → AreBeginsWith call (xs ++ e ∷ []) head expires_in ↔ IsBeginWith head expires_in x.event in
         let Q : Option (Entry K) → Type 0 = λ o. IsSomeAnd o Same in
@@ -104,7 +111,8 @@ module _ {K : Type 0} (call : CallId) (xs : List (Entry K)) (e : Entry K) where
         ))
 
     module _ (place : ℕ) (first : Entry K) (there : slice_get xs place ≡ Some first) (h : AreBegins call xs (Like place)) where
-      same-as : (head : Head) (expires_in : Option Duration) → AreBeginsWith call xs head expires_in ↔ IsBeginWith head expires_in first.event
+      same-as : (head : Head) (expires_in : Option Duration)
+          → AreBeginsWith call xs head expires_in ↔ IsBeginWith head expires_in first.event
       same-as = let Q : Option (Entry K) → Type 0 = λ o. IsSomeAnd o (λ x. (head : Head) (expires_in : Option Duration) → AreBeginsWith call xs head expires_in ↔ IsBeginWith head expires_in x.event) in subst Q there h
 
       -- a begin like the first
@@ -118,7 +126,8 @@ module _ {K : Type 0} (call : CallId) (xs : List (Entry K)) (e : Entry K) where
                 All-push (λ (x : Entry K). IfBegins call head expires_in x.event) xs e ((same-as head expires_in).1 with) (meant head expires_in m.0 m.1)),
           ))
         where
-          together : (x : Event K) (head : Head) (expires_in : Option Duration) → IsBeginWith mine how_long x → IsBeginWith head expires_in x → (mine ≡ head) × (how_long ≡ expires_in)
+          together : (x : Event K) (head : Head) (expires_in : Option Duration) → IsBeginWith mine how_long x
+              → IsBeginWith head expires_in x → (mine ≡ head) × (how_long ≡ expires_in)
           together (Begin c h d) head expires_in a b = (sym a.0 ∙ b.0, sym a.1 ∙ b.1)
           together (Poll c now) head expires_in a b = absurd a
           together (Provided c now answer) head expires_in a b = absurd a
@@ -132,7 +141,8 @@ module _ {K : Type 0} (call : CallId) (xs : List (Entry K)) (e : Entry K) where
           let with : IsBeginWith head expires_in first.event = (same-as head expires_in).0 (all-left (λ (x : Entry K). IfBegins call head expires_in x.event) xs (e ∷ []) all) in
           unlike (turned first.event head expires_in m.0 m.1 with)
         where
-          turned : (x : Event K) (head : Head) (expires_in : Option Duration) → mine ≡ head → how_long ≡ expires_in → IsBeginWith head expires_in x → IsBeginWith mine how_long x
+          turned : (x : Event K) (head : Head) (expires_in : Option Duration) → mine ≡ head
+              → how_long ≡ expires_in → IsBeginWith head expires_in x → IsBeginWith mine how_long x
           turned (Begin c h d) head expires_in m n b = (b.0 ∙ sym m, b.1 ∙ sym n)
           turned (Poll c now) head expires_in m n b = absurd b
           turned (Provided c now answer) head expires_in m n b = absurd b
@@ -144,7 +154,8 @@ module _ {K : Type 0} (call : CallId) (xs : List (Entry K)) (e : Entry K) where
     begins-differ h = λ head expires_in all. h head expires_in (all-left (λ (x : Entry K). IfBegins call head expires_in x.event) xs (e ∷ []) all)
 
 -- an event of another call is no begin of this one
-pub other-event : {K : Type 0} (call : CallId) (e : Event K) → call_of e ≢ call → (head : Head) (expires_in : Option Duration) → IfBegins call head expires_in e
+pub other-event : {K : Type 0} (call : CallId) (e : Event K) → call_of e ≢ call
+    → (head : Head) (expires_in : Option Duration) → IfBegins call head expires_in e
 other-event call (Begin c h d) other head expires_in = λ same. absurd (other same)
 other-event call (Poll c now) other head expires_in = tt
 other-event call (Provided c now answer) other head expires_in = tt
@@ -152,7 +163,9 @@ other-event call (Signed c answer) other head expires_in = tt
 other-event call (Cancel c) other head expires_in = tt
 
 -- nor is one that begins no call
-pub no-begin : {K : Type 0} (call : CallId) (e : Event K) → ((c : CallId) (h : Head) (d : Option Duration) → e ≡ Begin c h d → ⊥) → (head : Head) (expires_in : Option Duration) → IfBegins call head expires_in e
+pub no-begin : {K : Type 0} (call : CallId) (e : Event K)
+    → ((c : CallId) (h : Head) (d : Option Duration) → e ≡ Begin c h d → ⊥)
+    → (head : Head) (expires_in : Option Duration) → IfBegins call head expires_in e
 no-begin call (Begin c h d) none head expires_in = absurd (none c h d refl)
 no-begin call (Poll c now) none head expires_in = tt
 no-begin call (Provided c now answer) none head expires_in = tt
@@ -160,12 +173,14 @@ no-begin call (Signed c answer) none head expires_in = tt
 no-begin call (Cancel c) none head expires_in = tt
 
 -- one entry more of the journal
-pub read-more : {X : Type 0} (journal : List X) (i : ℕ) (e : X) → i < length journal → e ≡ get_or journal i e → take (i + 1) journal ≡ take i journal ++ e ∷ []
+pub read-more : {X : Type 0} (journal : List X) (i : ℕ) (e : X) → i < length journal → e ≡ get_or journal i e
+    → take (i + 1) journal ≡ take i journal ++ e ∷ []
 read-more journal i e below is = take_more journal i e below ∙ ap (λ y. take i journal ++ y ∷ []) (sym is)
 
 module _ {K : Type 0} (journal : List (Entry K)) (i : ℕ) (e : Entry K) (below : i < length journal) (is : e ≡ get_or journal i e) where
   -- the note of another call stays
-  pub note-stays : (call : CallId) (note : CallNote) → call_of e.event ≢ call → IsNoteOf (take i journal) call note → IsNoteOf (take (i + 1) journal) call note
+  pub note-stays : (call : CallId) (note : CallNote) → call_of e.event ≢ call
+      → IsNoteOf (take i journal) call note → IsNoteOf (take (i + 1) journal) call note
   note-stays call note other h =
       let P : List (Entry K) → Type 0 = λ l. IsNoteOf l call note in
       subst P (sym (read-more journal i e below is)) (record {
@@ -174,12 +189,15 @@ module _ {K : Type 0} (journal : List (Entry K)) (i : ℕ) (e : Entry K) (below 
       })
 
   -- the notes after the entry, where one note is another now
-  pub notes-after : (call : CallId) (after : CallNote) (old new : CallId → Option CallNote) → call_of e.event ≡ call → IsNoteOf (take (i + 1) journal) call after
-      → ((q : CallId) → new q ≡ cond (same_call call q) (Some after) (old q)) → ((q : CallId) → IfSome (old q) (IsNoteOf (take i journal) q))
-      → (q : CallId) → IfSome (new q) (IsNoteOf (take (i + 1) journal) q)
+  pub notes-after : (call : CallId) (after : CallNote) (old new : CallId → Option CallNote)
+      → call_of e.event ≡ call → IsNoteOf (take (i + 1) journal) call after
+      → ((q : CallId) → new q ≡ cond (same_call call q) (Some after) (old q))
+      → ((q : CallId) → IfSome (old q) (IsNoteOf (take i journal) q)) → (q : CallId)
+      → IfSome (new q) (IsNoteOf (take (i + 1) journal) q)
   notes-after call after old new about own changed had q = by_call (same_call call q) refl
     where
-      by_old : (o : Option CallNote) → call_of e.event ≢ q → IfSome o (IsNoteOf (take i journal) q) → IfSome o (IsNoteOf (take (i + 1) journal) q)
+      by_old : (o : Option CallNote) → call_of e.event ≢ q → IfSome o (IsNoteOf (take i journal) q)
+          → IfSome o (IsNoteOf (take (i + 1) journal) q)
       by_old None other h = tt
       by_old (Some note) other h = note-stays q note other h
 
@@ -194,11 +212,13 @@ module _ {K : Type 0} (journal : List (Entry K)) (i : ℕ) (e : Entry K) (below 
           subst P (sym (changed q ∙ ap (λ b. cond b (Some after) (old q)) s)) (by_old (old q) other (had q))
 
   -- the notes after an entry of a call that has none
-  pub notes-same : (call : CallId) (notes : CallId → Option CallNote) → call_of e.event ≡ call → notes call ≡ None
-      → ((q : CallId) → IfSome (notes q) (IsNoteOf (take i journal) q)) → (q : CallId) → IfSome (notes q) (IsNoteOf (take (i + 1) journal) q)
+  pub notes-same : (call : CallId) (notes : CallId → Option CallNote) → call_of e.event ≡ call
+      → notes call ≡ None → ((q : CallId) → IfSome (notes q) (IsNoteOf (take i journal) q)) → (q : CallId)
+      → IfSome (notes q) (IsNoteOf (take (i + 1) journal) q)
   notes-same call notes about none had q = by_note (notes q) refl (had q)
     where
-      by_note : (o : Option CallNote) → notes q ≡ o → IfSome o (IsNoteOf (take i journal) q) → IfSome o (IsNoteOf (take (i + 1) journal) q)
+      by_note : (o : Option CallNote) → notes q ≡ o → IfSome o (IsNoteOf (take i journal) q)
+          → IfSome o (IsNoteOf (take (i + 1) journal) q)
       by_note None f h = tt
       by_note (Some note) f h = note-stays q note (λ same. absurd (none_here (sym (ap notes (sym about ∙ same)) ∙ none) f)) h
         where
@@ -206,7 +226,8 @@ module _ {K : Type 0} (journal : List (Entry K)) (i : ℕ) (e : Entry K) (below 
           none_here a b = cc
 
 -- a blank note says what an empty journal has
-pub blank-read : {K : Type 0} (call : CallId) (note : CallNote) → note ≡ blank_note → IsNoteOf {K = K} [] call note
+pub blank-read : {K : Type 0} (call : CallId) (note : CallNote) → note ≡ blank_note
+    → IsNoteOf {K = K} [] call note
 blank-read {K} call note is =
     let P : CallNote → Type 0 = λ n. IsNoteOf {K = K} [] call n in
     subst P (sym is) (record { last = All-nil (λ (x : Entry K). call_of x.event ≢ call); begins = λ head expires_in. All-nil (λ (x : Entry K). IfBegins call head expires_in x.event) })
@@ -228,7 +249,8 @@ module _ {K : Type 0} (journal : List (Entry K)) (place : ℕ) (call : CallId) (
   pub like-below : (p : ℕ) → AreBegins call (take place journal) (Like p) → p < length journal
   like-below p h = let b : p < length (take place journal) = like-within p h in omega (arith, before-long, read-within, b)
 
-  earlier : (p : ℕ) (first : Entry K) → p < length (take place journal) → first ≡ get_or journal p first → slice_get (take place journal) p ≡ Some first
+  earlier : (p : ℕ) (first : Entry K) → p < length (take place journal) → first ≡ get_or journal p first
+      → slice_get (take place journal) p ≡ Some first
   earlier p first within is =
       let b : p < place = omega (arith, before-long, within) in
       slice_get_read (take place journal) (length (take place journal)) p first refl within (is ∙ sym (get_or-take place journal p first b))
@@ -242,11 +264,13 @@ module _ {K : Type 0} (journal : List (Entry K)) (place : ℕ) (call : CallId) (
     grows : take (place + 1) journal ≡ take place journal ++ e ∷ []
     grows = read-more journal place e read-within is
 
-    moved : (b : Begins) → AreBegins call (take place journal ++ e ∷ []) b → AreBegins call (take (place + 1) journal) b
+    moved : (b : Begins) → AreBegins call (take place journal ++ e ∷ []) b
+        → AreBegins call (take (place + 1) journal) b
     moved b h = let P : List (Entry K) → Type 0 = λ l. AreBegins call l b in subst P (sym grows) h
 
     -- the call's begins with it, where it begins no call
-    pub after-idle : ((c : CallId) (h : Head) (d : Option Duration) → e.event ≡ Begin c h d → ⊥) → (b : Begins) → AreBegins call (take place journal) b → AreBegins call (take (place + 1) journal) b
+    pub after-idle : ((c : CallId) (h : Head) (d : Option Duration) → e.event ≡ Begin c h d → ⊥)
+        → (b : Begins) → AreBegins call (take place journal) b → AreBegins call (take (place + 1) journal) b
     after-idle none b h = moved b (begins-idle call (take place journal) e (no-begin call e.event none) b h)
 
     -- its last entry
@@ -257,18 +281,22 @@ module _ {K : Type 0} (journal : List (Entry K)) (place : ℕ) (call : CallId) (
         subst P (sym grows) (subst Q (sym before-long) (last-here call (take place journal) e read-about))
 
     module _ (other : CallId) (mine : Head) (how_long : Option Duration) (begin : e.event ≡ Begin other mine how_long) where
-      pub after-first : AreBegins call (take place journal) Never → AreBegins call (take (place + 1) journal) (Like place)
+      pub after-first : AreBegins call (take place journal) Never
+          → AreBegins call (take (place + 1) journal) (Like place)
       after-first h = moved (Like place) (begins-first call (take place journal) e other mine how_long begin read-about place before-long h)
 
-      pub after-differ : AreBegins call (take place journal) Differ → AreBegins call (take (place + 1) journal) Differ
+      pub after-differ : AreBegins call (take place journal) Differ
+          → AreBegins call (take (place + 1) journal) Differ
       after-differ h = moved Differ (begins-differ call (take place journal) e other mine how_long begin read-about h)
 
       module _ (p : ℕ) (first : Entry K) (at : first ≡ get_or journal p first) (h : AreBegins call (take place journal) (Like p)) where
-        pub after-alike : IsBeginWith mine how_long first.event → AreBegins call (take (place + 1) journal) (Like p)
+        pub after-alike : IsBeginWith mine how_long first.event
+            → AreBegins call (take (place + 1) journal) (Like p)
         after-alike like =
             moved (Like p) (begins-alike call (take place journal) e other mine how_long begin read-about p first (earlier p first (like-within p h) at) h like)
 
-        pub after-unlike : (IsBeginWith mine how_long first.event → ⊥) → AreBegins call (take (place + 1) journal) Differ
+        pub after-unlike : (IsBeginWith mine how_long first.event → ⊥)
+            → AreBegins call (take (place + 1) journal) Differ
         after-unlike unlike =
             moved Differ (begins-unlike call (take place journal) e other mine how_long begin read-about p first (earlier p first (like-within p h) at) h unlike)
 
@@ -284,7 +312,8 @@ module _ (call : CallId) (note : CallNote) (old new : CallId → Option CallNote
   pub there-now : IsSome (new call)
   there-now = let P : Option CallNote → Type 0 = λ o. IsSome o in subst P (sym (changed call ∙ ap (λ b. cond b (Some note) (old call)) (same_call-refl call))) refl
 
-  pub blank-more : note ≡ blank_note → ((q : CallId) → IfSome (old q) (λ n. n ≡ blank_note)) → (q : CallId) → IfSome (new q) (λ n. n ≡ blank_note)
+  pub blank-more : note ≡ blank_note → ((q : CallId) → IfSome (old q) (λ n. n ≡ blank_note)) → (q : CallId)
+      → IfSome (new q) (λ n. n ≡ blank_note)
   blank-more blank had q = by_call (same_call call q) refl
     where
       P : Option CallNote → Type 0
@@ -294,8 +323,9 @@ module _ (call : CallId) (note : CallNote) (old new : CallId → Option CallNote
       by_call true s = subst P (sym (changed q ∙ ap (λ b. cond b (Some note) (old q)) s)) blank
       by_call false s = subst P (sym (changed q ∙ ap (λ b. cond b (Some note) (old q)) s)) (had q)
 
-  pub has-more : (answers : List Answer) (i : ℕ) (a : Answer) → i < length answers → a ≡ get_or answers i a → a.call ≡ call
-      → All (λ x. IsSome (old x.call)) (take i answers) → All (λ x. IsSome (new x.call)) (take (i + 1) answers)
+  pub has-more : (answers : List Answer) (i : ℕ) (a : Answer) → i < length answers → a ≡ get_or answers i a
+      → a.call ≡ call → All (λ x. IsSome (old x.call)) (take i answers)
+      → All (λ x. IsSome (new x.call)) (take (i + 1) answers)
   has-more answers i a below is own had =
       let here : IsSome (new a.call) = subst (λ (c : CallId). IsSome (new c)) (sym own) there-now in
       let P : List Answer → Type 0 = λ l. All (λ x. IsSome (new x.call)) l in
@@ -304,7 +334,8 @@ module _ (call : CallId) (note : CallNote) (old new : CallId → Option CallNote
       (All-weaker (λ (x : Answer). IsSome (old x.call)) (λ (x : Answer). IsSome (new x.call)) (λ x. kept-more x.call) (take i answers) had) here)
 
 -- the value of a note that is there
-pub noted-there : (o : Option CallNote) (note : CallNote) (P : CallNote → Type 0) → o ≡ Some note → IfSome o P → P note
+pub noted-there : (o : Option CallNote) (note : CallNote) (P : CallNote → Type 0) → o ≡ Some note → IfSome o P
+    → P note
 noted-there o note P e h = let Q : Option CallNote → Type 0 = λ x. IfSome x P in subst Q e h
 
 -- what follows where a call can't have failed
@@ -317,12 +348,14 @@ none-other None other = refl
 none-other (Some x) other = absurd (other x refl)
 
 -- what is the same fact is decided alike
-pub decides-same : (b : Bool) (A B : Type 0) → (A → B) → (B → A) → MatchBool b B (B → ⊥) → MatchBool b A (A → ⊥)
+pub decides-same : (b : Bool) (A B : Type 0) → (A → B) → (B → A) → MatchBool b B (B → ⊥)
+    → MatchBool b A (A → ⊥)
 decides-same true A B to from h = from h
 decides-same false A B to from h = λ a. h (to a)
 
 -- the begins of a call that has one
-pub like-first : {K : Type 0} (call : CallId) (journal : List (Entry K)) (p : ℕ) → AreBegins call journal (Like p) → (d : Entry K) → (head : Head) (expires_in : Option Duration)
+pub like-first : {K : Type 0} (call : CallId) (journal : List (Entry K)) (p : ℕ)
+    → AreBegins call journal (Like p) → (d : Entry K) → (head : Head) (expires_in : Option Duration)
     → AreBeginsWith call journal head expires_in ↔ IsBeginWith head expires_in (get_or journal p d).event
 like-first {K} call journal p h d head expires_in =
     let Same : Entry K → Type 0 = λ x. (head : Head) (expires_in : Option Duration) → AreBeginsWith call journal head expires_in ↔ IsBeginWith head expires_in x.event in

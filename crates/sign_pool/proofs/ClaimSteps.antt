@@ -12,8 +12,9 @@ use Rattle.sign_pool.proofs.TicketClaims.{Apart, same_ticket, no-key, claimed-ke
 use Rattle.sign_pool.proofs.Joined.{joined-around, joined-more}
 
 -- a claim, by what was taken out
-pub claim-decides : {X : Type 0} (old new : List (Ticket × X)) (ticket : Ticket) (o : Option X) (b : Bool) → o ≡ lookup (same_ticket ticket) old
-    → IsPermutation (remove_entry (same_ticket ticket) old) new → b ≡ is_some o
+pub claim-decides : {X : Type 0} (old new : List (Ticket × X)) (ticket : Ticket) (o : Option X) (b : Bool)
+    → o ≡ lookup (same_ticket ticket) old → IsPermutation (remove_entry (same_ticket ticket) old) new
+    → b ≡ is_some o
     → MatchBool b (IsPermutation (keys_of old) (ticket ∷ keys_of new)) (Contains (keys_of old) ticket → ⊥)
 claim-decides old new ticket None b found moved is =
     let P : Bool → Type 0 = λ v. MatchBool v (IsPermutation (keys_of old) (ticket ∷ keys_of new)) (Contains (keys_of old) ticket → ⊥) in
@@ -29,7 +30,8 @@ module _ {X : Type 0} (f : X → Ticket) (those : List Ticket) where
 
   module _ (xs : List X) (i : ℕ) (x : X) (keys : List Ticket) (below : i < length xs) (is : x ≡ get_or xs i x) (had : IsPermutation those (map f (take i xs) ++ keys)) where
     -- one claim more
-    pub claims-step : (left : List Ticket) → IsPermutation keys (f x ∷ left) → IsPermutation those (map f (take (i + 1) xs) ++ left)
+    pub claims-step : (left : List Ticket) → IsPermutation keys (f x ∷ left)
+        → IsPermutation those (map f (take (i + 1) xs) ++ left)
     claims-step left now =
         let one : take (i + 1) xs ≡ take i xs ++ x ∷ [] = take_more xs i x below ∙ ap (λ y. take i xs ++ y ∷ []) (sym is) in
         let t : map f (take (i + 1) xs) ≡ map f (take i xs) ++ f x ∷ [] = ap (map f) one ∙ map-append f (take i xs) (x ∷ []) in
@@ -46,13 +48,15 @@ module _ {X : Type 0} (f : X → Ticket) (those : List Ticket) where
         none (All-head (Contains keys) (f x) rest mine.among)
 
   -- all are claimed
-  pub claims-end : (xs : List X) (n : ℕ) (keys : List Ticket) → length xs ≤ n → IsPermutation those (map f (take n xs) ++ keys) → IsPermutation those (map f xs ++ keys)
+  pub claims-end : (xs : List X) (n : ℕ) (keys : List Ticket) → length xs ≤ n
+      → IsPermutation those (map f (take n xs) ++ keys) → IsPermutation those (map f xs ++ keys)
   claims-end xs n keys past had = subst (λ (l : List X). IsPermutation those (map f l ++ keys)) (take_all n xs past) had
 
   module _ (lists : List (List X)) (i : ℕ) (list : List X) (keys : List Ticket) (below : i < length lists) (is : list ≡ get_or lists i list)
       (had : IsPermutation those (map f (joined (take i lists)) ++ keys)) where
     -- the claims of one list more
-    pub lists-step : (left : List Ticket) → IsPermutation keys (map f list ++ left) → IsPermutation those (map f (joined (take (i + 1) lists)) ++ left)
+    pub lists-step : (left : List Ticket) → IsPermutation keys (map f list ++ left)
+        → IsPermutation those (map f (joined (take (i + 1) lists)) ++ left)
     lists-step left now =
         let t : map f (joined (take (i + 1) lists)) ≡ map f (joined (take i lists)) ++ map f list =
         ap (map f) (joined-more lists i list below is) ∙ map-append f (joined (take i lists)) list in
@@ -67,7 +71,9 @@ module _ {X : Type 0} (f : X → Ticket) (those : List Ticket) where
         none (claims-left keys (map f list) (map f around.0)
         (claims-rest those (map f (joined (take i lists))) keys (map f list ++ map f around.0) had (subst (AreClaims those) split claims)))
 
-  pub lists-end : (lists : List (List X)) (n : ℕ) (keys : List Ticket) → length lists ≤ n → IsPermutation those (map f (joined (take n lists)) ++ keys) → IsPermutation those (map f (joined lists) ++ keys)
+  pub lists-end : (lists : List (List X)) (n : ℕ) (keys : List Ticket) → length lists ≤ n
+      → IsPermutation those (map f (joined (take n lists)) ++ keys)
+      → IsPermutation those (map f (joined lists) ++ keys)
   lists-end lists n keys past had = subst (λ (l : List (List X)). IsPermutation those (map f (joined l) ++ keys)) (take_all n lists past) had
 
 -- whether both claim, and nothing is left

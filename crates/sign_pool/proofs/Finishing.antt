@@ -33,17 +33,20 @@ module _ {K : Type 0} (workers : List (Worker K)) (passes : List (List (Receipt 
   as-many-answers = as-many-passes ∙ sym (ap length answers_are ∙ length-map workers (λ (w : Worker K). w.answers))
 
   -- the journal has the calls of answers alone
-  pub calls-own : (journal : List (Entry K)) → IsSettled journal passes → All (λ e. IsTrue (is_among (call_of e.event) (calls_of (joined (lists_of answers))))) journal
+  pub calls-own : (journal : List (Entry K)) → IsSettled journal passes
+      → All (λ e. IsTrue (is_among (call_of e.event) (calls_of (joined (lists_of answers))))) journal
   calls-own journal settled =
       let s : IsSettled journal (map (λ (w : Worker K). w.pass) workers) = subst (λ (l : List (List (Receipt K))). IsSettled journal l) passes_are settled in
       let P : List (Vec Answer) → Type 0 = λ l. All (λ (e : Entry K). IsTrue (is_among (call_of e.event) (calls_of (joined (lists_of l))))) journal in
       subst P (sym answers_are) (journal-theirs journal workers s)
 
-  pub noted-own : {S : Type 0} (notes : HashMap CallId CallNote S) → HaveNotes (answers_of workers) notes → HaveNotes (joined (lists_of answers)) notes
+  pub noted-own : {S : Type 0} (notes : HashMap CallId CallNote S) → HaveNotes (answers_of workers) notes
+      → HaveNotes (joined (lists_of answers)) notes
   noted-own notes has = let P : List (Vec Answer) → Type 0 = λ l. HaveNotes (joined (lists_of l)) notes in subst P (sym answers_are) has
 
 -- the index of the jobs that the submitters handed out
-pub index-own : {S : Type 0} (submitters : List Submitter) (submitted : List (Vec PoolJob)) → submitted ≡ map (λ s. s.jobs) submitters → (index : Option (HashMap Ticket JobPlace S))
+pub index-own : {S : Type 0} (submitters : List Submitter) (submitted : List (Vec PoolJob))
+    → submitted ≡ map (λ s. s.jobs) submitters → (index : Option (HashMap Ticket JobPlace S))
     → MatchOption index (HaveOwnTickets (joined (jobs_of submitters)) → ⊥) (IsIndexOf (jobs_of submitters))
     → MatchOption index (HaveOwnTickets (joined (lists_of submitted)) → ⊥) (IsIndexOf (lists_of submitted))
 index-own {S} submitters submitted are index h =
@@ -51,16 +54,20 @@ index-own {S} submitters submitted are index h =
     subst P (sym are) h
 
 -- the index of submitted jobs that have tickets of their own
-pub index-of : {S : Type 0} (submitted read : List (Vec PoolJob)) → read ≡ submitted → (index : Option (HashMap Ticket JobPlace S)) (here : HashMap Ticket JobPlace S) → index ≡ Some here
-    → MatchOption index (HaveOwnTickets (joined (lists_of submitted)) → ⊥) (IsIndexOf (lists_of submitted)) → IsIndexOf (lists_of read) here
+pub index-of : {S : Type 0} (submitted read : List (Vec PoolJob)) → read ≡ submitted
+    → (index : Option (HashMap Ticket JobPlace S)) (here : HashMap Ticket JobPlace S) → index ≡ Some here
+    → MatchOption index (HaveOwnTickets (joined (lists_of submitted)) → ⊥) (IsIndexOf (lists_of submitted))
+    → IsIndexOf (lists_of read) here
 index-of {S} submitted read is index here some h =
     let P : List (Vec PoolJob) → Type 0 = λ l. IsIndexOf {S = S} (lists_of l) here in
     let M : Option (HashMap Ticket JobPlace S) → Type 0 = λ o. MatchOption o (HaveOwnTickets (joined (lists_of submitted)) → ⊥) (IsIndexOf (lists_of submitted)) in
     subst P (sym is) (subst M some h)
 
 -- a map that kept the notes of all calls has those of these answers
-pub noted-kept : {S : Type 0} (answers read : List (Vec Answer)) → read ≡ answers → (old new : HashMap CallId CallNote S)
-    → ((call : CallId) → IsSome (note_of old call) → IsSome (note_of new call)) → HaveNotes (joined (lists_of answers)) old → HaveNotes (joined (lists_of read)) new
+pub noted-kept : {S : Type 0} (answers read : List (Vec Answer)) → read ≡ answers
+    → (old new : HashMap CallId CallNote S)
+    → ((call : CallId) → IsSome (note_of old call) → IsSome (note_of new call))
+    → HaveNotes (joined (lists_of answers)) old → HaveNotes (joined (lists_of read)) new
 noted-kept {S} answers read is old new kept has =
     let P : List (Vec Answer) → Type 0 = λ l. HaveNotes {S = S} (joined (lists_of l)) new in
     subst P (sym is)
@@ -68,16 +75,18 @@ noted-kept {S} answers read is old new kept has =
 
 module _ {K : Type 0} where
   -- the receipts of passes as they were read
-  pub entries-read : (journal read_journal : List (Entry K)) (passes read_passes : List (List (Receipt K))) → read_journal ≡ journal → read_passes ≡ passes
-      → AreEntriesOf journal passes → AreEntriesOf read_journal read_passes
+  pub entries-read : (journal read_journal : List (Entry K)) (passes read_passes : List (List (Receipt K)))
+      → read_journal ≡ journal → read_passes ≡ passes → AreEntriesOf journal passes
+      → AreEntriesOf read_journal read_passes
   entries-read journal read_journal passes read_passes j p h =
       let J : List (Entry K) → Type 0 = λ l. AreEntriesOf l read_passes in
       let P : List (List (Receipt K)) → Type 0 = λ l. AreEntriesOf journal l in
       subst J (sym j) (subst P (sym p) h)
 
   -- a pool is cleared as its books were read
-  pub cleared-read : (journal read_journal : List (Entry K)) (answers read_answers : List (Vec Answer)) (left read_left : List PoolJob) (submitted read_submitted : List (Vec PoolJob))
-      → read_journal ≡ journal → read_answers ≡ answers → read_left ≡ left → read_submitted ≡ submitted
+  pub cleared-read : (journal read_journal : List (Entry K)) (answers read_answers : List (Vec Answer))
+      (left read_left : List PoolJob) (submitted read_submitted : List (Vec PoolJob)) → read_journal ≡ journal
+      → read_answers ≡ answers → read_left ≡ left → read_submitted ≡ submitted
       → IsCleared journal (joined (lists_of answers)) left (joined (lists_of submitted))
       → IsCleared read_journal (joined (lists_of read_answers)) read_left (joined (lists_of read_submitted))
   cleared-read journal read_journal answers read_answers left read_left submitted read_submitted j a l s h =

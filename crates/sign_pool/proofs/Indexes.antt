@@ -31,26 +31,32 @@ pub record Placed (lists : List (List PoolJob)) (place : JobPlace) (P : PoolJob 
   pub has_job : slice_get list place.at ≡ Some job
   pub holds : P job
 
-pub placed : (lists : List (List PoolJob)) (place : JobPlace) (P : PoolJob → Type 0) → IsSomeAnd (job_at lists place) P → Placed lists place P
+pub placed : (lists : List (List PoolJob)) (place : JobPlace) (P : PoolJob → Type 0)
+    → IsSomeAnd (job_at lists place) P → Placed lists place P
 placed lists place P h = by_list (slice_get lists place.submitter) refl h
   where
-    by_job : (list : List PoolJob) → slice_get lists place.submitter ≡ Some list → (o : Option PoolJob) → slice_get list place.at ≡ o → IsSomeAnd o P → Placed lists place P
+    by_job : (list : List PoolJob) → slice_get lists place.submitter ≡ Some list → (o : Option PoolJob)
+        → slice_get list place.at ≡ o → IsSomeAnd o P → Placed lists place P
     by_job list e None f k = absurd k
     by_job list e (Some job) f k = record { list = list; job = job; has_list = e; has_job = f; holds = k }
 
-    by_list : (o : Option (List PoolJob)) → slice_get lists place.submitter ≡ o → IsSomeAnd (option_and_then (λ (jobs : List PoolJob). slice_get jobs place.at) o) P → Placed lists place P
+    by_list : (o : Option (List PoolJob)) → slice_get lists place.submitter ≡ o
+        → IsSomeAnd (option_and_then (λ (jobs : List PoolJob). slice_get jobs place.at) o) P
+        → Placed lists place P
     by_list None e k = absurd k
     by_list (Some list) e k = by_job list e (slice_get list place.at) refl k
 
 -- the way back
-pub at-place : (lists : List (List PoolJob)) (place : JobPlace) (P : PoolJob → Type 0) (list : List PoolJob) (job : PoolJob)
-    → slice_get lists place.submitter ≡ Some list → slice_get list place.at ≡ Some job → P job → IsSomeAnd (job_at lists place) P
+pub at-place : (lists : List (List PoolJob)) (place : JobPlace) (P : PoolJob → Type 0) (list : List PoolJob)
+    (job : PoolJob) → slice_get lists place.submitter ≡ Some list → slice_get list place.at ≡ Some job → P job
+    → IsSomeAnd (job_at lists place) P
 at-place lists place P list job e f p =
     let Q : Option PoolJob → Type 0 = λ o. IsSomeAnd o P in
     subst Q (sym (ap (option_and_then (λ (jobs : List PoolJob). slice_get jobs place.at)) e ∙ f)) p
 
 -- a job of a list is among all jobs
-pub in-jobs : (lists : List (List PoolJob)) (s at : ℕ) (list : List PoolJob) (job : PoolJob) → slice_get lists s ≡ Some list → slice_get list at ≡ Some job → Contains (joined lists) job
+pub in-jobs : (lists : List (List PoolJob)) (s at : ℕ) (list : List PoolJob) (job : PoolJob)
+    → slice_get lists s ≡ Some list → slice_get list at ≡ Some job → Contains (joined lists) job
 in-jobs lists s at list job e f =
     let around = joined-around lists s list (slice_get_within lists s list e) (sym (get_or_from_slice_get lists s list list e)) in
     let own : Contains list job = (at, slice_get_within list at job f, get_or_from_slice_get list at job job f) in
@@ -72,16 +78,19 @@ module _ (vectors : List (Vec PoolJob)) (place : JobPlace) (P : PoolJob → Type
 
 -- what an index of these jobs finds
 module _ (lists : List (List PoolJob)) (es : List (Ticket × JobPlace)) (ticket : Ticket) where
-  pub found : (place : JobPlace) → All (IsPlaceOf lists) es → lookup (same_ticket ticket) es ≡ Some place → IsSomeAnd (job_at lists place) (λ job. job.ticket ≡ ticket)
+  pub found : (place : JobPlace) → All (IsPlaceOf lists) es → lookup (same_ticket ticket) es ≡ Some place
+      → IsSomeAnd (job_at lists place) (λ job. job.ticket ≡ ticket)
   found place places h =
       let c : Contains es (ticket, place) = Contains-from_lookup {eq = same_ticket} same_ticket-eq ticket place es h in
       All-contains (IsPlaceOf lists) es (ticket, place) places c
 
-  pub absent : IsPermutation (tickets_of (joined lists)) (keys_of es) → lookup (same_ticket ticket) es ≡ None → Contains (tickets_of (joined lists)) ticket → ⊥
+  pub absent : IsPermutation (tickets_of (joined lists)) (keys_of es) → lookup (same_ticket ticket) es ≡ None
+      → Contains (tickets_of (joined lists)) ticket → ⊥
   absent keys h c = no-key es ticket h (Contains-permutation (tickets_of (joined lists)) (keys_of es) ticket keys c)
 
 -- a job's ticket is among the tickets
-pub ticket-among : (jobs : List PoolJob) (job : PoolJob) → Contains jobs job → Contains (tickets_of jobs) job.ticket
+pub ticket-among : (jobs : List PoolJob) (job : PoolJob) → Contains jobs job
+    → Contains (tickets_of jobs) job.ticket
 ticket-among jobs job (k, within, is) =
     let here : get_or (tickets_of jobs) k job.ticket ≡ job.ticket = get_or-map (λ (j : PoolJob). j.ticket) jobs k job job.ticket within ∙ ap (λ (j : PoolJob). j.ticket) is in
     subst (Contains (tickets_of jobs)) here (Contains-get_or (tickets_of jobs) k job.ticket (simp length-map within))
@@ -104,7 +113,8 @@ module _ (jobs : List PoolJob) (apart : HaveOwnTickets jobs) where
   tickets-long [] = refl
   tickets-long (x ∷ xs) = ap suc (tickets-long xs)
 
-  other-place : (a b : PoolJob) (i j : ℕ) → i < j → j < length jobs → get_or jobs i a ≡ a → get_or jobs j b ≡ b → a.ticket ≡ b.ticket → ⊥
+  other-place : (a b : PoolJob) (i j : ℕ) → i < j → j < length jobs → get_or jobs i a ≡ a
+      → get_or jobs j b ≡ b → a.ticket ≡ b.ticket → ⊥
   other-place a b i j before within ia jb same =
       let at = λ (k : ℕ) (x : PoolJob) (w : k < length jobs) (e : get_or jobs k x ≡ x). get_or-map (λ (y : PoolJob). y.ticket) jobs k x a.ticket w ∙ ap (λ (y : PoolJob). y.ticket) e in
       apart i j a.ticket before (omega (arith, tickets-long jobs, within)) (at i a (omega (arith, before, within)) ia ∙ same ∙ sym (at j b within jb))
@@ -138,20 +148,27 @@ module _ (jobs : List PoolJob) (apart : HaveOwnTickets jobs) where
     begun-from (Signed call verdict) h = tt
     begun-from (Cancel call) h = tt
 
-    -- the answer's call was begun as this job exactly where each begin of it is with the job's head and duration
-    pub begun-with : (journal : List (Entry K)) → AreBegunAs jobs journal answer → AreBeginsWith answer.call journal job.head job.expires_in
+    -- the answer's call was begun as this job exactly where each begin of it is with the job's head and
+    -- duration
+    pub begun-with : (journal : List (Entry K)) → AreBegunAs jobs journal answer
+        → AreBeginsWith answer.call journal job.head job.expires_in
     begun-with journal h = All-weaker (λ (e : Entry K). IsBegunAs jobs answer e.event) (λ e. IfBegins answer.call job.head job.expires_in e.event) (λ e. begun-to e.event) journal h
 
-    pub begun-as : (journal : List (Entry K)) → AreBeginsWith answer.call journal job.head job.expires_in → AreBegunAs jobs journal answer
+    pub begun-as : (journal : List (Entry K)) → AreBeginsWith answer.call journal job.head job.expires_in
+        → AreBegunAs jobs journal answer
     begun-as journal h = All-weaker (λ (e : Entry K). IfBegins answer.call job.head job.expires_in e.event) (λ e. IsBegunAs jobs answer e.event) (λ e. begun-from e.event) journal h
 
 -- a job that is read is the one that is kept
-pub kept-job : (jobs : List PoolJob) (mine theirs : PoolJob) → Contains jobs mine → mine.ticket ≡ theirs.ticket → mine.head ≡ theirs.head → mine.expires_in ≡ theirs.expires_in → Contains jobs theirs
+pub kept-job : (jobs : List PoolJob) (mine theirs : PoolJob) → Contains jobs mine
+    → mine.ticket ≡ theirs.ticket → mine.head ≡ theirs.head → mine.expires_in ≡ theirs.expires_in
+    → Contains jobs theirs
 kept-job jobs mine theirs c t h e = subst (Contains jobs) (same-job mine theirs t h e) c
 
 -- the index of more jobs
-pub keys-more : (old : List Ticket) (jobs : List PoolJob) (i : ℕ) (job : PoolJob) (place : JobPlace) (es fs : List (Ticket × JobPlace)) → i < length jobs → job ≡ get_or jobs i job
-    → IsPermutation (old ++ tickets_of (take i jobs)) (keys_of es) → IsPermutation ((job.ticket, place) ∷ es) fs
+pub keys-more : (old : List Ticket) (jobs : List PoolJob) (i : ℕ) (job : PoolJob) (place : JobPlace)
+    (es fs : List (Ticket × JobPlace)) → i < length jobs → job ≡ get_or jobs i job
+    → IsPermutation (old ++ tickets_of (take i jobs)) (keys_of es)
+    → IsPermutation ((job.ticket, place) ∷ es) fs
     → IsPermutation (old ++ tickets_of (take (i + 1) jobs)) (keys_of fs)
 keys-more old jobs i job place es fs below is had put =
     let one : take (i + 1) jobs ≡ take i jobs ++ job ∷ [] = take_more jobs i job below ∙ ap (λ y. take i jobs ++ y ∷ []) (sym is) in
@@ -162,9 +179,10 @@ keys-more old jobs i job place es fs below is had put =
     (IsPermutation-push_more (old ++ tickets_of (take i jobs)) (keys_of es) (keys_of fs) job.ticket had (IsPermutation-map (λ (e : Ticket × JobPlace). e.0) ((job.ticket, place) ∷ es) fs put))
 
 -- a job whose ticket the index has already
-pub twice : (old : List Ticket) (jobs : List PoolJob) (i : ℕ) (job : PoolJob) (place : JobPlace) (es : List (Ticket × JobPlace)) → i < length jobs → job ≡ get_or jobs i job
-    → IsPermutation (old ++ tickets_of (take i jobs)) (keys_of es) → lookup (same_ticket job.ticket) es ≡ Some place
-    → Apart (old ++ tickets_of jobs) → ⊥
+pub twice : (old : List Ticket) (jobs : List PoolJob) (i : ℕ) (job : PoolJob) (place : JobPlace)
+    (es : List (Ticket × JobPlace)) → i < length jobs → job ≡ get_or jobs i job
+    → IsPermutation (old ++ tickets_of (take i jobs)) (keys_of es)
+    → lookup (same_ticket job.ticket) es ≡ Some place → Apart (old ++ tickets_of jobs) → ⊥
 twice old jobs i job place es below is had there apart =
     let before : List Ticket = old ++ tickets_of (take i jobs) in
     let rest : List Ticket = tickets_of (drop (i + 1) jobs) in
@@ -177,14 +195,17 @@ twice old jobs i job place es below is had there apart =
     not-before before rest job.ticket (subst Apart split apart) c
 
 -- the places of more jobs
-pub places-more : (lists : List (List PoolJob)) (s i : ℕ) (list : List PoolJob) (job : PoolJob) (es fs : List (Ticket × JobPlace)) → IsSomeAnd (slice_get lists s) (λ l. l ≡ list)
-    → i < length list → job ≡ get_or list i job → All (IsPlaceOf lists) es → IsPermutation ((job.ticket, record { submitter = s; at = i }) ∷ es) fs → All (IsPlaceOf lists) fs
+pub places-more : (lists : List (List PoolJob)) (s i : ℕ) (list : List PoolJob) (job : PoolJob)
+    (es fs : List (Ticket × JobPlace)) → IsSomeAnd (slice_get lists s) (λ l. l ≡ list) → i < length list
+    → job ≡ get_or list i job → All (IsPlaceOf lists) es
+    → IsPermutation ((job.ticket, record { submitter = s; at = i }) ∷ es) fs → All (IsPlaceOf lists) fs
 places-more lists s i list job es fs at below is had put = by_list (slice_get lists s) refl at
   where
     e : Ticket × JobPlace
     e = (job.ticket, record { submitter = s; at = i })
 
-    by_list : (o : Option (List PoolJob)) → slice_get lists s ≡ o → IsSomeAnd o (λ l. l ≡ list) → All (IsPlaceOf lists) fs
+    by_list : (o : Option (List PoolJob)) → slice_get lists s ≡ o → IsSomeAnd o (λ l. l ≡ list)
+        → All (IsPlaceOf lists) fs
     by_list None f k = absurd k
     by_list (Some l) f k =
         let here : slice_get list i ≡ Some job = slice_get-read in
@@ -195,8 +216,10 @@ places-more lists s i list job es fs at below is had put = by_list (slice_get li
         slice_get-read = slice_get_read list (length list) i job refl below is
 
 -- the index of more lists
-pub lists-more : (lists : List (List PoolJob)) (s : ℕ) (list : List PoolJob) (es fs : List (Ticket × JobPlace)) → s < length lists → list ≡ get_or lists s list
-    → IsPermutation (tickets_of (joined (take s lists))) (keys_of es) → IsPermutation (keys_of es ++ tickets_of list) (keys_of fs)
+pub lists-more : (lists : List (List PoolJob)) (s : ℕ) (list : List PoolJob)
+    (es fs : List (Ticket × JobPlace)) → s < length lists → list ≡ get_or lists s list
+    → IsPermutation (tickets_of (joined (take s lists))) (keys_of es)
+    → IsPermutation (keys_of es ++ tickets_of list) (keys_of fs)
     → IsPermutation (tickets_of (joined (take (s + 1) lists))) (keys_of fs)
 lists-more lists s list es fs below is had put =
     let grown : tickets_of (joined (take (s + 1) lists)) ≡ tickets_of (joined (take s lists)) ++ tickets_of list =
@@ -206,8 +229,10 @@ lists-more lists s list es fs below is had put =
     (IsPermutation-append_left (tickets_of list) (tickets_of (joined (take s lists))) (keys_of es) had) put)
 
 -- where one list has a ticket twice, or one that the lists before it have, so have all
-pub lists-twice : (lists : List (List PoolJob)) (s : ℕ) (list : List PoolJob) (es : List (Ticket × JobPlace)) → s < length lists → list ≡ get_or lists s list
-    → IsPermutation (tickets_of (joined (take s lists))) (keys_of es) → (Apart (keys_of es ++ tickets_of list) → ⊥) → HaveOwnTickets (joined lists) → ⊥
+pub lists-twice : (lists : List (List PoolJob)) (s : ℕ) (list : List PoolJob) (es : List (Ticket × JobPlace))
+    → s < length lists → list ≡ get_or lists s list
+    → IsPermutation (tickets_of (joined (take s lists))) (keys_of es)
+    → (Apart (keys_of es ++ tickets_of list) → ⊥) → HaveOwnTickets (joined lists) → ⊥
 lists-twice lists s list es below is had twice apart =
     let around = joined-around lists s list below is in
     let done : List PoolJob = joined (take s lists) in

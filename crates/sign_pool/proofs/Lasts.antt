@@ -29,11 +29,18 @@ drop-past (x ∷ xs) ys = drop-past xs ys
 
 -- the answer that is put after the others is read off the receipts that were added
 module _ {K : Type 0} (before now added r slice : List (Receipt K)) (b : ℕ) where
-  pub answer-is : (answers after : List Answer) (ticket : Ticket) (handle n m : ℕ) (l : Option ℕ) (o : Outcome) (out : Bool) → n ≡ m
-      → after ≡ answers ++ record { ticket = ticket; call = record { handle = handle; number = n + 1 }; last = l; outcome = o } ∷ []
+  pub answer-is : (answers after : List Answer) (ticket : Ticket) (handle n m : ℕ) (l : Option ℕ)
+      (o : Outcome) (out : Bool) → n ≡ m
+      → after
+      ≡ answers
+      ++ record { ticket = ticket; call = record { handle = handle; number = n + 1 }; last = l; outcome = o }
+      ∷ []
       → now ≡ before ++ added → r ≡ now → b ≡ length before → slice ≡ take (length r - b) (drop b r)
       → l ≡ last_place b slice → o ≡ outcome_of (last_reply slice) out
-      → after ≡ answers ++ record { ticket = ticket; call = record { handle = handle; number = m + 1 }; last = last_place (length before) added; outcome = outcome_of (last_reply added) out } ∷ []
+      → after
+      ≡ answers
+      ++ record { ticket = ticket; call = record { handle = handle; number = m + 1 }; last = last_place (length before) added; outcome = outcome_of (last_reply added) out }
+      ∷ []
   answer-is answers after ticket handle n m l o out is pushed grown same count cut place end =
       let d : drop b r ≡ added = ap (drop b) (same ∙ grown) ∙ (ap (λ n. drop n (before ++ added)) count ∙ drop-past before added) in
       let all : length r ≡ length before + length added = ap length (same ∙ grown) ∙ length-append before added in

@@ -22,7 +22,8 @@ use Rattle.sign_pool.specs.declared.answer.Answer.{Answer}
 both : (a b : Bool) → a ≡ true → b ≡ true → (a && b) ≡ true
 both a b h k = rw (h, k) refl
 
-all-append : {X : Type 0} (p : X → Bool) (xs ys : List X) → list_all p xs ≡ true → list_all p ys ≡ true → list_all p (xs ++ ys) ≡ true
+all-append : {X : Type 0} (p : X → Bool) (xs ys : List X) → list_all p xs ≡ true → list_all p ys ≡ true
+    → list_all p (xs ++ ys) ≡ true
 all-append p [] ys h k = k
 all-append p (x ∷ xs) ys h k =
     both (p x) (list_all p (xs ++ ys)) (and_left (p x) (list_all p xs) h) (all-append p xs ys (and_right (p x) (list_all p xs) h) k)
@@ -31,7 +32,8 @@ any-more : {X : Type 0} (p : X → Bool) (xs ys : List X) → list_any p xs ≡ 
 any-more p [] ys h = cc
 any-more p (x ∷ xs) ys h = by_head (any-more p xs ys) (p x) refl h
   where
-    by_head : (list_any p xs ≡ true → list_any p (xs ++ ys) ≡ true) → (b : Bool) → p x ≡ b → (b || list_any p xs) ≡ true → (p x || list_any p (xs ++ ys)) ≡ true
+    by_head : (list_any p xs ≡ true → list_any p (xs ++ ys) ≡ true) → (b : Bool) → p x ≡ b
+        → (b || list_any p xs) ≡ true → (p x || list_any p (xs ++ ys)) ≡ true
     by_head later true e k = rw e refl
     by_head later false e k = rw e (later k)
 
@@ -47,11 +49,13 @@ any-last : {X : Type 0} (p : X → Bool) (xs : List X) (y : X) → p y ≡ true 
 any-last p [] y h = rw h refl
 any-last p (x ∷ xs) y h = by_head (any-last p xs y h) (p x) refl
   where
-    by_head : list_any p (xs ++ y ∷ []) ≡ true → (b : Bool) → p x ≡ b → (p x || list_any p (xs ++ y ∷ [])) ≡ true
+    by_head : list_any p (xs ++ y ∷ []) ≡ true → (b : Bool) → p x ≡ b
+        → (p x || list_any p (xs ++ y ∷ [])) ≡ true
     by_head later true e = rw e refl
     by_head later false e = rw e later
 
-calls-more : (answers : List Answer) (a : Answer) → calls_of (answers ++ a ∷ []) ≡ calls_of answers ++ a.call ∷ []
+calls-more : (answers : List Answer) (a : Answer)
+    → calls_of (answers ++ a ∷ []) ≡ calls_of answers ++ a.call ∷ []
 calls-more [] a = refl
 calls-more (x ∷ rest) a = ap (λ l. x.call ∷ l) (calls-more rest a)
 
@@ -60,11 +64,13 @@ pub last-among : (answers : List Answer) (a : Answer) → is_among a.call (calls
 last-among answers a =
     ap (is_among a.call) (calls-more answers a) ∙ any-last (same_call a.call) (calls_of answers) a.call (same_call-refl a.call)
 
-among-more : (answers : List Answer) (a : Answer) (call : CallId) → is_among call (calls_of answers) ≡ true → is_among call (calls_of (answers ++ a ∷ [])) ≡ true
+among-more : (answers : List Answer) (a : Answer) (call : CallId) → is_among call (calls_of answers) ≡ true
+    → is_among call (calls_of (answers ++ a ∷ [])) ≡ true
 among-more answers a call h = ap (is_among call) (calls-more answers a) ∙ any-more (same_call call) (calls_of answers) (a.call ∷ []) h
 
 module _ {K : Type 0} where
-  only-more : (answers : List Answer) (a : Answer) (pass : List (Receipt K)) → has_only_calls_of answers pass ≡ true → has_only_calls_of (answers ++ a ∷ []) pass ≡ true
+  only-more : (answers : List Answer) (a : Answer) (pass : List (Receipt K))
+      → has_only_calls_of answers pass ≡ true → has_only_calls_of (answers ++ a ∷ []) pass ≡ true
   only-more answers a [] h = refl
   only-more answers a (r ∷ pass) h =
       let here : is_among (call_of r.entry.event) (calls_of answers) ≡ true = and_left (is_among (call_of r.entry.event) (calls_of answers)) (has_only_calls_of answers pass) h in
@@ -77,19 +83,23 @@ module _ {K : Type 0} where
     abbrev CourseAfter : Reply K → List (Receipt K) → Type 0
     CourseAfter r own = (end : _) × IsCourse gate turns job (next_after r) own end
 
-    one-more : (r : Receipt K) (rest : List (Receipt K)) → call_of r.entry.event ≡ job.call → has_only_calls_of answers rest ≡ true → has_only_calls_of answers (r ∷ rest) ≡ true
+    one-more : (r : Receipt K) (rest : List (Receipt K)) → call_of r.entry.event ≡ job.call
+        → has_only_calls_of answers rest ≡ true → has_only_calls_of answers (r ∷ rest) ≡ true
     one-more r rest about h = both (is_among (call_of r.entry.event) (calls_of answers)) (has_only_calls_of answers rest) (ap (λ c. is_among c (calls_of answers)) about ∙ here) h
 
     -- one step of a course, and what comes behind it
-    step-calls : (at : _) (after : _) (x : Receipt K) (rest : List (Receipt K)) (end : _) → (IsNext gate job at x.entry.event → call_of x.entry.event ≡ job.call)
-        → IsStep gate turns job at x.entry after → IsCourse gate turns job after rest end → (CourseAfter x.entry.reply rest → has_only_calls_of answers rest ≡ true)
+    step-calls : (at : _) (after : _) (x : Receipt K) (rest : List (Receipt K)) (end : _)
+        → (IsNext gate job at x.entry.event → call_of x.entry.event ≡ job.call)
+        → IsStep gate turns job at x.entry after → IsCourse gate turns job after rest end
+        → (CourseAfter x.entry.reply rest → has_only_calls_of answers rest ≡ true)
         → has_only_calls_of answers (x ∷ rest) ≡ true
     step-calls at after x rest end about (goes_on n a) course later = one-more x rest (about n) (later (end, subst (λ s. IsCourse gate turns job s rest end) a course))
     step-calls at after x rest end about (gives_up u e a) course later = one-more x rest (ap call_of e) (later (end, subst (λ s. IsCourse gate turns job s rest end) a course))
     step-calls at after x rest end about (runs_out l e a) course later =
         let over = subst (λ s. IsCourse gate turns job s rest end) a course in one-more x rest (ap call_of e) (ap (has_only_calls_of answers) over.0)
 
-    calls-after : (r : Reply K) (own : List (Receipt K)) → CourseAfter r own → has_only_calls_of answers own ≡ true
+    calls-after : (r : Reply K) (own : List (Receipt K)) → CourseAfter r own
+        → has_only_calls_of answers own ≡ true
     calls-after r [] c = refl
     calls-after reply.Begun (x ∷ rest) (end, c) = step-calls _ _ x rest end (λ n. ap call_of n.2) c.2.1 c.2.2 (calls-after x.entry.reply rest)
     calls-after reply.Pending (x ∷ rest) (end, c) = step-calls _ _ x rest end (λ n. ap call_of n.2) c.2.1 c.2.2 (calls-after x.entry.reply rest)
@@ -101,7 +111,8 @@ module _ {K : Type 0} where
     calls-after (reply.Done h) (x ∷ rest) (end, c) = let none = c.0 in absurd (cc)
     calls-after (reply.Cancelled w) (x ∷ rest) (end, c) = let none = c.0 in absurd (cc)
 
-    whole-calls : (added : List (Receipt K)) → ServesAll gate turns (job ∷ []) added → has_only_calls_of answers added ≡ true
+    whole-calls : (added : List (Receipt K)) → ServesAll gate turns (job ∷ []) added
+        → has_only_calls_of answers added ≡ true
     whole-calls added ([], others, end, is, c, t, serves) = ap (has_only_calls_of answers) (is ∙ serves)
     whole-calls added (x ∷ rest, others, end, is, c, t, serves) =
         ap (has_only_calls_of answers) (is ∙ ap (λ l. (x ∷ rest) ++ l) serves ∙ append-nil (x ∷ rest))
@@ -109,16 +120,19 @@ module _ {K : Type 0} where
 
   module _ (gate : GateMeaning K) (turns : ℕ) (answers : List Answer) where
     -- the one job of a list is the one at which the work stopped
-    only-job : (job stopped : Job) (before after : List Job) → job ∷ [] ≡ before ++ stopped ∷ after → (before ≡ []) × (stopped ≡ job)
+    only-job : (job stopped : Job) (before after : List Job) → job ∷ [] ≡ before ++ stopped ∷ after
+        → (before ≡ []) × (stopped ≡ job)
     only-job job stopped [] after e = (refl, cc)
     only-job job stopped (x ∷ xs) after e = absurd (omega (arith, ap length e, length-append xs (stopped ∷ after)))
 
-    none-served : (before : List Job) (served : List (Receipt K)) → before ≡ [] → ServesAll gate turns before served → served ≡ []
+    none-served : (before : List Job) (served : List (Receipt K)) → before ≡ []
+        → ServesAll gate turns before served → served ≡ []
     none-served [] served e s = s
     none-served (x ∷ xs) served e s = absurd (cc)
 
     -- the receipts of the job at which the work stopped, by the parts of what is known of it
-    own-calls : (jobs : List Job) (added : List (Receipt K)) (given_up : ℕ) (before : List Job) (stopped : Job) (after : List Job) (served own : List (Receipt K)) (not_now : Bool)
+    own-calls : (jobs : List Job) (added : List (Receipt K)) (given_up : ℕ) (before : List Job)
+        (stopped : Job) (after : List Job) (served own : List (Receipt K)) (not_now : Bool)
         (jobs_are : jobs ≡ before ++ stopped ∷ after) (added_are : added ≡ served ++ own) (serves : ServesAll gate turns before served) (stops : _) (counted : given_up ≡ replies is_cancelled served)
         (s : StopsAtAJob gate turns jobs added given_up)
         → s ≡ record { before = before; job = stopped; after = after; served = served; own = own; not_now = not_now; jobs_are = jobs_are; added_are = added_are; serves = serves; stops = stops; counted = counted }
@@ -127,7 +141,8 @@ module _ {K : Type 0} where
     own-calls jobs added given_up before stopped after served (x ∷ rest) not_now jobs_are added_are serves stops counted s e here =
         step-calls gate turns stopped answers here _ _ x rest _ (λ n. ap call_of n) stops.2.1 stops.2.2 (calls-after gate turns stopped answers here x.entry.reply rest)
 
-    stop-calls : (job : Job) → is_among job.call (calls_of answers) ≡ true → (added : List (Receipt K)) (given_up : ℕ) → StopsAtAJob gate turns (job ∷ []) added given_up
+    stop-calls : (job : Job) → is_among job.call (calls_of answers) ≡ true
+        → (added : List (Receipt K)) (given_up : ℕ) → StopsAtAJob gate turns (job ∷ []) added given_up
         → has_only_calls_of answers added ≡ true
     stop-calls job here added given_up s =
         let only = only-job job s.job s.before s.after s.jobs_are in
@@ -136,24 +151,30 @@ module _ {K : Type 0} where
         ap (has_only_calls_of answers) (s.added_are ∙ ap (λ l. l ++ s.own) none)
         ∙ own-calls (job ∷ []) added given_up s.before s.job s.after s.served s.own s.not_now s.jobs_are s.added_are s.serves s.stops s.counted s refl there
 
-    by-end : (job : Job) → is_among job.call (calls_of answers) ≡ true → (out : Bool) (added : List (Receipt K)) (given_up : ℕ)
-        → MatchBool out (StopsAtAJob gate turns (job ∷ []) added given_up) (ServesAll gate turns (job ∷ []) added) → has_only_calls_of answers added ≡ true
+    by-end : (job : Job) → is_among job.call (calls_of answers) ≡ true
+        → (out : Bool) (added : List (Receipt K)) (given_up : ℕ)
+        → MatchBool out (StopsAtAJob gate turns (job ∷ []) added given_up)
+        (ServesAll gate turns (job ∷ []) added)
+        → has_only_calls_of answers added ≡ true
     by-end job here true added given_up s = stop-calls job here added given_up s
     by-end job here false added given_up s = whole-calls gate turns job answers here added s
 
     -- what serving a job adds is about its call
-    pub served-calls : (job : Job) → is_among job.call (calls_of answers) ≡ true → (added : List (Receipt K)) (served : Served) → IsServing gate turns (job ∷ []) added served
+    pub served-calls : (job : Job) → is_among job.call (calls_of answers) ≡ true
+        → (added : List (Receipt K)) (served : Served) → IsServing gate turns (job ∷ []) added served
         → has_only_calls_of answers added ≡ true
     served-calls job here added served s = by-end job here served.out_of_memory added served.given_up s.course
 
   -- a pass with more receipts, and one answer more
-  pub still-own : (answers after : List Answer) (a : Answer) (pass added grown : List (Receipt K)) → has_only_calls_of answers pass ≡ true
-      → after ≡ answers ++ a ∷ [] → grown ≡ pass ++ added → has_only_calls_of (answers ++ a ∷ []) added ≡ true → has_only_calls_of after grown ≡ true
+  pub still-own : (answers after : List Answer) (a : Answer) (pass added grown : List (Receipt K))
+      → has_only_calls_of answers pass ≡ true → after ≡ answers ++ a ∷ [] → grown ≡ pass ++ added
+      → has_only_calls_of (answers ++ a ∷ []) added ≡ true → has_only_calls_of after grown ≡ true
   still-own answers after a pass added grown h is grows own =
       ap (λ l. has_only_calls_of l grown) is ∙ ap (has_only_calls_of (answers ++ a ∷ [])) grows
       ∙ all-append (λ (r : Receipt K). is_among (call_of r.entry.event) (calls_of (answers ++ a ∷ []))) pass added (only-more answers a pass h) own
 
-  only-grows : (answers more : List Answer) (pass : List (Receipt K)) → has_only_calls_of answers pass ≡ true → has_only_calls_of (answers ++ more) pass ≡ true
+  only-grows : (answers more : List Answer) (pass : List (Receipt K)) → has_only_calls_of answers pass ≡ true
+      → has_only_calls_of (answers ++ more) pass ≡ true
   only-grows answers more [] h = refl
   only-grows answers more (r ∷ pass) h =
       let c : CallId = call_of r.entry.event in
@@ -162,7 +183,8 @@ module _ {K : Type 0} where
       (ap (is_among c) (map-append (λ (a : Answer). a.call) answers more) ∙ any-more (same_call c) (calls_of answers) (calls_of more) here)
       (only-grows answers more pass (and_right (is_among c (calls_of answers)) (has_only_calls_of answers pass) h))
 
-  only-after : (before answers : List Answer) (pass : List (Receipt K)) → has_only_calls_of answers pass ≡ true → has_only_calls_of (before ++ answers) pass ≡ true
+  only-after : (before answers : List Answer) (pass : List (Receipt K))
+      → has_only_calls_of answers pass ≡ true → has_only_calls_of (before ++ answers) pass ≡ true
   only-after before answers [] h = refl
   only-after before answers (r ∷ pass) h =
       let c : CallId = call_of r.entry.event in
@@ -172,7 +194,8 @@ module _ {K : Type 0} where
       (only-after before answers pass (and_right (is_among c (calls_of answers)) (has_only_calls_of answers pass) h))
 
   -- receipts and answers of one beside those of others
-  pub only-beside : (answers others : List Answer) (pass rest : List (Receipt K)) → has_only_calls_of answers pass ≡ true → has_only_calls_of others rest ≡ true
+  pub only-beside : (answers others : List Answer) (pass rest : List (Receipt K))
+      → has_only_calls_of answers pass ≡ true → has_only_calls_of others rest ≡ true
       → has_only_calls_of (answers ++ others) (pass ++ rest) ≡ true
   only-beside answers others pass rest h k =
       all-append (λ (r : Receipt K). is_among (call_of r.entry.event) (calls_of (answers ++ others))) pass rest (only-grows answers others pass h) (only-after answers others rest k)

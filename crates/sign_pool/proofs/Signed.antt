@@ -43,22 +43,27 @@ found-in : {X : Type 0} (p : X → Bool) (xs : List X) (x : X) → find p xs ≡
 found-in p [] x h = absurd (cc)
 found-in p (y ∷ xs) x h = by_head (found-in p xs x) (p y) refl h
   where
-    by_head : (find p xs ≡ Some x → Contains xs x) → (b : Bool) → p y ≡ b → cond b (Some y) (find p xs) ≡ Some x → Contains (y ∷ xs) x
+    by_head : (find p xs ≡ Some x → Contains xs x) → (b : Bool) → p y ≡ b
+        → cond b (Some y) (find p xs) ≡ Some x → Contains (y ∷ xs) x
     by_head rest true e k = (0, omega arith, cc)
     by_head rest false e k = let c = rest k in (suc c.0, omega (arith, c.1), c.2)
 
-kept-in : {X : Type 0} (p : X → Bool) (xs : List X) (x : X) → Contains (filter p xs) x → Contains xs x × (p x ≡ true)
+kept-in : {X : Type 0} (p : X → Bool) (xs : List X) (x : X) → Contains (filter p xs) x
+    → Contains xs x × (p x ≡ true)
 kept-in p [] x h = absurd (omega (arith, h.1))
 kept-in p (y ∷ xs) x h = by_head (kept-in p xs x) (p y) refl h
   where
     later : Contains xs x × (p x ≡ true) → Contains (y ∷ xs) x × (p x ≡ true)
     later c = ((suc c.0.0, omega (arith, c.0.1), c.0.2), c.1)
 
-    by_place : (Contains (filter p xs) x → Contains xs x × (p x ≡ true)) → (k : ℕ) → p y ≡ true → k < suc (length (filter p xs)) → get_or (y ∷ filter p xs) k x ≡ x → Contains (y ∷ xs) x × (p x ≡ true)
+    by_place : (Contains (filter p xs) x → Contains xs x × (p x ≡ true)) → (k : ℕ) → p y ≡ true
+        → k < suc (length (filter p xs)) → get_or (y ∷ filter p xs) k x ≡ x
+        → Contains (y ∷ xs) x × (p x ≡ true)
     by_place rest zero e w is = ((0, omega arith, is), ap p (sym is) ∙ e)
     by_place rest (suc k) e w is = later (rest (k, omega (arith, w), is))
 
-    by_head : (Contains (filter p xs) x → Contains xs x × (p x ≡ true)) → (b : Bool) → p y ≡ b → Contains (cond b (y ∷ filter p xs) (filter p xs)) x → Contains (y ∷ xs) x × (p x ≡ true)
+    by_head : (Contains (filter p xs) x → Contains xs x × (p x ≡ true)) → (b : Bool) → p y ≡ b
+        → Contains (cond b (y ∷ filter p xs) (filter p xs)) x → Contains (y ∷ xs) x × (p x ≡ true)
     by_head rest true e c = by_place rest c.0 e c.1 c.2
     by_head rest false e c = later (rest c)
 
@@ -78,11 +83,13 @@ module _ {K : Type 0} where
     is : e.event ≡ Begin call head expires_in
     input : b ≡ record { head = head; duration = option_map as_nanos expires_in }
 
-  begun-entry : (entries : List (Entry K)) (call : CallId) (b : BeginInput) → begin_of entries call ≡ Some b → Begun entries call b
+  begun-entry : (entries : List (Entry K)) (call : CallId) (b : BeginInput) → begin_of entries call ≡ Some b
+      → Begun entries call b
   unfolding begin_in entries_of
   begun-entry entries call b h = by_found (find (λ (x : Entry K). is_begun x.reply) (filter (is_about call) entries)) refl h
     where
-      by_event : (e : Entry K) → Contains (filter (is_about call) entries) e → (ev : Event K) → e.event ≡ ev → begun_with ev ≡ Some b → Begun entries call b
+      by_event : (e : Entry K) → Contains (filter (is_about call) entries) e → (ev : Event K) → e.event ≡ ev
+          → begun_with ev ≡ Some b → Begun entries call b
       by_event e c (Begin other head expires_in) is with =
           let kept = kept-in (is_about call) entries e c in
           let same : call ≡ other = same_call-eq call other (ap (λ (x : Event K). same_call call (call_of x)) (sym is) ∙ kept.1) in
@@ -99,11 +106,14 @@ module _ {K : Type 0} where
       by_event e c (Signed other answer) is with = absurd (cc)
       by_event e c (Cancel other) is with = absurd (cc)
 
-      by_found : (o : Option (Entry K)) → find (λ (x : Entry K). is_begun x.reply) (filter (is_about call) entries) ≡ o → option_and_then (λ (e : Entry K). begun_with e.event) o ≡ Some b → Begun entries call b
+      by_found : (o : Option (Entry K))
+          → find (λ (x : Entry K). is_begun x.reply) (filter (is_about call) entries) ≡ o
+          → option_and_then (λ (e : Entry K). begun_with e.event) o ≡ Some b → Begun entries call b
       by_found None f k = absurd (cc)
       by_found (Some e) f k = by_event e (found-in (λ (x : Entry K). is_begun x.reply) (filter (is_about call) entries) e f) e.event refl k
 
-  committed-in : (entries : List (Entry K)) (e : Entry K) → Contains (committed_entries entries) e → Contains entries e
+  committed-in : (entries : List (Entry K)) (e : Entry K) → Contains (committed_entries entries) e
+      → Contains entries e
   unfolding committed_entries
   committed-in entries e h = (kept-in (λ x. not (is_out_of_memory x.reply)) entries e h).0
 
@@ -125,23 +135,28 @@ module _ {K : Type 0} where
   ReadAs journal pass answer last = MatchOption last (HasNoneOf answer.call journal × IsReadFrom {K = K} None answer.outcome) (λ at. IsSomeAnd (slice_get pass at) (IsReadOff journal answer))
 
   -- the receipt of a true answer that says so
-  done-receipt : (journal : List (Entry K)) (pass : List (Receipt K)) (answer : Answer) → IsTrueAnswer journal pass answer → answer.outcome ≡ Done
+  done-receipt : (journal : List (Entry K)) (pass : List (Receipt K)) (answer : Answer)
+      → IsTrueAnswer journal pass answer → answer.outcome ≡ Done
       → (receipt : Receipt K) × Contains pass receipt × IsReadOff journal answer receipt
   done-receipt journal pass answer t done = by_last answer.last refl
     where
-      by_last : (o : Option ℕ) → answer.last ≡ o → (receipt : Receipt K) × Contains pass receipt × IsReadOff journal answer receipt
+      by_last : (o : Option ℕ) → answer.last ≡ o
+          → (receipt : Receipt K) × Contains pass receipt × IsReadOff journal answer receipt
       by_last None e = let out = (subst (ReadAs journal pass answer) e t).1 in absurd (cc (out, done))
       by_last (Some at) e =
           let f = open-some (slice_get pass at) (IsReadOff journal answer) (subst (ReadAs journal pass answer) e t) in
           (f.0, (at, slice_get_within pass at f.0 f.1, get_or_from_slice_get pass at f.0 f.0 f.1), f.2)
 
 module _ {K D : Type 0} (policy : Policy K D) (setup : Setup D) where
-  never-done : (progress : Progress K) (wake : Option CallId) (head : Head) → with_wake (progress_reply progress) wake ≡ reply.Done head → ⊥
+  never-done : (progress : Progress K) (wake : Option CallId) (head : Head)
+      → with_wake (progress_reply progress) wake ≡ reply.Done head → ⊥
   never-done (Asking provider) wake head h = cc
   never-done (Over (HandOut c) cache) wake head h = cc
   never-done (Over (Refuse cause) cache) wake head h = cc
 
-  signs : (entries : List (Entry K)) (event : Event K) (r : Reply K) (head : Head) → LegalStep policy setup entries event r → r ≡ reply.Done head → is_signing (phase_of entries (call_of event)) ≡ true
+  signs : (entries : List (Entry K)) (event : Event K) (r : Reply K) (head : Head)
+      → LegalStep policy setup entries event r → r ≡ reply.Done head
+      → is_signing (phase_of entries (call_of event)) ≡ true
   signs entries event r head (not_now _) h = absurd (cc)
   signs entries event r head (begins _ _ _ _ _ _) h = absurd (cc)
   signs entries event r head (waits _ _ _ _ _ _) h = absurd (cc)
@@ -152,24 +167,31 @@ module _ {K D : Type 0} (policy : Policy K D) (setup : Setup D) where
   signs entries event r head (fails _ _ _ _ _) h = absurd (cc)
   signs entries event r head (cancels _ _ _) h = absurd (cc)
 
-  cached : (entries : List (Entry K)) (event : Event K) (head : Head) → expected_reply policy setup entries event ≡ reply.Done head → (i : ℕ) × (cache_of setup (call_of event) ≡ Some i)
+  cached : (entries : List (Entry K)) (event : Event K) (head : Head)
+      → expected_reply policy setup entries event ≡ reply.Done head
+      → (i : ℕ) × (cache_of setup (call_of event) ≡ Some i)
   unfolding expected_reply
   cached entries event head h = by_cache (cache_of setup (call_of event)) refl h
     where
-      by_cache : (o : Option ℕ) → cache_of setup (call_of event) ≡ o → reply_at policy setup entries event o ≡ reply.Done head → (i : ℕ) × (cache_of setup (call_of event) ≡ Some i)
+      by_cache : (o : Option ℕ) → cache_of setup (call_of event) ≡ o
+          → reply_at policy setup entries event o ≡ reply.Done head
+          → (i : ℕ) × (cache_of setup (call_of event) ≡ Some i)
       by_cache None e k = absurd (cc)
       by_cache (Some i) e k = (i, e)
 
   -- a call that is done was begun
-  begun-before : (entries : List (Entry K)) → IsRun policy setup entries → (event : Event K) (head : Head) → expected_reply policy setup entries event ≡ reply.Done head
+  begun-before : (entries : List (Entry K)) → IsRun policy setup entries → (event : Event K) (head : Head)
+      → expected_reply policy setup entries event ≡ reply.Done head
       → is_some (begin_of entries (call_of event)) ≡ true
   begun-before entries run event head h =
       let at = cached entries event head h in
       let s : is_signing (phase_of entries (call_of event)) ≡ true = signs entries event _ head (expected_step policy setup entries event) h in
       (run_signs policy setup entries run (call_of event) at.0 at.1 s).begun
 
-  legal-at : (journal : List (Entry K)) (p : ℕ) (e : Entry K) → IsLegal policy setup journal → slice_get journal p ≡ Some e
-      → IsLegal policy setup (take p journal) × IsLegalEntry policy setup (committed_entries (take p journal)) e
+  legal-at : (journal : List (Entry K)) (p : ℕ) (e : Entry K) → IsLegal policy setup journal
+      → slice_get journal p ≡ Some e
+      → IsLegal policy setup (take p journal)
+      × IsLegalEntry policy setup (committed_entries (take p journal)) e
   unfolding IsLegal
   legal-at journal p e legal there =
       let below : p < length journal = slice_get_within journal p e there in
@@ -180,7 +202,8 @@ module _ {K D : Type 0} (policy : Policy K D) (setup : Setup D) where
       let parts = legal_split committed_entries (IsLegalEntry policy setup) [] (take p journal) (e ∷ drop (p + 1) journal) (subst P whole legal) in
       (parts.0, parts.1.0)
 
-  due : (entries : List (Entry K)) (e : Entry K) (head : Head) → IsLegalEntry policy setup entries e → e.reply ≡ reply.Done head → expected_reply policy setup entries e.event ≡ reply.Done head
+  due : (entries : List (Entry K)) (e : Entry K) (head : Head) → IsLegalEntry policy setup entries e
+      → e.reply ≡ reply.Done head → expected_reply policy setup entries e.event ≡ reply.Done head
   due entries e head (inl expected) is = sym expected ∙ is
   due entries e head (inr lost) is = absurd (cc (lost.0, is))
 
@@ -189,15 +212,18 @@ module _ {K D : Type 0} (policy : Policy K D) (setup : Setup D) where
     before : List (Entry K)
     before = take receipt.place journal
 
-    submitted-job : (head : Head) (expires_in : Option Duration) (e : Entry K) → Contains journal e → e.event ≡ Begin answer.call head expires_in
+    submitted-job : (head : Head) (expires_in : Option Duration) (e : Entry K) → Contains journal e
+        → e.event ≡ Begin answer.call head expires_in
         → Contains submitted (record { ticket = answer.ticket; head = head; expires_in = expires_in })
     submitted-job head expires_in e here is =
         let mine = All-contains (λ (a : Answer). All (λ (x : Entry K). IsBegunAs submitted a x.event) journal) answers answer cleared.begun among in
         let own : IsBegunAs submitted answer e.event = All-contains (λ (x : Entry K). IsBegunAs submitted answer x.event) journal e mine here in
         (let P : Event K → Type 0 = λ x. IsBegunAs submitted answer x in subst P is own) refl
 
-    signed-by : (head : Head) → receipt.entry.reply ≡ reply.Done head → (b : BeginInput) → begin_of (committed_entries (take receipt.place journal)) answer.call ≡ Some b
-        → expected_reply policy setup (committed_entries (take receipt.place journal)) receipt.entry.event ≡ reply.Done head
+    signed-by : (head : Head) → receipt.entry.reply ≡ reply.Done head → (b : BeginInput)
+        → begin_of (committed_entries (take receipt.place journal)) answer.call ≡ Some b
+        → expected_reply policy setup (committed_entries (take receipt.place journal)) receipt.entry.event
+        ≡ reply.Done head
         → IsSignedAsSubmitted policy setup journal submitted answer receipt head
     signed-by head is b begun expected =
         let f = begun-entry (committed_entries (take receipt.place journal)) answer.call b begun in
@@ -211,7 +237,8 @@ module _ {K D : Type 0} (policy : Policy K D) (setup : Setup D) where
           begun = begun ∙ ap Some f.input;
         }
 
-    signed : (head : Head) → receipt.entry.reply ≡ reply.Done head → IsSignedAsSubmitted policy setup journal submitted answer receipt head
+    signed : (head : Head) → receipt.entry.reply ≡ reply.Done head
+        → IsSignedAsSubmitted policy setup journal submitted answer receipt head
     signed head is =
         let at = legal-at journal receipt.place receipt.entry legal off.entry in
         let expected = due (committed_entries (take receipt.place journal)) receipt.entry head at.1 is in
@@ -222,8 +249,10 @@ module _ {K D : Type 0} (policy : Policy K D) (setup : Setup D) where
         ∙ begun-before (committed_entries (take receipt.place journal)) (legal_run policy setup (take receipt.place journal) at.0) receipt.entry.event head expected in
         by_begin (begin_of (committed_entries (take receipt.place journal)) answer.call) refl there expected
       where
-        by_begin : (o : Option BeginInput) → begin_of (committed_entries (take receipt.place journal)) answer.call ≡ o → is_some o ≡ true
-            → expected_reply policy setup (committed_entries (take receipt.place journal)) receipt.entry.event ≡ reply.Done head
+        by_begin : (o : Option BeginInput)
+            → begin_of (committed_entries (take receipt.place journal)) answer.call ≡ o → is_some o ≡ true
+            → expected_reply policy setup (committed_entries (take receipt.place journal)) receipt.entry.event
+            ≡ reply.Done head
             → IsSignedAsSubmitted policy setup journal submitted answer receipt head
         by_begin None e s x = absurd (false≢true s)
         by_begin (Some b) e s x = signed-by head is b e x

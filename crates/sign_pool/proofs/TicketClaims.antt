@@ -1,4 +1,5 @@
--- Tickets: which are the same, lists in which none stands twice, and what is left of a list when others claimed theirs.
+-- Tickets: which are the same, lists in which none stands twice, and what is left of a list when others
+-- claimed theirs.
 use Rattle.std.proofs.Common.{◌≡◌, ◌≢◌, ℕ, ◌+◌, Bool, true, false, cond, ◌&&◌, ◌==◌, List, [], ◌∷◌, ◌++◌, Some, None, is_some, length, get_or, refl, sym, ◌∙◌, ap, subst, arith, ⊎_elim, Decides}
 use Rattle.std.specs.Prelude.{AllPairs, Contains, IsPermutation}
 use Rattle.std.specs.List.{IsDistinct}
@@ -55,7 +56,8 @@ apart-left xs ys apart = λ i j d before within same.
     apart i j d before (omega (arith, n, within)) (a ∙ same ∙ sym b)
 
 -- a ticket that stands behind some is none of them
-pub not-before : (before rest : List Ticket) (ticket : Ticket) → Apart (before ++ ticket ∷ rest) → Contains before ticket → ⊥
+pub not-before : (before rest : List Ticket) (ticket : Ticket) → Apart (before ++ ticket ∷ rest)
+    → Contains before ticket → ⊥
 not-before before rest ticket apart (k, within, is) =
     let n : length (before ++ ticket ∷ rest) ≡ length before + length (ticket ∷ rest) = length-append before (ticket ∷ rest) in
     let a = get_or_append_left before (ticket ∷ rest) ticket k within in
@@ -63,7 +65,8 @@ not-before before rest ticket apart (k, within, is) =
     apart k (length before + 0) ticket (omega (arith, within)) (omega (arith, n)) (a ∙ is ∙ sym b)
 
 -- what is claimed behind others is claimed of what they leave
-pub claims-rest : (those done rest more : List Ticket) → IsPermutation those (done ++ rest) → AreClaims those (done ++ more) → AreClaims rest more
+pub claims-rest : (those done rest more : List Ticket) → IsPermutation those (done ++ rest)
+    → AreClaims those (done ++ more) → AreClaims rest more
 claims-rest those done rest more moved claims = record {
   among = λ k d below.
       let n : length (done ++ more) ≡ length done + length more = length-append done more in
@@ -85,26 +88,31 @@ pub claims-left : (those xs ys : List Ticket) → AreClaims those (xs ++ ys) →
 claims-left those xs ys claims = record { among = all-left (Contains those) xs ys claims.among; apart = apart-left xs ys claims.apart }
 
 -- the same tickets in another order are claims
-pub claims-same : (those tickets : List Ticket) → IsPermutation those tickets → Apart those → AreClaims those tickets
+pub claims-same : (those tickets : List Ticket) → IsPermutation those tickets → Apart those
+    → AreClaims those tickets
 claims-same those tickets moved apart = record {
   among = All-permutation (Contains those) those tickets moved (All-contains_itself those);
   apart = apart-moved those tickets moved apart;
 }
 
 -- more claims out of what was left
-pub claimed-more : (those done rest more left : List Ticket) → IsPermutation those (done ++ rest) → IsPermutation rest (more ++ left) → IsPermutation those ((done ++ more) ++ left)
+pub claimed-more : (those done rest more left : List Ticket) → IsPermutation those (done ++ rest)
+    → IsPermutation rest (more ++ left) → IsPermutation those ((done ++ more) ++ left)
 claimed-more those done rest more left moved now =
     IsPermutation-trans those (done ++ rest) ((done ++ more) ++ left) moved
     (subst (λ l. IsPermutation (done ++ rest) l) (sym (append_assoc done more left)) (IsPermutation-append_right done rest (more ++ left) now))
 
 module _ {X : Type 0} where
   -- the key of an entry that is taken out
-  pub keys-removed : (test : Ticket → Bool) (ticket : Ticket) → ((x : Ticket) → test x ≡ true → x ≡ ticket) → (es : List (Ticket × X)) (v : X) → lookup test es ≡ Some v
+  pub keys-removed : (test : Ticket → Bool) (ticket : Ticket) → ((x : Ticket) → test x ≡ true → x ≡ ticket)
+      → (es : List (Ticket × X)) (v : X) → lookup test es ≡ Some v
       → IsPermutation (keys_of es) (ticket ∷ keys_of (remove_entry test es))
   keys-removed test ticket one [] v h = absurd (cc)
   keys-removed test ticket one (e ∷ es) v h = by_head (keys-removed test ticket one es v) (test e.0) refl h
     where
-      by_head : (lookup test es ≡ Some v → IsPermutation (keys_of es) (ticket ∷ keys_of (remove_entry test es))) → (b : Bool) → test e.0 ≡ b → cond b (Some e.1) (lookup test es) ≡ Some v
+      by_head : (lookup test es ≡ Some v
+          → IsPermutation (keys_of es) (ticket ∷ keys_of (remove_entry test es)))
+          → (b : Bool) → test e.0 ≡ b → cond b (Some e.1) (lookup test es) ≡ Some v
           → IsPermutation (e.0 ∷ keys_of es) (ticket ∷ keys_of (cond b es (e ∷ remove_entry test es)))
       by_head later true t k = subst (λ (x : Ticket). IsPermutation (e.0 ∷ keys_of es) (x ∷ keys_of es)) (one e.0 t) (IsPermutation-refl (e.0 ∷ keys_of es))
       by_head rest false t k =
@@ -114,18 +122,21 @@ module _ {X : Type 0} where
           (IsPermutation-middle (e.0 ∷ []) ticket later)
 
   -- a ticket is among the keys exactly where it is found
-  pub found-key : (es : List (Ticket × X)) (ticket : Ticket) (v : X) → lookup (same_ticket ticket) es ≡ Some v → Contains (keys_of es) ticket
+  pub found-key : (es : List (Ticket × X)) (ticket : Ticket) (v : X) → lookup (same_ticket ticket) es ≡ Some v
+      → Contains (keys_of es) ticket
   found-key es ticket v h =
       (is_member-Decides {eq = same_ticket} tickets-decide (keys_of es) ticket).0 (sym (is_some-lookup (same_ticket ticket) es) ∙ ap is_some h)
 
-  pub no-key : (es : List (Ticket × X)) (ticket : Ticket) → lookup (same_ticket ticket) es ≡ None → Contains (keys_of es) ticket → ⊥
+  pub no-key : (es : List (Ticket × X)) (ticket : Ticket) → lookup (same_ticket ticket) es ≡ None
+      → Contains (keys_of es) ticket → ⊥
   no-key es ticket h c =
       let there = (is_member-Decides {eq = same_ticket} tickets-decide (keys_of es) ticket).1 c in
       false≢true (ap is_some (sym h) ∙ is_some-lookup (same_ticket ticket) es ∙ there)
 
   -- the keys after the entry of a ticket was taken out
-  pub claimed-key : (old new : List (Ticket × X)) (ticket : Ticket) (v : X) → lookup (same_ticket ticket) old ≡ Some v
-      → IsPermutation (remove_entry (same_ticket ticket) old) new → IsPermutation (keys_of old) (ticket ∷ keys_of new)
+  pub claimed-key : (old new : List (Ticket × X)) (ticket : Ticket) (v : X)
+      → lookup (same_ticket ticket) old ≡ Some v → IsPermutation (remove_entry (same_ticket ticket) old) new
+      → IsPermutation (keys_of old) (ticket ∷ keys_of new)
   claimed-key old new ticket v found moved =
       let left : List (Ticket × X) = remove_entry (same_ticket ticket) old in
       IsPermutation-trans (keys_of old) (ticket ∷ keys_of left) (ticket ∷ keys_of new)

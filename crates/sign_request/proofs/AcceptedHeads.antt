@@ -20,7 +20,8 @@ use Rattle.sign_request.proofs.Deciding.{Decides-leb, Decides-list_all, FailsWhe
 use Rattle.sign_request.proofs.FieldsTaken.{header_map-more}
 use Rattle.sign_request.proofs.TargetOf.{target_of-SpellsNone, SpellsNone-from_target_of}
 
-token_bytes-Decides : (bytes : List ℕ) → Decides (ltb 0 (length bytes) && list_all token_test bytes) (IsToken bytes)
+token_bytes-Decides : (bytes : List ℕ)
+    → Decides (ltb 0 (length bytes) && list_all token_test bytes) (IsToken bytes)
 unfolding is_token_byte
 token_bytes-Decides bytes = Decides-and _ _ (Decides-ltb _ _) (Decides-list_all is_token_byte bytes)
 
@@ -35,12 +36,14 @@ is_field_value-Decides : (bytes : List ℕ) → Decides (is_field_value bytes) (
 unfolding is_field_value
 is_field_value-Decides bytes = Decides-list_all is_value_byte bytes
 
-has_key-Decides : (headers : Entries FieldValue) (name : List ℕ) → Decides (list_any (λ key. bytes_eq key name) (keys headers)) (ContainsKey headers name)
+has_key-Decides : (headers : Entries FieldValue) (name : List ℕ)
+    → Decides (list_any (λ key. bytes_eq key name) (keys headers)) (ContainsKey headers name)
 has_key-Decides headers name =
     Decides-contains (keys headers) name _
     (Decides-by_or (λ key. bytes_eq key name) (λ key. key ≡ name) (list_any (λ key. bytes_eq key name)) (λ key. bytes_eq-Decides key name) refl (λ _ _. refl) (keys headers))
 
-has_room-fails : (headers : Entries FieldValue) (name : List ℕ) → FailsWhere (has_room headers name) (RefusesAppend headers name)
+has_room-fails : (headers : Entries FieldValue) (name : List ℕ)
+    → FailsWhere (has_room headers name) (RefusesAppend headers name)
 unfolding has_room
 has_room-fails headers name =
     let most = FailsWhere-ltb (value_count headers) most_values in
@@ -55,7 +58,8 @@ has_room-fails headers name =
       ],
     )
 
-takes_field-fails : (headers : Entries FieldValue) (f : Field) → FailsWhere (takes_field headers f) (RefusesField headers f)
+takes_field-fails : (headers : Entries FieldValue) (f : Field)
+    → FailsWhere (takes_field headers f) (RefusesField headers f)
 unfolding takes_field
 takes_field-fails headers f =
     FailsWhere-and _ _ (FailsWhere-not _ (is_field_name-Decides f.name))
@@ -78,7 +82,9 @@ rest [] = []
 rest (f ∷ fields) = fields
 
 -- the field at hand is refused, or one after it
-refuses_more : (before : List Field) (f : Field) (fields : List Field) → RefusesField (header_map before) f ⊎ RefusesAfter (before ++ f ∷ []) fields → RefusesAfter before (f ∷ fields)
+refuses_more : (before : List Field) (f : Field) (fields : List Field)
+    → RefusesField (header_map before) f ⊎ RefusesAfter (before ++ f ∷ []) fields
+    → RefusesAfter before (f ∷ fields)
 refuses_more before f fields (inl why) = record {
   earlier = [];
   refused = f;
@@ -94,7 +100,10 @@ refuses_more before f fields (inr h) = record {
   cause = subst (λ (fs : List Field). RefusesField (header_map fs) h.refused) (append_assoc before (f ∷ []) h.earlier) h.cause;
 }
 
-refuses_cut : (before : List Field) (f : Field) (fields earlier : List Field) (refused : Field) (later : List Field) → f ∷ fields ≡ earlier ++ refused ∷ later → RefusesField (header_map (before ++ earlier)) refused → RefusesField (header_map before) f ⊎ RefusesAfter (before ++ f ∷ []) fields
+refuses_cut : (before : List Field) (f : Field) (fields earlier : List Field) (refused : Field)
+    (later : List Field) → f ∷ fields ≡ earlier ++ refused ∷ later
+    → RefusesField (header_map (before ++ earlier)) refused
+    → RefusesField (header_map before) f ⊎ RefusesAfter (before ++ f ∷ []) fields
 unfolding first_or rest
 refuses_cut before f fields [] refused later e why =
     let Refused : List Field → Field → Type 0 = λ fs g. RefusesField (header_map fs) g in
@@ -110,7 +119,8 @@ refuses_cut before f fields (g ∷ earlier) refused later e why =
       cause = subst Refused (sym (append_assoc before (f ∷ []) earlier)) (subst (λ (h : Field). Refused (before ++ h ∷ earlier)) (sym same) why);
     })
 
-takes_fields-fails : (before fields : List Field) → FailsWhere (takes_fields (header_map before) fields) (RefusesAfter before fields)
+takes_fields-fails : (before fields : List Field)
+    → FailsWhere (takes_fields (header_map before) fields) (RefusesAfter before fields)
 takes_fields-fails before [] = (λ e. absurd (cc), λ h. absurd (let none = ap length h.is in omega (arith, none, length-append h.earlier (h.refused ∷ h.later))))
 takes_fields-fails before (f ∷ fields) =
     let next = rw (header_map-more before f) at (takes_fields-fails (before ++ f ∷ []) fields) in
@@ -124,7 +134,8 @@ all_fields-fail fields =
       λ h. all.1 (record { earlier = h.before; refused = h.refused; later = h.after; is = h.is; cause = h.cause }),
     )
 
-target-fails : (o : Option PlainTarget) (P : Type 0) → (o ≡ None → P) → (P → o ≡ None) → FailsWhere (is_some o) P
+target-fails : (o : Option PlainTarget) (P : Type 0) → (o ≡ None → P) → (P → o ≡ None)
+    → FailsWhere (is_some o) P
 target-fails None P to from = (λ _. to refl, λ _. refl)
 target-fails (Some t) P to from = (λ e. absurd (cc), λ h. absurd (let never = from h in cc))
 

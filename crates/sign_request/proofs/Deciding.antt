@@ -16,11 +16,13 @@ Decides-implies true y p q = (λ yes _. q.0 yes, λ f. q.1 (f (p.0 refl)))
 Decides-implies false y p q = (λ _ h. absurd (let yes = p.1 h in cc), λ _. refl)
 
 -- a test of each element
-pub Decides-list_all : {X : Type 0} (test : X → Bool) (xs : List X) → Decides (list_all test xs) (AllPass test xs)
+pub Decides-list_all : {X : Type 0} (test : X → Bool) (xs : List X)
+    → Decides (list_all test xs) (AllPass test xs)
 Decides-list_all test xs = (AllPass-from_list_all test xs, list_all-from_AllPass test xs)
 
 -- a test of each number below n
-pub Decides-below : (p : ℕ → Bool) (n : ℕ) → Decides (list_all p (range_with_len 0 n)) ((i : ℕ) → i < n → p i ≡ true)
+pub Decides-below : (p : ℕ → Bool) (n : ℕ)
+    → Decides (list_all p (range_with_len 0 n)) ((i : ℕ) → i < n → p i ≡ true)
 Decides-below p n = (
   λ yes i within.
       let len = length-range_with_len 0 n in
@@ -53,12 +55,14 @@ FailsWhere-not true d = (λ e. absurd (cc), λ fails. absurd (fails (d.0 refl)))
 FailsWhere-not false d = (λ _. not_from_Decides false d refl, λ _. refl)
 
 -- both are needed, so it fails where either does
-pub FailsWhere-and : {P Q : Type 0} (x y : Bool) → FailsWhere x P → FailsWhere y Q → FailsWhere (x && y) (P ⊎ Q)
+pub FailsWhere-and : {P Q : Type 0} (x y : Bool) → FailsWhere x P → FailsWhere y Q
+    → FailsWhere (x && y) (P ⊎ Q)
 FailsWhere-and true y p q = (λ e. inr (q.0 e), λ why. elim why [ inl h ↦ absurd (let never = p.1 h in cc) | inr h ↦ q.1 h ])
 FailsWhere-and false y p q = (λ _. inl (p.0 refl), λ _. refl)
 
 -- either is enough, so it fails where both do
-pub FailsWhere-or : {P Q : Type 0} (x y : Bool) → FailsWhere x P → FailsWhere y Q → FailsWhere (x || y) (P × Q)
+pub FailsWhere-or : {P Q : Type 0} (x y : Bool) → FailsWhere x P → FailsWhere y Q
+    → FailsWhere (x || y) (P × Q)
 FailsWhere-or true y p q = (λ e. absurd (cc), λ h. absurd (let never = p.1 h.0 in cc))
 FailsWhere-or false y p q = (λ e. (p.0 refl, q.0 e), λ h. q.1 h.1)
 

@@ -9,7 +9,8 @@ use Rattle.sign_base.specs.declared.head.Field.{Field}
 use Rattle.sign_request.specs.PlainHead.{header_of, header_map, RefusesField, RefusesFields}
 
 -- one more field is appended to the map of those before it
-pub header_map-more : (xs : List Field) (f : Field) → header_map (xs ++ f ∷ []) ≡ append (header_map xs) (lowercase f.name) (plain_value f.value)
+pub header_map-more : (xs : List Field) (f : Field)
+    → header_map (xs ++ f ∷ []) ≡ append (header_map xs) (lowercase f.name) (plain_value f.value)
 header_map-more xs f =
     ap (append_all []) (map-append header_of xs (f ∷ [])) ∙ fold-append (λ n item. append n item.0 item.1) [] (map header_of xs) (header_of f ∷ [])
 
@@ -22,7 +23,8 @@ rest [] = []
 rest (x ∷ xs) = xs
 
 -- where a list with one more element is cut, the cut is at that element or before it
-cut-more : {X : Type 0} (xs : List X) (f : X) (before : List X) (g : X) (after : List X) → xs ++ f ∷ [] ≡ before ++ g ∷ after
+cut-more : {X : Type 0} (xs : List X) (f : X) (before : List X) (g : X) (after : List X)
+    → xs ++ f ∷ [] ≡ before ++ g ∷ after
     → ((before ≡ xs) × (g ≡ f)) ⊎ ((left : List X) × (xs ≡ before ++ g ∷ left))
 unfolding first_or rest
 cut-more [] f [] g after e = inl (refl, sym (ap (first_or f) e))
@@ -35,7 +37,8 @@ cut-more (x ∷ xs) f (b ∷ bs) g after e =
       | inr h ↦ inr (h.0, λ i. heads i ∷ h.1 i)
     ]
 
-accepted-more : (xs : List Field) (f : Field) → ¬ (RefusesFields xs) → ¬ (RefusesField (header_map xs) f) → ¬ (RefusesFields (xs ++ f ∷ []))
+accepted-more : (xs : List Field) (f : Field) → ¬ (RefusesFields xs) → ¬ (RefusesField (header_map xs) f)
+    → ¬ (RefusesFields (xs ++ f ∷ []))
 accepted-more xs f earlier this r =
     elim (cut-more xs f r.before r.refused r.after r.is) [
       | inl h ↦ this (subst (λ (g : Field). RefusesField (header_map xs) g) h.1 (subst (λ (ys : List Field). RefusesField (header_map ys) r.refused) h.0 r.cause))
@@ -46,16 +49,19 @@ module _ (fields : List Field) (i : ℕ) (f : Field) (within : i < length fields
   more : take (i + 1) fields ≡ take i fields ++ f ∷ []
   more = take_more fields i f within ∙ ap (λ g. take i fields ++ g ∷ []) (sym is)
 
-  pub header_map-next : (m n : Entries FieldValue) → m ≡ header_map (take i fields) → n ≡ append m (lowercase f.name) (plain_value f.value) → n ≡ header_map (take (i + 1) fields)
+  pub header_map-next : (m n : Entries FieldValue) → m ≡ header_map (take i fields)
+      → n ≡ append m (lowercase f.name) (plain_value f.value) → n ≡ header_map (take (i + 1) fields)
   header_map-next m n made next =
       next ∙ (ap (λ m. append m (lowercase f.name) (plain_value f.value)) made ∙ (sym (header_map-more (take i fields) f) ∙ ap header_map (sym more)))
 
-  pub accepted-next : (m : Entries FieldValue) → m ≡ header_map (take i fields) → ¬ (RefusesFields (take i fields)) → ¬ (RefusesField m f) → ¬ (RefusesFields (take (i + 1) fields))
+  pub accepted-next : (m : Entries FieldValue) → m ≡ header_map (take i fields)
+      → ¬ (RefusesFields (take i fields)) → ¬ (RefusesField m f) → ¬ (RefusesFields (take (i + 1) fields))
   accepted-next m made earlier this =
       let Refused : List Field → Type 0 = λ xs. ¬ (RefusesFields xs) in
       subst Refused (sym more) (accepted-more (take i fields) f earlier (subst (λ (m : Entries FieldValue). ¬ (RefusesField m f)) made this))
 
-  pub refused-next : (m : Entries FieldValue) → m ≡ header_map (take i fields) → RefusesField m f → RefusesFields fields
+  pub refused-next : (m : Entries FieldValue) → m ≡ header_map (take i fields) → RefusesField m f
+      → RefusesFields fields
   refused-next m made cause = record {
     before = take i fields;
     refused = f;

@@ -23,7 +23,8 @@ key_total : IsTotalOrder key_cmp
 key_total = on_total (λ p. p.0) nat_list_cmp_total
 
 -- what a sort by key ensures
-pub Ascends-from_key_sort : {Z : Type 0} (xs : List (String Z × String Z)) → IsSorted (λ x y. string_cmp x.0 y.0) xs → Ascends key_cmp (text_pairs xs)
+pub Ascends-from_key_sort : {Z : Type 0} (xs : List (String Z × String Z))
+    → IsSorted (λ x y. string_cmp x.0 y.0) xs → Ascends key_cmp (text_pairs xs)
 Ascends-from_key_sort xs up = Ascends-from_sort key_cmp key_total (text_pairs xs) (IsSorted-map text_pair key_cmp xs up)
 
 not_above : (r : Ordering) → is_gt r ≡ false → (r ≡ Less) ⊎ (r ≡ Equal)
@@ -56,9 +57,11 @@ module _ {Z : Type 0} (key : List ℕ) where
   HasOtherKey p = string_bytes p.0 ≢ key
 
   -- n pairs of the key, and then one of another key
-  pub begins_with_key : (n : ℕ) (xs : List (String Z × String Z)) → AllByRecursion (λ q. is_gt (text_cmp key q.0) ≡ false) (text_pairs xs)
+  pub begins_with_key : (n : ℕ) (xs : List (String Z × String Z))
+      → AllByRecursion (λ q. is_gt (text_cmp key q.0) ≡ false) (text_pairs xs)
       → Ascends key_cmp (text_pairs xs) → AllWithin HasKey xs 0 n → (n < length xs → HoldsAt HasOtherKey xs n)
-      → AllByRecursion (λ p. p.0 ≡ key) (take n (text_pairs xs)) × AllByRecursion (λ p. text_cmp key p.0 ≡ Less) (drop n (text_pairs xs))
+      → AllByRecursion (λ p. p.0 ≡ key) (take n (text_pairs xs))
+      × AllByRecursion (λ p. text_cmp key p.0 ≡ Less) (drop n (text_pairs xs))
   begins_with_key zero [] low up same other = (tt, tt)
   begins_with_key (suc n) [] low up same other = (tt, tt)
   begins_with_key zero (x ∷ xs) low up same other =
@@ -68,7 +71,8 @@ module _ {Z : Type 0} (key : List ℕ) where
       let rest = begins_with_key n xs low.1 up.1 (λ k d l h. same (suc k) d (omega arith) (omega arith)) (λ l d. other (omega arith) d) in
       ((same 0 x (omega arith) (omega arith), rest.0), rest.1)
 
-first_is_lowest : {Z : Type 0} (xs : List (String Z × String Z)) (x : String Z × String Z) → x ≡ get_or xs 0 x → Ascends key_cmp (text_pairs xs)
+first_is_lowest : {Z : Type 0} (xs : List (String Z × String Z)) (x : String Z × String Z) → x ≡ get_or xs 0 x
+    → Ascends key_cmp (text_pairs xs)
     → AllByRecursion (λ q. is_gt (text_cmp (string_bytes x.0) q.0) ≡ false) (text_pairs xs)
 first_is_lowest [] x first up = tt
 first_is_lowest (y ∷ xs) x first up =
@@ -76,8 +80,11 @@ first_is_lowest (y ∷ xs) x first up =
     (rw (tied_itself nat_list_cmp_total (string_bytes y.0)) refl, up.0)
 
 -- where a pair of another key than x was found, and where none was
-pub BeginsWithKey-from_position : {Z : Type 0} (xs : List (String Z × String Z)) (x : String Z × String Z) (r : Option ℕ) → x ≡ get_or xs 0 x → Ascends key_cmp (text_pairs xs)
-    → MatchOption r (AllWithin (HasKey (string_bytes x.0)) xs 0 (length xs)) (λ i. (i < length xs) × HoldsAt (HasOtherKey (string_bytes x.0)) xs i × AllWithin (HasKey (string_bytes x.0)) xs 0 i)
+pub BeginsWithKey-from_position : {Z : Type 0} (xs : List (String Z × String Z)) (x : String Z × String Z)
+    (r : Option ℕ) → x ≡ get_or xs 0 x → Ascends key_cmp (text_pairs xs)
+    → MatchOption r (AllWithin (HasKey (string_bytes x.0)) xs 0 (length xs))
+    (λ i. (i < length xs) × HoldsAt (HasOtherKey (string_bytes x.0)) xs i
+    × AllWithin (HasKey (string_bytes x.0)) xs 0 i)
     → BeginsWithKey (unwrap_or r (length xs)) (text_pairs xs)
 BeginsWithKey-from_position xs x None first up found =
     let key = string_bytes x.0 in
@@ -89,15 +96,17 @@ BeginsWithKey-from_position xs x (Some i) first up found =
     (key, both.0, both.1)
 
 -- the pairs of the first key, sorted, and the others, sorted
-pub sorted_pairs-by_key : (n : ℕ) (ps : List Pair) → BeginsWithKey n ps → sorted_pairs ps ≡ sorted_pairs (take n ps) ++ sorted_pairs (drop n ps)
+pub sorted_pairs-by_key : (n : ℕ) (ps : List Pair) → BeginsWithKey n ps
+    → sorted_pairs ps ≡ sorted_pairs (take n ps) ++ sorted_pairs (drop n ps)
 unfolding sorted_pairs
 sorted_pairs-by_key n ps h =
     ap (sorted pair_cmp) (sym (take-append-drop n ps)) ∙ sorted-append pair_cmp pair_total (take n ps) (drop n ps)
     (all_mapped _ _ (λ p same. all_mapped _ _ (λ q less. below_pair p q (ap (λ k. text_cmp k q.0) same ∙ less)) (drop n ps) h.2) (take n ps) h.1)
 
 -- pairs of one key, sorted by value
-pub sorted_pairs-of_key : {Z : Type 0} (key : List ℕ) (xs ys : List (String Z × String Z)) → AllByRecursion (λ p. p.0 ≡ key) (text_pairs xs)
-    → IsPermutation xs ys → IsSorted (λ x y. string_cmp x.1 y.1) ys → text_pairs ys ≡ sorted_pairs (text_pairs xs)
+pub sorted_pairs-of_key : {Z : Type 0} (key : List ℕ) (xs ys : List (String Z × String Z))
+    → AllByRecursion (λ p. p.0 ≡ key) (text_pairs xs) → IsPermutation xs ys
+    → IsSorted (λ x y. string_cmp x.1 y.1) ys → text_pairs ys ≡ sorted_pairs (text_pairs xs)
 unfolding sorted_pairs
 sorted_pairs-of_key key xs ys one moved up =
     let moved_pairs = IsPermutation-map text_pair xs ys moved in
@@ -112,9 +121,11 @@ Ascends-drop (suc n) [] up = tt
 Ascends-drop (suc n) (p ∷ ps) up = Ascends-drop n ps up.1
 
 -- after the pairs of the first key of what is left were sorted
-one_key_more : (all done rest next : List Pair) (n : ℕ) → BeginsWithKey n rest → n ≤ length rest → length next ≡ length rest
-    → next ≡ sorted_pairs (take n rest) ++ drop n rest → Ascends key_cmp rest → all ≡ done ++ sorted_pairs rest
-    → (all ≡ take (length done + n) (done ++ next) ++ sorted_pairs (drop (length done + n) (done ++ next))) × Ascends key_cmp (drop (length done + n) (done ++ next))
+one_key_more : (all done rest next : List Pair) (n : ℕ) → BeginsWithKey n rest → n ≤ length rest
+    → length next ≡ length rest → next ≡ sorted_pairs (take n rest) ++ drop n rest → Ascends key_cmp rest
+    → all ≡ done ++ sorted_pairs rest
+    → (all ≡ take (length done + n) (done ++ next) ++ sorted_pairs (drop (length done + n) (done ++ next)))
+    × Ascends key_cmp (drop (length done + n) (done ++ next))
 one_key_more all done rest next n first fits as_long is up known =
     let now = sorted_pairs (take n rest) in
     let later = drop n rest in
@@ -139,7 +150,8 @@ module _ {Z : Type 0} (start : ℕ) (xs : List (String Z × String Z)) where
   pub text_pairs-left : text_pairs left ≡ drop start (text_pairs xs)
   text_pairs-left = ap text_pairs (take_rest xs start) ∙ sym (drop-map text_pair start xs)
 
-  texts_after-split : (ys : List (String Z × String Z)) → texts_after ys ≡ take start (text_pairs xs) ++ text_pairs ys
+  texts_after-split : (ys : List (String Z × String Z))
+      → texts_after ys ≡ take start (text_pairs xs) ++ text_pairs ys
   texts_after-split ys =
       map-append text_pair (take start xs) (ys ++ drop (length xs - start) (drop start xs))
       ∙ ap₂ (λ ps qs. ps ++ qs) (sym (take-map text_pair start xs))
@@ -149,8 +161,10 @@ module _ {Z : Type 0} (start : ℕ) (xs : List (String Z × String Z)) where
   pub one_key_sorted : (all : List Pair) (ys : List (String Z × String Z)) (n : ℕ) → start ≤ length xs
       → BeginsWithKey n (text_pairs left) → n ≤ length left → length ys ≡ length left
       → text_pairs ys ≡ sorted_pairs (take n (text_pairs left)) ++ drop n (text_pairs left)
-      → Ascends key_cmp (drop start (text_pairs xs)) → all ≡ take start (text_pairs xs) ++ sorted_pairs (drop start (text_pairs xs))
-      → (all ≡ take (start + n) (texts_after ys) ++ sorted_pairs (drop (start + n) (texts_after ys))) × Ascends key_cmp (drop (start + n) (texts_after ys))
+      → Ascends key_cmp (drop start (text_pairs xs))
+      → all ≡ take start (text_pairs xs) ++ sorted_pairs (drop start (text_pairs xs))
+      → (all ≡ take (start + n) (texts_after ys) ++ sorted_pairs (drop (start + n) (texts_after ys)))
+      × Ascends key_cmp (drop (start + n) (texts_after ys))
   one_key_sorted all ys n low first fits as_long is up known =
       let done = take start (text_pairs xs) in
       let long : length (text_pairs left) ≡ length left = length-map left text_pair in
@@ -160,7 +174,8 @@ module _ {Z : Type 0} (start : ℕ) (xs : List (String Z × String Z)) where
       subst₂ (λ m ps. (all ≡ take (m + n) ps ++ sorted_pairs (drop (m + n) ps)) × Ascends key_cmp (drop (m + n) ps)) place (sym (texts_after-split ys)) more
 
 -- at the end of that loop
-pub all_keys_sorted : (all ps : List Pair) (start : ℕ) → length ps ≤ start → all ≡ take start ps ++ sorted_pairs (drop start ps) → ps ≡ all
+pub all_keys_sorted : (all ps : List Pair) (start : ℕ) → length ps ≤ start
+    → all ≡ take start ps ++ sorted_pairs (drop start ps) → ps ≡ all
 unfolding sorted_pairs
 all_keys_sorted all ps start end known =
     sym (known ∙ (ap₂ (λ qs rs. qs ++ sorted_pairs rs) (take_all start ps end) (drop_all start ps end) ∙ append-nil ps))

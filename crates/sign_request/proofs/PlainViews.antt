@@ -47,7 +47,8 @@ module _ (head : Head) (parts : Parts) (are : ArePartsOf head parts) where
   target : target_of head.uri ≡ Some (plain_target parts.uri)
   target = target_of-Spells head.uri parts.uri are.uri
 
-  head_view_at : (authority : Option (List ℕ)) → uri_authority parts.uri ≡ authority → head_view head ≡ option_map (view_at head (plain_target parts.uri)) authority
+  head_view_at : (authority : Option (List ℕ)) → uri_authority parts.uri ≡ authority
+      → head_view head ≡ option_map (view_at head (plain_target parts.uri)) authority
   unfolding head_view
   head_view_at authority e = rw target (ap (option_map (view_at head (plain_target parts.uri))) e)
 
@@ -56,7 +57,8 @@ module _ (head : Head) (parts : Parts) (are : ArePartsOf head parts) where
   head_view-None none = head_view_at None none
 
   -- the view of the head of `http` is that of the plain head
-  pub head_view-Some : (request : SigningRequest) → IsViewOf parts request → head_view head ≡ Some (plain_view request)
+  pub head_view-Some : (request : SigningRequest) → IsViewOf parts request
+      → head_view head ≡ Some (plain_view request)
   head_view-Some request is =
       let path = sym (target_path_of parts.uri) ∙ sym is.path in
       let method = sym are.method ∙ sym is.method in
@@ -72,7 +74,8 @@ module _ (head : Head) (parts : Parts) (are : ArePartsOf head parts) where
       })
 
   -- the size of the query of a view fits
-  pub QuerySizeFits-IsViewOf : (request : SigningRequest) → IsViewOf parts request → QuerySizeFits (plain_view request)
+  pub QuerySizeFits-IsViewOf : (request : SigningRequest) → IsViewOf parts request
+      → QuerySizeFits (plain_view request)
   QuerySizeFits-IsViewOf request is = rw is.query (query_length-fits head.uri parts.uri are.uri)
 
 -- a refused head is viewed as one
@@ -81,6 +84,7 @@ unfolding view_of
 view_of-refused head refused = rw ((is_accepted_head-fails head).1 refused)
 
 -- a head that is not refused is viewed by its target
-pub view_of-accepted : (head : Head) (view : Option PlainView) → ¬ (RefusesHead head) → head_view head ≡ view → view_of head ≡ ok_or view refusal.Authority
+pub view_of-accepted : (head : Head) (view : Option PlainView) → ¬ (RefusesHead head) → head_view head ≡ view
+    → view_of head ≡ ok_or view refusal.Authority
 unfolding view_of
 view_of-accepted head view fine e = rw (is_accepted_head-true head fine, e)

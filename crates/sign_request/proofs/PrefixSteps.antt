@@ -5,9 +5,9 @@ use Rattle.http_header.specs.FieldValue.{FieldValue}
 use Rattle.sign_request.specs.Query.{Pair}
 use Rattle.sign_request.specs.Headers.{header_pair, with_prefix, AreVisible}
 
-found-next : (yes : Bool) (h : List ℕ × FieldValue) (rest : List (List ℕ × FieldValue)) (before after all : List Pair)
-    → before ++ map header_pair (cond yes (h ∷ rest) rest) ≡ all → after ≡ before ++ map header_pair (cond yes (h ∷ []) [])
-    → after ++ map header_pair rest ≡ all
+found-next : (yes : Bool) (h : List ℕ × FieldValue) (rest : List (List ℕ × FieldValue))
+    (before after all : List Pair) → before ++ map header_pair (cond yes (h ∷ rest) rest) ≡ all
+    → after ≡ before ++ map header_pair (cond yes (h ∷ []) []) → after ++ map header_pair rest ≡ all
 found-next true h rest before after all made more =
     ap (λ (pairs : List Pair). pairs ++ map header_pair rest) more ∙ append_assoc before (header_pair h ∷ []) (map header_pair rest) ∙ made
 found-next false h rest before after all made more =
@@ -30,8 +30,10 @@ visible-later false h rest all = all
 
 -- one header more is looked at
 module _ (prefix : List ℕ) (h : List ℕ × FieldValue) (rest : List (List ℕ × FieldValue)) where
-  pub prefix-found : (before after all : List Pair) → before ++ map header_pair (with_prefix prefix (h ∷ rest)) ≡ all
-      → after ≡ before ++ map header_pair (with_prefix prefix (h ∷ [])) → after ++ map header_pair (with_prefix prefix rest) ≡ all
+  pub prefix-found : (before after all : List Pair)
+      → before ++ map header_pair (with_prefix prefix (h ∷ rest)) ≡ all
+      → after ≡ before ++ map header_pair (with_prefix prefix (h ∷ []))
+      → after ++ map header_pair (with_prefix prefix rest) ≡ all
   prefix-found = found-next (starts_with nat_eq h.0 prefix) h (with_prefix prefix rest)
 
   pub prefix-visible : AreVisible (with_prefix prefix (h ∷ [])) → AreVisible (with_prefix prefix rest)

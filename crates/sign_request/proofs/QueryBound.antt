@@ -85,7 +85,8 @@ pairs_bound (piece ∷ pieces) =
     let lengths = sum_by-cons length piece pieces in
     omega arith
 
-filter_bound : (test : List ℕ → Bool) (pieces : List (List ℕ)) → sum_by length (filter test pieces) ≤ sum_by length pieces
+filter_bound : (test : List ℕ → Bool) (pieces : List (List ℕ))
+    → sum_by length (filter test pieces) ≤ sum_by length pieces
 filter_bound test [] = omega arith
 filter_bound test (piece ∷ pieces) =
     let later = filter_bound test pieces in
@@ -122,7 +123,8 @@ tail_bound tail kept (inl h) = rw h.1 (omega arith)
 tail_bound tail kept (inr h) = let short = h.1.short in let less = without_fragment-le tail in rw h.2 (omega arith)
 
 -- a path and query is no longer than a text may be
-form_bound : (text : List ℕ) (scheme authority : Option (List ℕ)) (kept : List ℕ) → length text ≤ 65534 → IsForm text scheme authority kept → length kept ≤ 65534
+form_bound : (text : List ℕ) (scheme authority : Option (List ℕ)) (kept : List ℕ) → length text ≤ 65534
+    → IsForm text scheme authority kept → length kept ≤ 65534
 form_bound text None None kept short h = let less = without_fragment-le text in rw h.1 (omega arith)
 form_bound text None (Some a) kept short h = rw h.3 (omega arith)
 form_bound text (Some s) None kept short h = absurd h
@@ -135,7 +137,8 @@ query_bound text =
     elim (cases_Bool (ltb n (length text))) [ inl found ↦ rw found (omega arith) | inr none ↦ rw none (omega arith) ]
 
 -- the size of a target's query fits a machine word
-pub query_length-fits : (text : List ℕ) (uri : Uri) → Spells text uri → query_length (target_pairs uri) < 2 ^ 64
+pub query_length-fits : (text : List ℕ) (uri : Uri) → Spells text uri
+    → query_length (target_pairs uri) < 2 ^ 64
 query_length-fits text uri h =
     let pairs = query_length-le (unwrap_or (query_of (uri_data uri)) []) in
     let query = query_bound (uri_data uri) in

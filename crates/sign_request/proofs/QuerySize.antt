@@ -5,14 +5,17 @@ use Rattle.std.specs.declared.string.String.{String}
 use Rattle.std.proofs.lemmas.List.Sums.{sum_by-cons, sum_by_more_le}
 use Rattle.sign_request.specs.Query.{text_pair, text_pairs, query_length}
 
-sum_by-map : {X Y : Type 0} (f : Y → ℕ) (g : X → Y) (xs : List X) → sum_by f (map g xs) ≡ sum_by (λ x. f (g x)) xs
+sum_by-map : {X Y : Type 0} (f : Y → ℕ) (g : X → Y) (xs : List X)
+    → sum_by f (map g xs) ≡ sum_by (λ x. f (g x)) xs
 sum_by-map f g [] = refl
 sum_by-map f g (x ∷ xs) = sum_by-cons f (g x) (map g xs) ∙ (ap (λ n. f (g x) + n) (sum_by-map f g xs) ∙ sym (sum_by-cons (λ y. f (g y)) x xs))
 
 module _ {Z : Type 0} where
   -- the pairs so far and the next one are within the whole
-  pub query_length_more_le : (xs : List (String Z × String Z)) (i : ℕ) (p : String Z × String Z) → i < length xs → p ≡ get_or xs i p
-      → query_length (text_pairs (take i xs)) + (length (string_bytes p.0) + length (string_bytes p.1)) ≤ query_length (text_pairs xs)
+  pub query_length_more_le : (xs : List (String Z × String Z)) (i : ℕ) (p : String Z × String Z)
+      → i < length xs → p ≡ get_or xs i p
+      → query_length (text_pairs (take i xs)) + (length (string_bytes p.0) + length (string_bytes p.1))
+      ≤ query_length (text_pairs xs)
   query_length_more_le xs i p l is =
       let size : String Z × String Z → ℕ = λ q. length (string_bytes q.0) + length (string_bytes q.1) in
       let front = sum_by-map (λ q. length q.0 + length q.1) text_pair (take i xs) in

@@ -63,7 +63,8 @@ no_equals_sign b h = grind (arith, nat_tests)
 
 -- ---- one pair
 -- where the first byte that passes stands
-first_mark : (p : ℕ → Bool) (xs : List ℕ) (y : ℕ) (ys : List ℕ) → All (λ x. p x ≡ false) xs → p y ≡ true → position_or_len p (xs ++ y ∷ ys) ≡ length xs
+first_mark : (p : ℕ → Bool) (xs : List ℕ) (y : ℕ) (ys : List ℕ) → All (λ x. p x ≡ false) xs → p y ≡ true
+    → position_or_len p (xs ++ y ∷ ys) ≡ length xs
 first_mark p [] y ys none marks = rw marks refl
 first_mark p (x ∷ xs) y ys none marks =
     rw (All-head (λ x. p x ≡ false) x xs none)
@@ -90,7 +91,8 @@ pair_no_ampersand p =
     All-append Free (escaped_text p.0) (equals_sign ∷ escaped_text p.1) (free p.0) (All-cons Free equals_sign (escaped_text p.1) refl (free p.1))
 
 -- ---- all pairs
-split-escaped_text : (p : Pair) (ps : List Pair) → slice_split is_ampersand (escaped_query (p ∷ ps)) ≡ map escaped_pair (p ∷ ps)
+split-escaped_text : (p : Pair) (ps : List Pair)
+    → slice_split is_ampersand (escaped_query (p ∷ ps)) ≡ map escaped_pair (p ∷ ps)
 split-escaped_text p [] = slice_split_none is_ampersand (escaped_pair p) (pair_no_ampersand p)
 split-escaped_text p (q ∷ ps) =
     ap (slice_split is_ampersand) (append_snoc (escaped_pair p) ampersand (escaped_query (q ∷ ps)))
@@ -100,7 +102,8 @@ split-escaped_text p (q ∷ ps) =
 pair_not_empty : (p : Pair) → (length (escaped_pair p) == 0) ≡ false
 pair_not_empty p = let long = length-append (escaped_text p.0) (equals_sign ∷ escaped_text p.1) in grind (arith, nat_tests, long)
 
-none_empty : (ps : List Pair) → filter (λ piece. not (length piece == 0)) (map escaped_pair ps) ≡ map escaped_pair ps
+none_empty : (ps : List Pair)
+    → filter (λ piece. not (length piece == 0)) (map escaped_pair ps) ≡ map escaped_pair ps
 none_empty [] = refl
 none_empty (p ∷ ps) = rw (pair_not_empty p) (ap (λ rest. escaped_pair p ∷ rest) (none_empty ps))
 
@@ -112,6 +115,7 @@ read_all : (pairs : List Pair) → AreTexts pairs → map read_pair (map escaped
 read_all [] h = refl
 read_all (p ∷ ps) h = λ i. read-escaped_text p h.0.0 h.0.1 i ∷ read_all ps h.1 i
 
-pub query_pairs-escaped_text : (pairs : List Pair) → AreTexts pairs → query_pairs (escaped_query pairs) ≡ pairs
+pub query_pairs-escaped_text : (pairs : List Pair) → AreTexts pairs
+    → query_pairs (escaped_query pairs) ≡ pairs
 unfolding query_pairs
 query_pairs-escaped_text pairs h = ap (map read_pair) (pieces-escaped_text pairs) ∙ read_all pairs h

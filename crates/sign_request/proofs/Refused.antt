@@ -11,23 +11,25 @@ use Rattle.sign_base.specs.Conversion.{IsOfKind}
 use Rattle.sign_base.specs.Error.{ErrorParts}
 use Rattle.sign_request.specs.Refusal.{IsOutOfMemory, RefusedFor, RefusedAs}
 
-refused_more : {P Q : Type 0} (e : ErrorParts) → (P → Q) → IsOutOfMemory e ⊎ RefusedAs P e → IsOutOfMemory e ⊎ RefusedAs Q e
+refused_more : {P Q : Type 0} (e : ErrorParts) → (P → Q) → IsOutOfMemory e ⊎ RefusedAs P e
+    → IsOutOfMemory e ⊎ RefusedAs Q e
 refused_more e f (inl w) = inl w
 refused_more e f (inr r) = inr (r.0, f r.1)
 
 -- an error that `?` passed on, refused for a cause that follows from its own
-pub passed_on : {T P Q : Type 0} (r : Result T ErrorParts) (e : ErrorParts) → IsErrAnd r (λ y. y ≡ e) → (P → Q)
-    → IsOutOfMemory e ⊎ RefusedAs P e → IfErr r (λ y. IsOutOfMemory y ⊎ RefusedAs Q y)
+pub passed_on : {T P Q : Type 0} (r : Result T ErrorParts) (e : ErrorParts) → IsErrAnd r (λ y. y ≡ e)
+    → (P → Q) → IsOutOfMemory e ⊎ RefusedAs P e → IfErr r (λ y. IsOutOfMemory y ⊎ RefusedAs Q y)
 passed_on r e is f why = let p = err_from_is_err_and r is in rw (p.1, p.2) (refused_more e f why)
 
-refused_more_for : {P Q : Type 0} {message : List ℕ} (e : ErrorParts) → (P → Q) → IsOutOfMemory e ⊎ RefusedFor message P e
-    → IsOutOfMemory e ⊎ RefusedFor message Q e
+refused_more_for : {P Q : Type 0} {message : List ℕ} (e : ErrorParts) → (P → Q)
+    → IsOutOfMemory e ⊎ RefusedFor message P e → IsOutOfMemory e ⊎ RefusedFor message Q e
 refused_more_for e f (inl w) = inl w
 refused_more_for e f (inr r) = inr (r.0, f r.1)
 
 -- the same of a refusal with this message
 pub passed_on_for : {T P Q : Type 0} {message : List ℕ} (r : Result T ErrorParts) (e : ErrorParts)
-    → IsErrAnd r (λ y. y ≡ e) → (P → Q) → IsOutOfMemory e ⊎ RefusedFor message P e → IfErr r (λ y. IsOutOfMemory y ⊎ RefusedFor message Q y)
+    → IsErrAnd r (λ y. y ≡ e) → (P → Q) → IsOutOfMemory e ⊎ RefusedFor message P e
+    → IfErr r (λ y. IsOutOfMemory y ⊎ RefusedFor message Q y)
 passed_on_for r e is f why = let p = err_from_is_err_and r is in rw (p.1, p.2) (refused_more_for e f why)
 
 -- the error that was made of a cause, or out of memory where there was no memory to make it
@@ -54,8 +56,8 @@ made_of_value (Ok m) e value.OutOfMemory is kind memory cause = let wrong = memo
 made_of_value (Err none) e why is kind memory cause = inl is
 
 -- a refusal of the last call, for a cause that follows from its own
-pub passed_up : {T P Q : Type 0} (r : Result T ErrorParts) → (P → Q) → IfErr r (λ y. IsOutOfMemory y ⊎ RefusedAs P y)
-    → IfErr r (λ y. IsOutOfMemory y ⊎ RefusedAs Q y)
+pub passed_up : {T P Q : Type 0} (r : Result T ErrorParts) → (P → Q)
+    → IfErr r (λ y. IsOutOfMemory y ⊎ RefusedAs P y) → IfErr r (λ y. IsOutOfMemory y ⊎ RefusedAs Q y)
 passed_up (Ok x) f why = tt
 passed_up (Err e) f why = refused_more e f why
 

@@ -39,24 +39,29 @@ module _ {X : Type 0} where
   lacks_first e m name lacks = false_from_Decides _ (bytes_eq-Decides e.0 name) (lacks 0 (omega arith))
 
   -- a new name goes last
-  update_new : (m : Entries X) (name : List ℕ) (f : List X → List X) → Lacks m name → update m name f ≡ m ++ (name, f []) ∷ []
+  update_new : (m : Entries X) (name : List ℕ) (f : List X → List X) → Lacks m name
+      → update m name f ≡ m ++ (name, f []) ∷ []
   update_new [] name f lacks = refl
   update_new (e ∷ m) name f lacks = rw (lacks_first e m name lacks) (ap (λ n. e ∷ n) (update_new m name f (lacks_rest e m name lacks)))
 
   -- the last name takes its value
-  update_last : (m : Entries X) (name : List ℕ) (values : List X) (f : List X → List X) → Lacks m name → update (m ++ (name, values) ∷ []) name f ≡ m ++ (name, f values) ∷ []
+  update_last : (m : Entries X) (name : List ℕ) (values : List X) (f : List X → List X) → Lacks m name
+      → update (m ++ (name, values) ∷ []) name f ≡ m ++ (name, f values) ∷ []
   update_last [] name values f lacks = rw ((bytes_eq-Decides name name).1 refl)
   update_last (e ∷ m) name values f lacks = rw (lacks_first e m name lacks) (ap (λ n. e ∷ n) (update_last m name values f (lacks_rest e m name lacks)))
 
   -- more values of the last name
-  entry_goes_on : (m : Entries X) (name : List ℕ) (before values : List X) → Lacks m name → append_all (m ++ (name, before) ∷ []) (entry_pairs (name, values)) ≡ m ++ (name, before ++ values) ∷ []
+  entry_goes_on : (m : Entries X) (name : List ℕ) (before values : List X) → Lacks m name
+      → append_all (m ++ (name, before) ∷ []) (entry_pairs (name, values))
+      ≡ m ++ (name, before ++ values) ∷ []
   entry_goes_on m name before [] lacks = ap (λ all. m ++ (name, all) ∷ []) (sym (append-nil before))
   entry_goes_on m name before (value ∷ values) lacks =
       ap (λ n. append_all n (entry_pairs (name, values))) (update_last m name before (λ old. old ++ value ∷ []) lacks)
       ∙ (entry_goes_on m name (before ++ value ∷ []) values lacks ∙ ap (λ all. m ++ (name, all) ∷ []) (append_assoc before (value ∷ []) values))
 
   -- all values of a new name
-  entry_comes : (m : Entries X) (e : Entry X) → 0 < length e.1 → Lacks m e.0 → append_all m (entry_pairs e) ≡ m ++ e ∷ []
+  entry_comes : (m : Entries X) (e : Entry X) → 0 < length e.1 → Lacks m e.0
+      → append_all m (entry_pairs e) ≡ m ++ e ∷ []
   entry_comes m (name, []) some lacks = absurd (omega arith)
   entry_comes m (name, value ∷ values) some lacks =
       ap (λ n. append_all n (entry_pairs (name, values))) (update_new m name (λ old. old ++ value ∷ []) lacks) ∙ entry_goes_on m name (value ∷ []) values lacks
@@ -71,7 +76,8 @@ module _ {X : Type 0} where
   entry_at-here (d ∷ m) e later = entry_at-here m e later
 
   -- the headers of entries whose names are new are appended as they stand
-  append_all-pairs : (m later : Entries X) → IsUnique (m ++ later) → All (λ e. 0 < length e.1) later → append_all m (pairs later) ≡ m ++ later
+  append_all-pairs : (m later : Entries X) → IsUnique (m ++ later) → All (λ e. 0 < length e.1) later
+      → append_all m (pairs later) ≡ m ++ later
   unfolding Lacks
   append_all-pairs m [] unique filled = sym (append-nil m)
   append_all-pairs m (e ∷ later) unique filled =
@@ -96,7 +102,8 @@ unique_plain m unique = λ i j p q same.
     let len = length-map m plain_entry in
     unique i j (omega arith) (omega arith) (sym (plain_name m i) ∙ (same ∙ plain_name m j))
 
-filled_plain : (m : Entries FieldValue) → All (λ e. 0 < length e.1) m → All (λ e. 0 < length e.1) (map plain_entry m)
+filled_plain : (m : Entries FieldValue) → All (λ e. 0 < length e.1) m
+    → All (λ e. 0 < length e.1) (map plain_entry m)
 filled_plain [] filled = λ k d within. absurd (omega arith)
 filled_plain (e ∷ m) filled =
     let len = length-map e.1 (λ value. plain_value value.bytes) in
@@ -112,12 +119,14 @@ unfolding lifted
 lifted-fields [] = refl
 lifted-fields (f ∷ fields) = ap (λ rest. header_of f ∷ rest) (lifted-fields fields)
 
-lifted-entry : (name : List ℕ) (values : List FieldValue) → lowercase name ≡ name → map lifted (map header_pair (entry_pairs (name, values))) ≡ entry_pairs (plain_entry (name, values))
+lifted-entry : (name : List ℕ) (values : List FieldValue) → lowercase name ≡ name
+    → map lifted (map header_pair (entry_pairs (name, values))) ≡ entry_pairs (plain_entry (name, values))
 unfolding lifted
 lifted-entry name [] low = refl
 lifted-entry name (value ∷ values) low = λ i. (low i, plain_value value.bytes) ∷ lifted-entry name values low i
 
-lifted-pairs : (m : Entries FieldValue) → All (λ e. IsHeaderName e.0) m → map lifted (map header_pair (pairs m)) ≡ pairs (map plain_entry m)
+lifted-pairs : (m : Entries FieldValue) → All (λ e. IsHeaderName e.0) m
+    → map lifted (map header_pair (pairs m)) ≡ pairs (map plain_entry m)
 lifted-pairs [] names = refl
 lifted-pairs (e ∷ m) names =
     let here = lifted-entry e.0 e.1 (names 0 e (omega arith)).1 in
@@ -126,7 +135,9 @@ lifted-pairs (e ∷ m) names =
     ∙ (map-append lifted (map header_pair (entry_pairs e)) (map header_pair (pairs m)) ∙ (λ i. here i ++ later i))
 
 -- a map whose headers are given one after another is made again, with plain values
-header_map_back : (m : Entries FieldValue) (fields : List Field) → IsHeaderMap m → All (λ e. IsHeaderName e.0) m → map field_pair fields ≡ map header_pair (pairs m) → header_map fields ≡ map plain_entry m
+header_map_back : (m : Entries FieldValue) (fields : List Field) → IsHeaderMap m
+    → All (λ e. IsHeaderName e.0) m → map field_pair fields ≡ map header_pair (pairs m)
+    → header_map fields ≡ map plain_entry m
 header_map_back m fields valid names same =
     ap (append_all []) (lifted-fields fields ∙ (ap (map lifted) same ∙ lifted-pairs m names))
     ∙ append_all-pairs [] (map plain_entry m) (unique_plain m valid.unique) (filled_plain m valid.filled)
@@ -139,7 +150,8 @@ has_parts scheme authority path query v =
     && (pointwise nat_eq path (uri_path v) && option_eq (pointwise nat_eq) query (uri_query v)))
 
 -- URIs with the same four parts are equal
-same_uri : (u v : Uri) → uri_scheme u ≡ uri_scheme v → uri_authority u ≡ uri_authority v → uri_path u ≡ uri_path v → uri_query u ≡ uri_query v → uri_eq u v ≡ true
+same_uri : (u v : Uri) → uri_scheme u ≡ uri_scheme v → uri_authority u ≡ uri_authority v
+    → uri_path u ≡ uri_path v → uri_query u ≡ uri_query v → uri_eq u v ≡ true
 unfolding has_parts
 same_uri u v scheme authority path query =
     ap (λ (s : Option (List ℕ)). has_parts s (uri_authority u) (uri_path u) (uri_query u) v) scheme
@@ -149,7 +161,8 @@ same_uri u v scheme authority path query =
     ∙ uri_eq_equiv.refl v)))
 
 -- a parsed head comes back
-pub comes_back : (parts again : Parts) (head : Head) → IsParsed parts → IsHeadOf parts head → ArePartsOf head again → ComesBack parts again
+pub comes_back : (parts again : Parts) (head : Head) → IsParsed parts → IsHeadOf parts head
+    → ArePartsOf head again → ComesBack parts again
 comes_back parts again head parsed plain are =
     let target = uri_text_round_trip parsed.text parts.uri again.uri parsed.spelled (subst (λ (text : List ℕ). Spells text again.uri) plain.uri are.uri) in
     record {

@@ -11,7 +11,8 @@ module _ {Z : Type 0} where
   abbrev pub same_pair : String Z × String Z → String Z × String Z → Bool
   same_pair p q = string_eq p.0 q.0 && string_eq p.1 q.1
 
-  pub text_pairs-from_same : (ps qs : List (String Z × String Z)) → pointwise same_pair ps qs ≡ true → text_pairs ps ≡ text_pairs qs
+  pub text_pairs-from_same : (ps qs : List (String Z × String Z)) → pointwise same_pair ps qs ≡ true
+      → text_pairs ps ≡ text_pairs qs
   text_pairs-from_same [] [] h = refl
   text_pairs-from_same [] (q ∷ qs) h = cc
   text_pairs-from_same (p ∷ ps) [] h = cc
@@ -20,7 +21,8 @@ module _ {Z : Type 0} where
       let sides = and_parts (string_eq p.0 q.0) (string_eq p.1 q.1) both.0 in
       λ i. ((bytes_decides (string_bytes p.0) (string_bytes q.0)).0 sides.0 i, (bytes_decides (string_bytes p.1) (string_bytes q.1)).0 sides.1 i) ∷ text_pairs-from_same ps qs both.1 i
 
-  pub same-from_text_pairs : (ps qs : List (String Z × String Z)) → text_pairs ps ≡ text_pairs qs → pointwise same_pair ps qs ≡ true
+  pub same-from_text_pairs : (ps qs : List (String Z × String Z)) → text_pairs ps ≡ text_pairs qs
+      → pointwise same_pair ps qs ≡ true
   same-from_text_pairs [] [] h = refl
   same-from_text_pairs [] (q ∷ qs) h = cc
   same-from_text_pairs (p ∷ ps) [] h = cc

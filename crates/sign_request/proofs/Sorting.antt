@@ -31,11 +31,13 @@ neither Equal h k = refl
 neither Greater h k = cc
 
 module _ {X : Type 0} where
-  pub all_mapped : (P Q : X → Type 0) → ((x : X) → P x → Q x) → (xs : List X) → AllByRecursion P xs → AllByRecursion Q xs
+  pub all_mapped : (P Q : X → Type 0) → ((x : X) → P x → Q x) → (xs : List X) → AllByRecursion P xs
+      → AllByRecursion Q xs
   all_mapped P Q f [] h = tt
   all_mapped P Q f (x ∷ xs) h = (f x h.0, all_mapped P Q f xs h.1)
 
-  all_from_places : (P : X → Type 0) (xs : List X) → ((k : ℕ) (d : X) → k < length xs → P (get_or xs k d)) → AllByRecursion P xs
+  all_from_places : (P : X → Type 0) (xs : List X) → ((k : ℕ) (d : X) → k < length xs → P (get_or xs k d))
+      → AllByRecursion P xs
   all_from_places P [] h = tt
   all_from_places P (x ∷ xs) h = (h 0 x (omega arith), all_from_places P xs (λ k d l. h (suc k) d (omega arith)))
 
@@ -56,7 +58,8 @@ module _ {X : Type 0} where
     sum_by-sorted f [] = refl
     sum_by-sorted f (x ∷ xs) = sum_by-insert f x (sorted cmp xs) ∙ (ap (λ n. f x + n) (sum_by-sorted f xs) ∙ sym (sum_by-cons f x xs))
 
-    all_inserted : (P : X → Type 0) (x : X) (ys : List X) → P x → AllByRecursion P ys → AllByRecursion P (insert_sorted cmp x ys)
+    all_inserted : (P : X → Type 0) (x : X) (ys : List X) → P x → AllByRecursion P ys
+        → AllByRecursion P (insert_sorted cmp x ys)
     all_inserted P x [] p h = (p, tt)
     all_inserted P x (y ∷ ys) p h =
         elim (cases_Bool (is_gt (cmp x y))) [
@@ -68,7 +71,8 @@ module _ {X : Type 0} where
     all_sorted P [] h = tt
     all_sorted P (x ∷ xs) h = all_inserted P x (sorted cmp xs) h.0 (all_sorted P xs h.1)
 
-    insert-append : (x : X) (xs ys : List X) → AllByRecursion (λ y. is_gt (cmp x y) ≡ false) ys → insert_sorted cmp x (xs ++ ys) ≡ insert_sorted cmp x xs ++ ys
+    insert-append : (x : X) (xs ys : List X) → AllByRecursion (λ y. is_gt (cmp x y) ≡ false) ys
+        → insert_sorted cmp x (xs ++ ys) ≡ insert_sorted cmp x xs ++ ys
     insert-append x [] [] h = refl
     insert-append x [] (y ∷ ys) h = rw h.0 refl
     insert-append x (z ∷ xs) ys h =
@@ -78,7 +82,9 @@ module _ {X : Type 0} where
         ]
 
     -- two lists of which no element of the first is above one of the second
-    pub sorted-append : (xs ys : List X) → AllByRecursion (λ x. AllByRecursion (λ y. is_gt (cmp x y) ≡ false) ys) xs → sorted cmp (xs ++ ys) ≡ sorted cmp xs ++ sorted cmp ys
+    pub sorted-append : (xs ys : List X)
+        → AllByRecursion (λ x. AllByRecursion (λ y. is_gt (cmp x y) ≡ false) ys) xs
+        → sorted cmp (xs ++ ys) ≡ sorted cmp xs ++ sorted cmp ys
     sorted-append [] ys h = refl
     sorted-append (x ∷ xs) ys h =
         ap (insert_sorted cmp x) (sorted-append xs ys h.1) ∙ insert-append x (sorted cmp xs) (sorted cmp ys) (all_sorted (λ y. is_gt (cmp x y) ≡ false) ys h.0)
@@ -110,7 +116,8 @@ module _ {X : Type 0} where
 
     module _ (same : (x y : X) → cmp x y ≡ Equal → x ≡ y) where
       -- the first of an ascending list is not above what another one with the same elements begins with
-      first_not_above : (x y : X) (xs ys : List X) → Ascends cmp (x ∷ xs) → ((f : X → ℕ) → sum_by f (x ∷ xs) ≡ sum_by f (y ∷ ys)) → is_gt (cmp x y) ≡ false
+      first_not_above : (x y : X) (xs ys : List X) → Ascends cmp (x ∷ xs)
+          → ((f : X → ℕ) → sum_by f (x ∷ xs) ≡ sum_by f (y ∷ ys)) → is_gt (cmp x y) ≡ false
       first_not_above x y xs ys h e =
           let below : X → ℕ = λ z. cond (is_gt (cmp x z)) 1 0 in
           let none : sum_by below (x ∷ xs) ≡ 0 = no_sum below (x ∷ xs) (rw (tied_itself o x) refl, all_mapped _ _ (λ z b. rw b refl) xs h.0) in
@@ -119,7 +126,8 @@ module _ {X : Type 0} where
             | inr n ↦ n
           ]
 
-      pub one_order : (xs ys : List X) → Ascends cmp xs → Ascends cmp ys → ((f : X → ℕ) → sum_by f xs ≡ sum_by f ys) → xs ≡ ys
+      pub one_order : (xs ys : List X) → Ascends cmp xs → Ascends cmp ys
+          → ((f : X → ℕ) → sum_by f xs ≡ sum_by f ys) → xs ≡ ys
       one_order [] [] h k e = refl
       one_order [] (y ∷ ys) h k e = absurd (let one = e (λ _. 1) in let some = sum_by-cons (λ _. 1) y ys in omega (arith, one, some))
       one_order (x ∷ xs) [] h k e = absurd (let one = e (λ _. 1) in let some = sum_by-cons (λ _. 1) x xs in omega (arith, one, some))

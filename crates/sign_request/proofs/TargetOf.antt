@@ -28,14 +28,16 @@ origin_target text = record { scheme = None; authority = None; path_and_query = 
 abbrev authority_target : List ℕ → PlainTarget
 authority_target text = record { scheme = None; authority = Some text; path_and_query = [] }
 
-tail_from_test : (tail : List ℕ) → EndsAuthority tail → (eqb (length tail) 0 ≡ true) ⊎ IsPathInput tail → IsTail tail (kept_tail tail)
+tail_from_test : (tail : List ℕ) → EndsAuthority tail → (eqb (length tail) 0 ≡ true) ⊎ IsPathInput tail
+    → IsTail tail (kept_tail tail)
 tail_from_test [] ends h = inl (refl, refl)
 tail_from_test (b ∷ tail) ends (inl none) = absurd (omega (arith, (Decides-eqb (length (b ∷ tail)) 0).0 none))
 tail_from_test (b ∷ tail) ends (inr input) =
     let some : eqb (length (b ∷ tail)) 0 ≡ false = false_from_Decides _ (Decides-eqb (length (b ∷ tail)) 0) (λ e. absurd (omega (arith, e))) in
     inr (ends (omega arith), input, rw some refl)
 
-tail_to_test : (tail kept : List ℕ) → IsTail tail kept → ((eqb (length tail) 0 ≡ true) ⊎ IsPathInput tail) × (kept ≡ kept_tail tail)
+tail_to_test : (tail kept : List ℕ) → IsTail tail kept
+    → ((eqb (length tail) 0 ≡ true) ⊎ IsPathInput tail) × (kept ≡ kept_tail tail)
 tail_to_test tail kept (inl h) = (inl (rw h.0 refl), h.1 ∙ rw h.0 refl)
 tail_to_test [] kept (inr h) = absurd (let mark = h.0 in cc)
 tail_to_test (b ∷ tail) kept (inr h) =
@@ -43,7 +45,8 @@ tail_to_test (b ∷ tail) kept (inr h) =
     (inr h.1, h.2 ∙ rw some refl)
 
 -- the tail of an absolute URI passes its test exactly if it is one
-tail-Decides : (tail : List ℕ) → Decides ((eqb (length tail) 0) || is_path_input tail) ((eqb (length tail) 0 ≡ true) ⊎ IsPathInput tail)
+tail-Decides : (tail : List ℕ)
+    → Decides ((eqb (length tail) 0) || is_path_input tail) ((eqb (length tail) 0 ≡ true) ⊎ IsPathInput tail)
 tail-Decides tail = Decides-or _ _ (λ yes. yes, λ yes. yes) (is_path_input-Decides tail)
 
 module _ (text : List ℕ) where
@@ -59,7 +62,9 @@ module _ (text : List ℕ) where
   abbrev tail : List ℕ
   tail = drop (authority_len rest) rest
 
-  pieces-Decides : Decides (is_scheme name && (is_authority authority && ((eqb (length tail) 0) || is_path_input tail))) (IsScheme name × (IsAuthority authority × ((eqb (length tail) 0 ≡ true) ⊎ IsPathInput tail)))
+  pieces-Decides : Decides
+      (is_scheme name && (is_authority authority && ((eqb (length tail) 0) || is_path_input tail)))
+      (IsScheme name × (IsAuthority authority × ((eqb (length tail) 0 ≡ true) ⊎ IsPathInput tail)))
   pieces-Decides = Decides-and _ _ (is_scheme-Decides name) (Decides-and _ _ (is_authority-Decides authority) (tail-Decides tail))
 
   absolute_form-sound : (t : PlainTarget) → HasScheme text → absolute_form text ≡ Some t → IsFormOf text t
@@ -71,7 +76,8 @@ module _ (text : List ℕ) where
       (absolute_from_cuts text (normal_scheme name) authority (kept_tail tail) (scheme_len text) (authority_len rest) has refl pieces.0 refl refl pieces.1.0
       (tail_from_test tail (authority_ends rest) pieces.1.1))
 
-  absolute_form-complete : (s a k : List ℕ) → IsAbsoluteForm text s a k → absolute_form text ≡ Some (record { scheme = Some s; authority = Some a; path_and_query = k })
+  absolute_form-complete : (s a k : List ℕ) → IsAbsoluteForm text s a k
+      → absolute_form text ≡ Some (record { scheme = Some s; authority = Some a; path_and_query = k })
   unfolding absolute_form
   absolute_form-complete s a k h =
       let front = cut_name text s a k h in
@@ -102,7 +108,8 @@ module _ (text : List ℕ) where
   not_origin : IsAuthority text → text ≢ 42 ∷ [] → starts_origin text ≡ false
   not_origin is other = false_from_Decides _ (starts_origin-Decides text) (λ start. elim start [ inl star ↦ other star | inr slash ↦ IsAuthority_first text is slash ])
 
-  form_of-complete : (s a : Option (List ℕ)) (k : List ℕ) → IsForm text s a k → form_of text ≡ Some (record { scheme = s; authority = a; path_and_query = k })
+  form_of-complete : (s a : Option (List ℕ)) (k : List ℕ) → IsForm text s a k
+      → form_of text ≡ Some (record { scheme = s; authority = a; path_and_query = k })
   unfolding form_of
   form_of-complete None None k h = rw ((starts_origin-Decides text).1 h.0.0, (is_path_input-Decides text).1 h.0.1, h.1)
   form_of-complete None (Some a) k h =
@@ -115,7 +122,8 @@ module _ (text : List ℕ) where
       rw (other, (has_scheme-Decides text).1 (cut_scheme text s a k h)) (absolute_form-complete s a k h)
 
   -- what is read is spelled
-  pub target_of-sound : (t : PlainTarget) → target_of text ≡ Some t → IsUriText text t.scheme t.authority t.path_and_query
+  pub target_of-sound : (t : PlainTarget) → target_of text ≡ Some t
+      → IsUriText text t.scheme t.authority t.path_and_query
   unfolding target_of
   target_of-sound t e =
       elim (cases_Bool (ltb 65534 (length text))) [
@@ -124,7 +132,8 @@ module _ (text : List ℕ) where
       ]
 
   -- what is spelled is read
-  pub target_of-complete : (s a : Option (List ℕ)) (k : List ℕ) → IsUriText text s a k → target_of text ≡ Some (record { scheme = s; authority = a; path_and_query = k })
+  pub target_of-complete : (s a : Option (List ℕ)) (k : List ℕ) → IsUriText text s a k
+      → target_of text ≡ Some (record { scheme = s; authority = a; path_and_query = k })
   unfolding target_of
   target_of-complete s a k h =
       let short : ltb 65534 (length text) ≡ false = grind (arith, nat_tests, h.0) in

@@ -32,7 +32,8 @@ may_follow-Decides front b =
     Decides-like _ (λ h. record { byte = h.0; colons = h.1.0; opening = h.1.1.0; closing = h.1.1.1 })
     (λ h. (h.byte, (h.colons, (h.opening, h.closing)))) all
 
-each_may_follow-Decides : (text : List ℕ) → Decides (each_may_follow text) ((i : ℕ) → i < length text → MayFollow (take i text) (get_or text i 0))
+each_may_follow-Decides : (text : List ℕ)
+    → Decides (each_may_follow text) ((i : ℕ) → i < length text → MayFollow (take i text) (get_or text i 0))
 unfolding each_may_follow
 each_may_follow-Decides text =
     let step : (i : ℕ) → Decides (may_follow (take i text) (get_or text i 0)) (MayFollow (take i text) (get_or text i 0)) = λ i. may_follow-Decides _ _ in
@@ -65,13 +66,16 @@ empty-Decides : (text : List ℕ) → Decides (eqb (length text) 0) (text ≡ []
 empty-Decides [] = (λ _. refl, λ _. refl)
 empty-Decides (b ∷ text) = (λ yes. absurd (let none = (Decides-eqb (length (b ∷ text)) 0).0 yes in omega (arith, none)), λ e. absurd (let none = ap length e in omega (arith, none)))
 
-may_start_path-Decides : (text : List ℕ) → Decides (may_start_path text) ((text ≡ []) ⊎ ((text ≡ 42 ∷ []) ⊎ ((get_or text 0 0 ≡ 47) ⊎ (get_or text 0 0 ≡ 63))))
+may_start_path-Decides : (text : List ℕ)
+    → Decides (may_start_path text)
+    ((text ≡ []) ⊎ ((text ≡ 42 ∷ []) ⊎ ((get_or text 0 0 ≡ 47) ⊎ (get_or text 0 0 ≡ 63))))
 unfolding may_start_path
 may_start_path-Decides text =
     Decides-or _ _ (empty-Decides text)
     (Decides-or _ _ (is_asterisk-Decides text) (Decides-or _ _ (Decides-eqb (get_or text 0 0) 47) (Decides-eqb (get_or text 0 0) 63)))
 
-query-Decides : (query : Option (List ℕ)) → Decides (option_map_or (list_all is_query_byte) query true) (IfSome query (AllPass is_query_byte))
+query-Decides : (query : Option (List ℕ))
+    → Decides (option_map_or (list_all is_query_byte) query true) (IfSome query (AllPass is_query_byte))
 query-Decides None = (λ _. tt, λ _. refl)
 query-Decides (Some query) = Decides-list_all is_query_byte query
 

@@ -37,7 +37,8 @@ pub pair_total : IsTotalOrder pair_cmp
 pair_total = then_total (on_total (λ p. p.0) nat_list_cmp_total) (on_total (λ p. p.1) nat_list_cmp_total)
 
 -- what is sorted by what it shows, shows a sorted list
-pub IsSorted-map : {X Y : Type 0} (shows : X → Y) (cmp : Y → Y → Ordering) (xs : List X) → IsSorted (λ x y. cmp (shows x) (shows y)) xs → IsSorted cmp (map shows xs)
+pub IsSorted-map : {X Y : Type 0} (shows : X → Y) (cmp : Y → Y → Ordering) (xs : List X)
+    → IsSorted (λ x y. cmp (shows x) (shows y)) xs → IsSorted cmp (map shows xs)
 IsSorted-map shows cmp [] up = λ k d low high. absurd (omega arith)
 IsSorted-map shows cmp (x ∷ xs) up = λ k d low high.
     let as_long = length-map (x ∷ xs) shows in
@@ -49,7 +50,8 @@ unfolding sorted_pairs
 sorted_pairs-IsPermutation ps qs moved = sorted-IsPermutation pair_cmp pair_total same_pair ps qs moved
 
 -- the names of a map after a sort
-pub sorted_names-from_sort : (headers : Entries FieldValue) (xs ys : List (Bor (List ℕ))) → map (λ name. name.now) xs ≡ keys headers → IsPermutation xs ys
+pub sorted_names-from_sort : (headers : Entries FieldValue) (xs ys : List (Bor (List ℕ)))
+    → map (λ name. name.now) xs ≡ keys headers → IsPermutation xs ys
     → IsSorted (λ x y. text_cmp x.now y.now) ys → map (λ name. name.now) ys ≡ sorted_names headers
 unfolding sorted_names
 sorted_names-from_sort headers xs ys all moved up =
@@ -57,6 +59,7 @@ sorted_names-from_sort headers xs ys all moved up =
     (IsPermutation-map (λ name. name.now) xs ys moved) (IsSorted-map (λ name. name.now) text_cmp ys up) ∙ ap (sorted text_cmp) all
 
 -- nor does it for a text of them
-pub canonical_text-IsPermutation : (pair_text : Pair → List ℕ) (between : List ℕ) (ps qs : List Pair) → IsPermutation ps qs → canonical_text pair_text between ps ≡ canonical_text pair_text between qs
+pub canonical_text-IsPermutation : (pair_text : Pair → List ℕ) (between : List ℕ) (ps qs : List Pair)
+    → IsPermutation ps qs → canonical_text pair_text between ps ≡ canonical_text pair_text between qs
 unfolding canonical_text
 canonical_text-IsPermutation pair_text between ps qs moved = ap (λ rs. joined_texts between (map pair_text rs)) (sorted_pairs-IsPermutation ps qs moved)

@@ -37,7 +37,8 @@ module _ (p : ℕ → Bool) where
       ]
 
   -- what passes from the back on ends at a byte that fails
-  suffix_stops : (xs : List ℕ) → suffix_len p xs < length xs → p (get_or xs (length xs - suffix_len p xs - 1) 0) ≡ false
+  suffix_stops : (xs : List ℕ) → suffix_len p xs < length xs
+      → p (get_or xs (length xs - suffix_len p xs - 1) 0) ≡ false
   suffix_stops xs some =
       let long = length-reverse xs in
       let fails : p (get_or (reverse xs) (suffix_len p xs) 0) ≡ false = prefix_len_stops p (reverse xs) 0 (omega (arith, long)) in
@@ -47,23 +48,27 @@ module _ (p : ℕ → Bool) where
 
 -- where a byte is no space, trimming keeps a range
 trimmed_value-some : (bytes : List ℕ) → prefix_len is_blank bytes < length bytes
-    → trimmed_value bytes ≡ slice_range bytes (prefix_len is_blank bytes) (length bytes - suffix_len is_blank bytes)
+    → trimmed_value bytes
+    ≡ slice_range bytes (prefix_len is_blank bytes) (length bytes - suffix_len is_blank bytes)
 unfolding trimmed_value
 trimmed_value-some bytes some = rw (any_fails is_blank bytes, lt-ltb (prefix_len is_blank bytes) (length bytes) some) refl
 
 -- the range that trimming keeps
-pub trimmed_value-range : (bytes : List ℕ) (end : ℕ) → prefix_len is_blank bytes < length bytes → end + suffix_len is_blank bytes ≡ length bytes
+pub trimmed_value-range : (bytes : List ℕ) (end : ℕ) → prefix_len is_blank bytes < length bytes
+    → end + suffix_len is_blank bytes ≡ length bytes
     → slice_range bytes (prefix_len is_blank bytes) end ≡ trimmed_value bytes
 trimmed_value-range bytes end some e =
     let same : end ≡ length bytes - suffix_len is_blank bytes = omega arith in
     ap (slice_range bytes (prefix_len is_blank bytes)) same ∙ sym (trimmed_value-some bytes some)
 
-pub trimmed_value-all : (bytes : List ℕ) → prefix_len is_blank bytes ≡ length bytes → trimmed_value bytes ≡ bytes
+pub trimmed_value-all : (bytes : List ℕ) → prefix_len is_blank bytes ≡ length bytes
+    → trimmed_value bytes ≡ bytes
 unfolding trimmed_value
 trimmed_value-all bytes e = rw (any_fails is_blank bytes, le-ltb (prefix_len is_blank bytes) (length bytes) (omega arith)) refl
 
 -- a value that begins and ends with another byte stays
-trimmed_value-same : (bytes : List ℕ) → 0 < length bytes → is_blank (get_or bytes 0 0) ≡ false → is_blank (get_or bytes (length bytes - 1) 0) ≡ false → trimmed_value bytes ≡ bytes
+trimmed_value-same : (bytes : List ℕ) → 0 < length bytes → is_blank (get_or bytes 0 0) ≡ false
+    → is_blank (get_or bytes (length bytes - 1) 0) ≡ false → trimmed_value bytes ≡ bytes
 trimmed_value-same bytes some first last =
     let front : prefix_len is_blank bytes ≡ 0 = prefix_len_is is_blank bytes 0 0 (omega arith) (λ k l. absurd (omega arith)) (λ l. first) in
     let back : suffix_len is_blank bytes ≡ length bytes - length bytes =

@@ -10,7 +10,8 @@ use Rattle.signctl_audit.specs.declared.audit_line.Subject.TheVariants.{Cache, H
 use Rattle.signctl_audit.specs.declared.claimed_reply.ClaimedReply.{ClaimedReply}
 
 -- one more line
-pub account-more : (lines : List AuditLine) (line : AuditLine) → account_of (lines ++ line ∷ []) ≡ with_line (account_of lines) line
+pub account-more : (lines : List AuditLine) (line : AuditLine)
+    → account_of (lines ++ line ∷ []) ≡ with_line (account_of lines) line
 unfolding account_of
 account-more lines line = fold-append with_line no_lines lines (line ∷ [])
 
@@ -26,7 +27,8 @@ line-items a VersionTwo = omega arith
 line-items a (Says item) = rw (length-append a.items (item ∷ [])) (omega arith)
 line-items a (Claims claimed) = omega arith
 
-few_entries : (a : Account) (claimed : ClaimedReply) (subject : Option Subject) → length (entries_with a claimed subject) ≤ length a.entries + 1
+few_entries : (a : Account) (claimed : ClaimedReply) (subject : Option Subject)
+    → length (entries_with a claimed subject) ≤ length a.entries + 1
 few_entries a claimed None = omega arith
 few_entries a claimed (Some (Cache n)) = omega arith
 few_entries a claimed (Some (Handle n)) = omega arith
@@ -41,11 +43,13 @@ lines-from : (lines : List AuditLine) (a : Account) → (fold with_line a lines)
 lines-from [] a = omega arith
 lines-from (line ∷ rest) a = omega (arith, lines-from rest (with_line a line), line-counts a line)
 
-items-from : (lines : List AuditLine) (a : Account) → length (fold with_line a lines).items ≤ length a.items + length lines
+items-from : (lines : List AuditLine) (a : Account)
+    → length (fold with_line a lines).items ≤ length a.items + length lines
 items-from [] a = omega arith
 items-from (line ∷ rest) a = omega (arith, items-from rest (with_line a line), line-items a line)
 
-entries-from : (lines : List AuditLine) (a : Account) → length (fold with_line a lines).entries ≤ length a.entries + length lines
+entries-from : (lines : List AuditLine) (a : Account)
+    → length (fold with_line a lines).entries ≤ length a.entries + length lines
 entries-from [] a = omega arith
 entries-from (line ∷ rest) a = omega (arith, entries-from rest (with_line a line), line-entries a line)
 

@@ -30,32 +30,40 @@ use Rattle.signctl_audit.specs.declared.claimed_reply.ClaimedReply.{ClaimedReply
 use Rattle.signctl_audit.proofs.PlainEntries.{call_of-plain, reply-plain, allocates-plain, blockers-plain, counts-plain}
 
 -- a claim that an allocation failed, which may be, is right
-pub subject-excused : (a : Account) (subject : Subject) (claimed : ClaimedReply) (text : List ℕ) → (is_missed claimed && may_miss a subject) ≡ true → None ≡ subject_error a subject claimed text
+pub subject-excused : (a : Account) (subject : Subject) (claimed : ClaimedReply) (text : List ℕ)
+    → (is_missed claimed && may_miss a subject) ≡ true → None ≡ subject_error a subject claimed text
 subject-excused a subject claimed text excused = rw excused refl
 
 -- any other claim is compared
-pub subject-compared : (a : Account) (subject : Subject) (claimed : ClaimedReply) (text : List ℕ) → (is_missed claimed && may_miss a subject) ≡ false
+pub subject-compared : (a : Account) (subject : Subject) (claimed : ClaimedReply) (text : List ℕ)
+    → (is_missed claimed && may_miss a subject) ≡ false
     → due_error (due_of a subject) (behind_of a subject) text ≡ subject_error a subject claimed text
 subject-compared a subject claimed text excused = rw excused refl
 
 module _ (audit : AuditState ScriptCredential ScriptRule) (a : Account) (stands : IsAudited audit a) where
   -- the expected reply
-  reply-is : (event : Event ScriptCredential) → expected_reply script_policy (setup_of audit.desk) (committed_entries stands.stepped) event ≡ reply_due a (plain_event event)
+  reply-is : (event : Event ScriptCredential)
+      → expected_reply script_policy (setup_of audit.desk) (committed_entries stands.stepped) event
+      ≡ reply_due a (plain_event event)
   reply-is event =
       sym (reply-plain (setup_of audit.desk) stands.stepped event)
       ∙ ap (λ (s : Setup ScriptRule). expected_reply script_policy s (committed_entries (plain_entries stands.stepped)) (plain_event event)) stands.setup
       ∙ ap (λ (t : List (Entry ScriptCredential)). expected_reply script_policy (setup_in a.items) (committed_entries t) (plain_event event)) stands.entries
 
   -- a legal reply other than out of memory is the expected one
-  pub due-is : (event seen : Event ScriptCredential) (reply : Reply ScriptCredential) → plain_event event ≡ seen
-      → IsLegalEntry script_policy (setup_of audit.desk) (committed_entries stands.stepped) (record { event = event; reply = reply })
+  pub due-is : (event seen : Event ScriptCredential) (reply : Reply ScriptCredential)
+      → plain_event event ≡ seen
+      → IsLegalEntry script_policy (setup_of audit.desk) (committed_entries stands.stepped)
+      (record { event = event; reply = reply })
       → is_out_of_memory reply ≡ false → reply ≡ reply_due a seen
   due-is event seen reply is_seen (inl expected) in_memory = expected ∙ reply-is event ∙ ap (λ (e : Event ScriptCredential). reply_due a e) is_seen
   due-is event seen reply is_seen (inr lost) in_memory =
       let e : is_out_of_memory reply ≡ true = ap (λ (r : Reply ScriptCredential). is_out_of_memory r) lost.0 in absurd cc
 
   -- whether it may run out of memory
-  pub may-is : (event seen : Event ScriptCredential) → plain_event event ≡ seen → allocates script_policy (setup_of audit.desk) (committed_entries stands.stepped) event ≡ may_miss a (Happened seen)
+  pub may-is : (event seen : Event ScriptCredential) → plain_event event ≡ seen
+      → allocates script_policy (setup_of audit.desk) (committed_entries stands.stepped) event
+      ≡ may_miss a (Happened seen)
   may-is event seen is_seen =
       sym (allocates-plain (setup_of audit.desk) stands.stepped event)
       ∙ ap (λ (s : Setup ScriptRule). allocates script_policy s (committed_entries (plain_entries stands.stepped)) (plain_event event)) stands.setup
@@ -63,15 +71,19 @@ module _ (audit : AuditState ScriptCredential ScriptRule) (a : Account) (stands 
       ∙ ap (λ (e : Event ScriptCredential). may_miss a (Happened e)) is_seen
 
   -- whom its call waits for
-  blockers-are : (call : CallId) → blockers_of (setup_of audit.desk) (committed_entries stands.stepped) call ≡ blockers_of (setup_in a.items) (committed_entries a.entries) call
+  blockers-are : (call : CallId)
+      → blockers_of (setup_of audit.desk) (committed_entries stands.stepped) call
+      ≡ blockers_of (setup_in a.items) (committed_entries a.entries) call
   blockers-are call =
       sym (blockers-plain (setup_of audit.desk) stands.stepped call)
       ∙ ap (λ (s : Setup ScriptRule). blockers_of s (committed_entries (plain_entries stands.stepped)) call) stands.setup
       ∙ ap (λ (t : List (Entry ScriptCredential)). blockers_of (setup_in a.items) (committed_entries t) call) stands.entries
 
   -- of a call that is to wait, the first of those
-  pub behind-is : (event seen : Event ScriptCredential) (reply : Reply ScriptCredential) → plain_event event ≡ seen → reply ≡ reply_due a seen → is_pending reply ≡ true
-      → first_of (blockers_of (setup_of audit.desk) (committed_entries stands.stepped) (call_of event)) ≡ behind_of a (Happened seen)
+  pub behind-is : (event seen : Event ScriptCredential) (reply : Reply ScriptCredential)
+      → plain_event event ≡ seen → reply ≡ reply_due a seen → is_pending reply ≡ true
+      → first_of (blockers_of (setup_of audit.desk) (committed_entries stands.stepped) (call_of event))
+      ≡ behind_of a (Happened seen)
   behind-is event seen reply is_seen due waits =
       let pending : is_pending (reply_due a seen) ≡ true = ap (λ (r : Reply ScriptCredential). is_pending r) (sym due) ∙ waits in
       let same : call_of event ≡ call_of seen = sym (call_of-plain event) ∙ ap (λ (e : Event ScriptCredential). call_of e) is_seen in
@@ -79,7 +91,8 @@ module _ (audit : AuditState ScriptCredential ScriptRule) (a : Account) (stands 
       rw pending first
 
   -- how often a cache was answered what
-  pub counts-are : (cache : ℕ) → counts_of (setup_of audit.desk) stands.stepped cache ≡ counts_of (setup_in a.items) a.entries cache
+  pub counts-are : (cache : ℕ)
+      → counts_of (setup_of audit.desk) stands.stepped cache ≡ counts_of (setup_in a.items) a.entries cache
   counts-are cache =
       sym (counts-plain (setup_of audit.desk) stands.stepped cache)
       ∙ ap (λ (s : Setup ScriptRule). counts_of s (plain_entries stands.stepped) cache) stands.setup
@@ -92,7 +105,8 @@ module _ (audit : AuditState ScriptCredential ScriptRule) (a : Account) (stands 
       omega (arith, few, same, ap (λ (t : List (Entry ScriptCredential)). length t) stands.entries)
 
 -- of a call that is not to wait, none
-pub behind-none : (a : Account) (seen : Event ScriptCredential) (reply : Reply ScriptCredential) → reply ≡ reply_due a seen → is_pending reply ≡ false → None ≡ behind_of a (Happened seen)
+pub behind-none : (a : Account) (seen : Event ScriptCredential) (reply : Reply ScriptCredential)
+    → reply ≡ reply_due a seen → is_pending reply ≡ false → None ≡ behind_of a (Happened seen)
 behind-none a seen reply due waits =
     let pending : is_pending (reply_due a seen) ≡ false = ap (λ (r : Reply ScriptCredential). is_pending r) (sym due) ∙ waits in
     rw pending refl

@@ -33,7 +33,8 @@ wake_in-words (Some call) fits = rw (call_at-words call [] fits) refl
 abbrev SpellsWake : List (List ℕ) → Option CallId → Type 0
 SpellsWake ws wake = (ws ≡ wake_words wake) × IsLineWake wake
 
-woken_in-some : (ws : List (List ℕ)) (wake : Option CallId) → woken_in ws ≡ Some wake → SpellsWake (codes "wake" ∷ ws) wake
+woken_in-some : (ws : List (List ℕ)) (wake : Option CallId) → woken_in ws ≡ Some wake
+    → SpellsWake (codes "wake" ∷ ws) wake
 unfolding woken_in
 woken_in-some ws wake e =
     let c = bind_some (call_at ws) (λ (c : CallId × List (List ℕ)). at_end_of_line (Some c.0) c.1) wake e in
@@ -53,7 +54,8 @@ wake_in-some (word ∷ rest) wake e =
 -- ---- a cause
 
 -- the words of a cause read as it, with the words after it
-pub why_at-words : (cause : ClaimedWhy) (rest : List (List ℕ)) → IsLineWhy cause → why_at (claimed_why_words cause ++ rest) ≡ Some (cause, rest)
+pub why_at-words : (cause : ClaimedWhy) (rest : List (List ℕ)) → IsLineWhy cause
+    → why_at (claimed_why_words cause ++ rest) ≡ Some (cause, rest)
 unfolding why_at loader_at service_at
 why_at-words Missing rest fits = refl
 why_at-words Short rest fits = refl
@@ -65,7 +67,8 @@ why_at-words (Service error) rest fits = rw (number_at-decimal greatest_u64 erro
 abbrev SpellsWhy : List (List ℕ) → ClaimedWhy → List (List ℕ) → Type 0
 SpellsWhy ws cause rest = (ws ≡ claimed_why_words cause ++ rest) × IsLineWhy cause
 
-loader_at-some : (ws : List (List ℕ)) (p : ClaimedWhy × List (List ℕ)) → loader_at ws ≡ Some p → SpellsWhy (codes "loader" ∷ ws) p.0 p.1
+loader_at-some : (ws : List (List ℕ)) (p : ClaimedWhy × List (List ℕ)) → loader_at ws ≡ Some p
+    → SpellsWhy (codes "loader" ∷ ws) p.0 p.1
 unfolding loader_at
 loader_at-some ws p e =
     let n = bind_some (number_at greatest_u64 ws) (λ (n : ℕ × List (List ℕ)). Some (Loader n.0, n.1)) p e in
@@ -73,7 +76,8 @@ loader_at-some ws p e =
     let number = number_at-some greatest_u64 ws n.0 n.1 in
     subst (λ (q : ClaimedWhy × List (List ℕ)). SpellsWhy (codes "loader" ∷ ws) q.0 q.1) {x = made} (some_is made p n.2) (ap (λ (v : List (List ℕ)). codes "loader" ∷ v) number.0, number.1)
 
-service_at-some : (ws : List (List ℕ)) (p : ClaimedWhy × List (List ℕ)) → service_at ws ≡ Some p → SpellsWhy (codes "service" ∷ ws) p.0 p.1
+service_at-some : (ws : List (List ℕ)) (p : ClaimedWhy × List (List ℕ)) → service_at ws ≡ Some p
+    → SpellsWhy (codes "service" ∷ ws) p.0 p.1
 unfolding service_at
 service_at-some ws p e =
     let n = bind_some (number_at greatest_u64 ws) (λ (n : ℕ × List (List ℕ)). Some (Service n.0, n.1)) p e in
@@ -82,16 +86,19 @@ service_at-some ws p e =
     subst (λ (q : ClaimedWhy × List (List ℕ)). SpellsWhy (codes "service" ∷ ws) q.0 q.1) {x = made} (some_is made p n.2) (ap (λ (v : List (List ℕ)). codes "service" ∷ v) number.0, number.1)
 
 -- a word that begins a cause is this one
-named : (kind name : List ℕ) (rest : List (List ℕ)) (p : ClaimedWhy × List (List ℕ)) → bytes_eq kind name ≡ true → SpellsWhy (name ∷ rest) p.0 p.1 → SpellsWhy (kind ∷ rest) p.0 p.1
+named : (kind name : List ℕ) (rest : List (List ℕ)) (p : ClaimedWhy × List (List ℕ))
+    → bytes_eq kind name ≡ true → SpellsWhy (name ∷ rest) p.0 p.1 → SpellsWhy (kind ∷ rest) p.0 p.1
 named kind name rest p e spells = (ap (λ (w : List ℕ). w ∷ rest) (same_word kind name e) ∙ spells.0, spells.1)
 
-plain : (cause : ClaimedWhy) (name : List ℕ) (rest : List (List ℕ)) (p : ClaimedWhy × List (List ℕ)) → Some (cause, rest) ≡ Some p → SpellsWhy (name ∷ rest) cause rest → SpellsWhy (name ∷ rest) p.0 p.1
+plain : (cause : ClaimedWhy) (name : List ℕ) (rest : List (List ℕ)) (p : ClaimedWhy × List (List ℕ))
+    → Some (cause, rest) ≡ Some p → SpellsWhy (name ∷ rest) cause rest → SpellsWhy (name ∷ rest) p.0 p.1
 plain cause name rest p e spells =
     let made : ClaimedWhy × List (List ℕ) = (cause, rest) in
     subst (λ (q : ClaimedWhy × List (List ℕ)). SpellsWhy (name ∷ rest) q.0 q.1) {x = made} (some_is made p e) spells
 
 -- words that read as a cause and others begin with its words
-pub why_at-some : (ws : List (List ℕ)) (p : ClaimedWhy × List (List ℕ)) → why_at ws ≡ Some p → SpellsWhy ws p.0 p.1
+pub why_at-some : (ws : List (List ℕ)) (p : ClaimedWhy × List (List ℕ)) → why_at ws ≡ Some p
+    → SpellsWhy ws p.0 p.1
 unfolding why_at
 why_at-some [] p e = absurd cc
 why_at-some (kind ∷ rest) p e = elim (chosen (bytes_eq kind (codes "missing")) (Some (Missing, rest)) _ (Some p) e) [
@@ -113,20 +120,24 @@ why_at-some (kind ∷ rest) p e = elim (chosen (bytes_eq kind (codes "missing"))
 -- ---- numbers
 
 -- the words after `cache`, `handle` and `ask` read as them
-pub cache_claim-words : (number : ℕ) → number ≤ greatest_u32 → cache_claim (decimal number ∷ []) ≡ Some (Cache number)
+pub cache_claim-words : (number : ℕ) → number ≤ greatest_u32
+    → cache_claim (decimal number ∷ []) ≡ Some (Cache number)
 unfolding cache_claim
 cache_claim-words number fits = rw (number_at-decimal greatest_u32 number [] fits (omega arith)) refl
 
-pub handle_claim-words : (number : ℕ) → number ≤ greatest_u32 → handle_claim (decimal number ∷ []) ≡ Some (Handle number)
+pub handle_claim-words : (number : ℕ) → number ≤ greatest_u32
+    → handle_claim (decimal number ∷ []) ≡ Some (Handle number)
 unfolding handle_claim
 handle_claim-words number fits = rw (number_at-decimal greatest_u32 number [] fits (omega arith)) refl
 
-pub ask_claim-words : (provider : ℕ) → provider ≤ greatest_u32 → ask_claim (decimal provider ∷ []) ≡ Some (Ask provider)
+pub ask_claim-words : (provider : ℕ) → provider ≤ greatest_u32
+    → ask_claim (decimal provider ∷ []) ≡ Some (Ask provider)
 unfolding ask_claim
 ask_claim-words provider fits = rw (number_at-decimal greatest_u32 provider [] fits (omega arith)) refl
 
 -- a claim with such a name that reads as one spells it
-pub cache_claim-some : (text : List ℕ) (ws : List (List ℕ)) (claimed : ClaimedReply) → Has text (codes "cache") ws → cache_claim ws ≡ Some claimed → SpellsReply text claimed
+pub cache_claim-some : (text : List ℕ) (ws : List (List ℕ)) (claimed : ClaimedReply)
+    → Has text (codes "cache") ws → cache_claim ws ≡ Some claimed → SpellsReply text claimed
 unfolding cache_claim
 cache_claim-some text ws claimed has e =
     let n = bind_some (number_at greatest_u32 ws) (λ (n : ℕ × List (List ℕ)). at_end_of_line (Cache n.0) n.1) claimed e in
@@ -134,7 +145,8 @@ cache_claim-some text ws claimed has e =
     let number = number_at-some greatest_u32 ws n.0 n.1 in
     subst (λ (c : ClaimedReply). SpellsReply text c) {x = Cache n.0.0} last.0 (number.1, cc (has, number.0, last.1))
 
-pub handle_claim-some : (text : List ℕ) (ws : List (List ℕ)) (claimed : ClaimedReply) → Has text (codes "handle") ws → handle_claim ws ≡ Some claimed → SpellsReply text claimed
+pub handle_claim-some : (text : List ℕ) (ws : List (List ℕ)) (claimed : ClaimedReply)
+    → Has text (codes "handle") ws → handle_claim ws ≡ Some claimed → SpellsReply text claimed
 unfolding handle_claim
 handle_claim-some text ws claimed has e =
     let n = bind_some (number_at greatest_u32 ws) (λ (n : ℕ × List (List ℕ)). at_end_of_line (Handle n.0) n.1) claimed e in
@@ -142,7 +154,8 @@ handle_claim-some text ws claimed has e =
     let number = number_at-some greatest_u32 ws n.0 n.1 in
     subst (λ (c : ClaimedReply). SpellsReply text c) {x = Handle n.0.0} last.0 (number.1, cc (has, number.0, last.1))
 
-pub ask_claim-some : (text : List ℕ) (ws : List (List ℕ)) (claimed : ClaimedReply) → Has text (codes "ask") ws → ask_claim ws ≡ Some claimed → SpellsReply text claimed
+pub ask_claim-some : (text : List ℕ) (ws : List (List ℕ)) (claimed : ClaimedReply) → Has text (codes "ask") ws
+    → ask_claim ws ≡ Some claimed → SpellsReply text claimed
 unfolding ask_claim
 ask_claim-some text ws claimed has e =
     let n = bind_some (number_at greatest_u32 ws) (λ (n : ℕ × List (List ℕ)). at_end_of_line (Ask n.0) n.1) claimed e in
@@ -153,12 +166,14 @@ ask_claim-some text ws claimed has e =
 -- ---- the other forms
 
 -- the words after `sign` read as it
-pub sign_claim-words : (generation : ℕ) (wake : Option CallId) → generation ≤ greatest_u64 → IsLineWake wake → sign_claim (decimal generation ∷ wake_words wake) ≡ Some (Sign generation wake)
+pub sign_claim-words : (generation : ℕ) (wake : Option CallId) → generation ≤ greatest_u64 → IsLineWake wake
+    → sign_claim (decimal generation ∷ wake_words wake) ≡ Some (Sign generation wake)
 unfolding sign_claim
 sign_claim-words generation wake fits is_wake = rw (number_at-decimal greatest_u64 generation (wake_words wake) fits (omega arith), wake_in-words wake is_wake) refl
 
 -- a claim of `sign` that reads as one spells it
-pub sign_claim-some : (text : List ℕ) (ws : List (List ℕ)) (claimed : ClaimedReply) → Has text (codes "sign") ws → sign_claim ws ≡ Some claimed → SpellsReply text claimed
+pub sign_claim-some : (text : List ℕ) (ws : List (List ℕ)) (claimed : ClaimedReply)
+    → Has text (codes "sign") ws → sign_claim ws ≡ Some claimed → SpellsReply text claimed
 unfolding sign_claim
 sign_claim-some text ws claimed has e =
     let n = bind_some (number_at greatest_u64 ws) (λ (n : ℕ × List (List ℕ)). wake_in n.1 >>= λ (w : Option CallId). Some (Sign n.0 w)) claimed e in
@@ -168,12 +183,14 @@ sign_claim-some text ws claimed has e =
     subst (λ (c : ClaimedReply). SpellsReply text c) {x = Sign n.0.0 w.0} (some_is (Sign n.0.0 w.0) claimed w.2) ((number.1, wake.1), cc (has, number.0, wake.0))
 
 -- the words after `refused` read as it
-pub refused_claim-words : (cause : ClaimedWhy) (wake : Option CallId) → IsLineWhy cause → IsLineWake wake → refused_claim (claimed_why_words cause ++ wake_words wake) ≡ Some (Refused cause wake)
+pub refused_claim-words : (cause : ClaimedWhy) (wake : Option CallId) → IsLineWhy cause → IsLineWake wake
+    → refused_claim (claimed_why_words cause ++ wake_words wake) ≡ Some (Refused cause wake)
 unfolding refused_claim
 refused_claim-words cause wake is_why is_wake = rw (why_at-words cause (wake_words wake) is_why, wake_in-words wake is_wake) refl
 
 -- a claim of `refused` that reads as one spells it
-pub refused_claim-some : (text : List ℕ) (ws : List (List ℕ)) (claimed : ClaimedReply) → Has text (codes "refused") ws → refused_claim ws ≡ Some claimed → SpellsReply text claimed
+pub refused_claim-some : (text : List ℕ) (ws : List (List ℕ)) (claimed : ClaimedReply)
+    → Has text (codes "refused") ws → refused_claim ws ≡ Some claimed → SpellsReply text claimed
 unfolding refused_claim
 refused_claim-some text ws claimed has e =
     let y = bind_some (why_at ws) (λ (y : ClaimedWhy × List (List ℕ)). wake_in y.1 >>= λ (w : Option CallId). Some (Refused y.0 w)) claimed e in
@@ -188,7 +205,8 @@ unfolding done_claim
 done_claim-words head is_head = rw (head_in-words head is_head) refl
 
 -- a claim of `done` that reads as one spells it
-pub done_claim-some : (text : List ℕ) (ws : List (List ℕ)) (claimed : ClaimedReply) → Has text (codes "done") ws → done_claim ws ≡ Some claimed → SpellsReply text claimed
+pub done_claim-some : (text : List ℕ) (ws : List (List ℕ)) (claimed : ClaimedReply)
+    → Has text (codes "done") ws → done_claim ws ≡ Some claimed → SpellsReply text claimed
 unfolding done_claim
 done_claim-some text ws claimed has e =
     let h = bind_some (head_in ws) (λ (h : Head). Some (Done h)) claimed e in
@@ -196,12 +214,14 @@ done_claim-some text ws claimed has e =
     subst (λ (c : ClaimedReply). SpellsReply text c) {x = Done h.0} (some_is (Done h.0) claimed h.2) (head.1, cc (has, head.0))
 
 -- the words after `cancelled` read as it
-pub cancelled_claim-words : (wake : Option CallId) → IsLineWake wake → cancelled_claim (wake_words wake) ≡ Some (Cancelled wake)
+pub cancelled_claim-words : (wake : Option CallId) → IsLineWake wake
+    → cancelled_claim (wake_words wake) ≡ Some (Cancelled wake)
 unfolding cancelled_claim
 cancelled_claim-words wake is_wake = rw (wake_in-words wake is_wake) refl
 
 -- a claim of `cancelled` that reads as one spells it
-pub cancelled_claim-some : (text : List ℕ) (ws : List (List ℕ)) (claimed : ClaimedReply) → Has text (codes "cancelled") ws → cancelled_claim ws ≡ Some claimed → SpellsReply text claimed
+pub cancelled_claim-some : (text : List ℕ) (ws : List (List ℕ)) (claimed : ClaimedReply)
+    → Has text (codes "cancelled") ws → cancelled_claim ws ≡ Some claimed → SpellsReply text claimed
 unfolding cancelled_claim
 cancelled_claim-some text ws claimed has e =
     let w = bind_some (wake_in ws) (λ (w : Option CallId). Some (Cancelled w)) claimed e in

@@ -1,4 +1,5 @@
--- The grammar of claims is decided: a text reads as the one claim that it spells. What is printed of a reply is such a text.
+-- The grammar of claims is decided: a text reads as the one claim that it spells. What is printed of a reply
+-- is such a text.
 use Rattle.std.proofs.Common.{◌≡◌, ℕ, true, false, List, [], ◌∷◌, Some, refl, sym, ap, subst, ◌∙◌, inl, inr}
 use Rattle.std.specs.Prelude.{codes, ◌↔◌}
 use Rattle.std.specs.Str.{bytes_eq}
@@ -22,10 +23,12 @@ use Rattle.signctl_audit.proofs.ClaimForms.{cache_claim-words, cache_claim-some,
 -- ---- what reads as a claim spells it
 
 -- a text that begins with this word has it for its name
-named : (text name other : List ℕ) (ws : List (List ℕ)) → Has text name ws → bytes_eq name other ≡ true → Has text other ws
+named : (text name other : List ℕ) (ws : List (List ℕ)) → Has text name ws → bytes_eq name other ≡ true
+    → Has text other ws
 named text name other ws has e = has ∙ ap (λ (w : List ℕ). w ∷ ws) (same_word name other e)
 
-claim_form-some : (text name : List ℕ) (ws : List (List ℕ)) (claimed : ClaimedReply) → Has text name ws → claim_form name ws ≡ Some claimed → SpellsReply text claimed
+claim_form-some : (text name : List ℕ) (ws : List (List ℕ)) (claimed : ClaimedReply) → Has text name ws
+    → claim_form name ws ≡ Some claimed → SpellsReply text claimed
 unfolding claim_form
 claim_form-some text name ws claimed has e = elim (chosen (bytes_eq name (codes "cache")) (cache_claim ws) _ (Some claimed) e) [
   | inl a ↦ cache_claim-some text ws claimed (named text name (codes "cache") ws has a.0) a.1
@@ -49,19 +52,22 @@ claim_form-some text name ws claimed has e = elim (chosen (bytes_eq name (codes 
   ]
 ]
 
-claim_words_say-some : (text : List ℕ) (ws : List (List ℕ)) (claimed : ClaimedReply) → words text ≡ ws → claim_words_say ws ≡ Some claimed → SpellsReply text claimed
+claim_words_say-some : (text : List ℕ) (ws : List (List ℕ)) (claimed : ClaimedReply) → words text ≡ ws
+    → claim_words_say ws ≡ Some claimed → SpellsReply text claimed
 unfolding claim_words_say
 claim_words_say-some text [] claimed parted e = absurd cc
 claim_words_say-some text (name ∷ ws) claimed parted e = claim_form-some text name ws claimed parted e
 
 -- a text that is this one, whose claim is known
-fixed : (text line : List ℕ) (known claimed : ClaimedReply) → bytes_eq text line ≡ true → Some known ≡ Some claimed → SpellsReply line known → SpellsReply text claimed
+fixed : (text line : List ℕ) (known claimed : ClaimedReply) → bytes_eq text line ≡ true
+    → Some known ≡ Some claimed → SpellsReply line known → SpellsReply text claimed
 fixed text line known claimed same e spells =
     subst (λ (t : List ℕ). SpellsReply t claimed) (sym (same_word text line same))
     (subst (λ (c : ClaimedReply). SpellsReply line c) (some_is known claimed e) spells)
 
 -- a text that reads as a claim spells it
-pub claim_of-some : (text : List ℕ) (claimed : ClaimedReply) → claim_of text ≡ Some claimed → SpellsReply text claimed
+pub claim_of-some : (text : List ℕ) (claimed : ClaimedReply) → claim_of text ≡ Some claimed
+    → SpellsReply text claimed
 unfolding claim_of
 claim_of-some text claimed e = elim (chosen (bytes_eq text (codes "begun")) (Some Begun) _ (Some claimed) e) [
   | inl a ↦ fixed text (codes "begun") Begun claimed a.0 a.1 (tt, refl)
@@ -80,7 +86,8 @@ claim_of-some text claimed e = elim (chosen (bytes_eq text (codes "begun")) (Som
 -- ---- what spells a claim reads as it
 
 -- texts whose first words differ are not the same
-first_differs : (text other name first : List ℕ) (ws more : List (List ℕ)) → Has text name ws → Has other first more → bytes_eq name first ≡ false → bytes_eq text other ≡ false
+first_differs : (text other name first : List ℕ) (ws more : List (List ℕ)) → Has text name ws
+    → Has other first more → bytes_eq name first ≡ false → bytes_eq text other ≡ false
 first_differs text other name first ws more has there differs = elim (cases_Bool (bytes_eq text other)) [
   | inl same ↦
       let parted : name ∷ ws ≡ first ∷ more = sym has ∙ ap words (same_word text other same) ∙ there in
@@ -91,7 +98,8 @@ first_differs text other name first ws more has there differs = elim (cases_Bool
 
 -- a text with another name than those that stand alone is read by its name
 by_name : (text name : List ℕ) (ws : List (List ℕ)) (claimed : ClaimedReply) → Has text name ws
-    → bytes_eq name (codes "begun") ≡ false → bytes_eq name (codes "pending") ≡ false → bytes_eq name (codes "not") ≡ false → bytes_eq name (codes "out") ≡ false
+    → bytes_eq name (codes "begun") ≡ false → bytes_eq name (codes "pending") ≡ false
+    → bytes_eq name (codes "not") ≡ false → bytes_eq name (codes "out") ≡ false
     → claim_form name ws ≡ Some claimed → claim_of text ≡ Some claimed
 unfolding claim_of claim_words_say
 by_name text name ws claimed has begun pending not_now out e =
@@ -104,11 +112,13 @@ by_name text name ws claimed has begun pending not_now out e =
     ) e
 
 -- a text with the words of one that is known is that one
-alone : (text line : List ℕ) (claimed : ClaimedReply) (ws : List (List ℕ)) → words text ≡ ws → words line ≡ ws → claim_of line ≡ Some claimed → claim_of text ≡ Some claimed
+alone : (text line : List ℕ) (claimed : ClaimedReply) (ws : List (List ℕ)) → words text ≡ ws → words line ≡ ws
+    → claim_of line ≡ Some claimed → claim_of text ≡ Some claimed
 alone text line claimed ws parted known e = subst (λ (t : List ℕ). claim_of t ≡ Some claimed) (sym (same_line text line ws parted known)) e
 
 -- a text that spells a claim reads as it
-pub claim_of-spelled : (text : List ℕ) (claimed : ClaimedReply) → SpellsReply text claimed → claim_of text ≡ Some claimed
+pub claim_of-spelled : (text : List ℕ) (claimed : ClaimedReply) → SpellsReply text claimed
+    → claim_of text ≡ Some claimed
 unfolding claim_of claim_form
 claim_of-spelled text Begun spelled = alone text (codes "begun") Begun _ spelled.1 refl refl
 claim_of-spelled text Pending spelled = alone text (codes "pending") Pending _ spelled.1 refl refl
@@ -125,7 +135,8 @@ claim_of-spelled text (Cancelled wake) spelled = by_name text (codes "cancelled"
 -- ---- the laws
 
 -- the grammar is decided
-pub decided : (text : List ℕ) (claimed : ClaimedReply) → SpellsReply text claimed ↔ (claim_of text ≡ Some claimed)
+pub decided : (text : List ℕ) (claimed : ClaimedReply)
+    → SpellsReply text claimed ↔ (claim_of text ≡ Some claimed)
 decided text claimed = (claim_of-spelled text claimed, claim_of-some text claimed)
 
 -- a text spells at most one claim
@@ -133,7 +144,8 @@ pub one_claim : (text : List ℕ) (a b : ClaimedReply) → SpellsReply text a �
 one_claim text a b first second = some_is a b (sym (claim_of-spelled text a first) ∙ claim_of-spelled text b second)
 
 -- a claim has at most one spelling
-pub one_spelling : (claimed : ClaimedReply) (a b : List ℕ) → SpellsReply a claimed → SpellsReply b claimed → a ≡ b
+pub one_spelling : (claimed : ClaimedReply) (a b : List ℕ) → SpellsReply a claimed → SpellsReply b claimed
+    → a ≡ b
 one_spelling claimed a b first second = same_line a b _ first.1 second.1
 
 -- what is printed of a reply is the line of the claim that it shows

@@ -11,12 +11,15 @@ abbrev line_at : Account → ℕ → List ℕ
 line_at a cache = with_newline (count_line cache (counts_of (setup_in a.items) a.entries cache))
 
 -- no cache yet
-pub counts-none : (a : Account) (old text legal : List ℕ) → text ≡ old ++ legal → text ≡ old ++ (legal ++ count_lines a 0)
+pub counts-none : (a : Account) (old text legal : List ℕ) → text ≡ old ++ legal
+    → text ≡ old ++ (legal ++ count_lines a 0)
 unfolding count_lines
 counts-none a old text legal h = h ∙ ap (λ (v : List ℕ). old ++ v) (sym (append-nil legal))
 
 -- one cache more
-pub counts-more : (a : Account) (old text new legal : List ℕ) (n : ℕ) → text ≡ old ++ (legal ++ count_lines a n) → new ≡ text ++ line_at a n → new ≡ old ++ (legal ++ count_lines a (suc n))
+pub counts-more : (a : Account) (old text new legal : List ℕ) (n : ℕ)
+    → text ≡ old ++ (legal ++ count_lines a n) → new ≡ text ++ line_at a n
+    → new ≡ old ++ (legal ++ count_lines a (suc n))
 unfolding count_lines
 counts-more a old text new legal n so_far end =
     end

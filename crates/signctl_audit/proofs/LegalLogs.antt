@@ -52,12 +52,15 @@ silent-log a h = let P : Setup ScriptRule → Type 0 = λ s. IsLegal script_poli
 }
 
 -- where there was no event yet there is no entry
-nothing_claimed : (entries : List (Entry ScriptCredential)) (rest : List (Event ScriptCredential)) → events_of entries ++ rest ≡ [] → entries ≡ []
+nothing_claimed : (entries : List (Entry ScriptCredential)) (rest : List (Event ScriptCredential))
+    → events_of entries ++ rest ≡ [] → entries ≡ []
 nothing_claimed [] rest h = refl
 nothing_claimed (e ∷ more) rest h = absurd cc
 
 -- a line that sets the signer up
-setup-log : (a : Account) (x : ScriptItem) → events_in a.items ≡ [] → events_in (a.items ++ x ∷ []) ≡ events_in a.items ++ [] → waiting_event (subject_in (with_item a x)) ≡ [] → IsLegalLog a → IsLegalLog (with_item a x)
+setup-log : (a : Account) (x : ScriptItem) → events_in a.items ≡ []
+    → events_in (a.items ++ x ∷ []) ≡ events_in a.items ++ []
+    → waiting_event (subject_in (with_item a x)) ≡ [] → IsLegalLog a → IsLegalLog (with_item a x)
 unfolding IsLegal
 setup-log a x none same waits h =
     let empty : a.entries ≡ [] = nothing_claimed a.entries (waiting_event (subject_in a)) (h.events ∙ none) in
@@ -70,7 +73,8 @@ setup-log a x none same waits h =
     }
 
 -- an event waits for its claim, and no other one does
-event-log : (a : Account) (event : Event ScriptCredential) → a.unclaimed ≡ None → IsLegalLog a → IsLegalLog (with_item a (item.Event event))
+event-log : (a : Account) (event : Event ScriptCredential) → a.unclaimed ≡ None → IsLegalLog a
+    → IsLegalLog (with_item a (item.Event event))
 event-log a event none h =
     let P : Setup ScriptRule → Type 0 = λ s. IsLegal script_policy s a.entries in
     let claimed : events_of a.entries ≡ events_in a.items =
@@ -81,7 +85,8 @@ event-log a event none h =
       events = ap (λ (v : List (Event ScriptCredential)). v ++ event ∷ []) claimed ∙ sym (events_in-more a.items (item.Event event));
     }
 
-says-log : (a : Account) (x : ScriptItem) → audit_item_error a x ≡ None → IsLegalLog a → IsLegalLog (with_item a x)
+says-log : (a : Account) (x : ScriptItem) → audit_item_error a x ≡ None → IsLegalLog a
+    → IsLegalLog (with_item a x)
 says-log a item.Silent good h = silent-log a h
 says-log a (item.Cache loader) good h = setup-log a (item.Cache loader) (cache-first a loader good) (events_in-more a.items (item.Cache loader)) refl h
 says-log a (item.Handle cache rule) good h = setup-log a (item.Handle cache rule) (handle-first a cache rule good) (events_in-more a.items (item.Handle cache rule)) refl h
@@ -90,7 +95,8 @@ says-log a (item.Event event) good h = event-log a event (none-wanted a (item.Ev
 -- ---- claims
 
 -- a claimed entry is of its event
-claimed-event : (a : Account) (event : Event ScriptCredential) (claimed : ClaimedReply) → (claimed_entry a event claimed).event ≡ event
+claimed-event : (a : Account) (event : Event ScriptCredential) (claimed : ClaimedReply)
+    → (claimed_entry a event claimed).event ≡ event
 claimed-event a event claim.OutOfMemory = refl
 claimed-event a event (claim.Cache n) = refl
 claimed-event a event (claim.Handle n) = refl
@@ -104,15 +110,19 @@ claimed-event a event (claim.Done head) = refl
 claimed-event a event (claim.Cancelled wake) = refl
 
 -- an event of which it is right to claim that an allocation failed may run out of memory
-missed-may : (a : Account) (event : Event ScriptCredential) (text : List ℕ) → claim_of text ≡ Some claim.OutOfMemory → subject_error a (Happened event) claim.OutOfMemory text ≡ None → may_miss a (Happened event) ≡ true
+missed-may : (a : Account) (event : Event ScriptCredential) (text : List ℕ)
+    → claim_of text ≡ Some claim.OutOfMemory → subject_error a (Happened event) claim.OutOfMemory text ≡ None
+    → may_miss a (Happened event) ≡ true
 missed-may a event text read good = elim (cases_Bool (may_miss a (Happened event))) [
   | inl may ↦ may
   | inr may_not ↦ absurd (missed-allocates a event claim.OutOfMemory text read good refl may_not)
 ]
 
 -- a claim that is right stands for a legal entry
-claimed-legal : (a : Account) (event : Event ScriptCredential) (claimed : ClaimedReply) (text : List ℕ) → claim_of text ≡ Some claimed → subject_error a (Happened event) claimed text ≡ None
-    → IsLegalEntry script_policy (setup_in a.items) (committed_entries a.entries) (claimed_entry a event claimed)
+claimed-legal : (a : Account) (event : Event ScriptCredential) (claimed : ClaimedReply) (text : List ℕ)
+    → claim_of text ≡ Some claimed → subject_error a (Happened event) claimed text ≡ None
+    → IsLegalEntry script_policy (setup_in a.items) (committed_entries a.entries)
+    (claimed_entry a event claimed)
 claimed-legal a event claim.OutOfMemory text read good = inr (refl, missed-may a event text read good)
 claimed-legal a event (claim.Cache n) text read good = inl refl
 claimed-legal a event (claim.Handle n) text read good = inl refl
@@ -125,14 +135,18 @@ claimed-legal a event (claim.Refused why wake) text read good = inl refl
 claimed-legal a event (claim.Done head) text read good = inl refl
 claimed-legal a event (claim.Cancelled wake) text read good = inl refl
 
-entries-legal : (a : Account) (claimed : ClaimedReply) (text : List ℕ) → claim_of text ≡ Some claimed → IsLegal script_policy (setup_in a.items) a.entries
-    → (about : Option Subject) → claim_error a about claimed text ≡ None → IsLegal script_policy (setup_in a.items) (entries_with a claimed about)
+entries-legal : (a : Account) (claimed : ClaimedReply) (text : List ℕ) → claim_of text ≡ Some claimed
+    → IsLegal script_policy (setup_in a.items) a.entries → (about : Option Subject)
+    → claim_error a about claimed text ≡ None
+    → IsLegal script_policy (setup_in a.items) (entries_with a claimed about)
 entries-legal a claimed text read legal None good = absurd cc
 entries-legal a claimed text read legal (Some (Cache n)) good = legal
 entries-legal a claimed text read legal (Some (Handle n)) good = legal
 entries-legal a claimed text read legal (Some (Happened event)) good = legal-more script_policy (setup_in a.items) a.entries (claimed_entry a event claimed) legal (claimed-legal a event claimed text read good)
 
-entries-events : (a : Account) (claimed : ClaimedReply) (about : Option Subject) → events_of a.entries ++ waiting_event about ≡ events_in a.items → events_of (entries_with a claimed about) ++ [] ≡ events_in a.items
+entries-events : (a : Account) (claimed : ClaimedReply) (about : Option Subject)
+    → events_of a.entries ++ waiting_event about ≡ events_in a.items
+    → events_of (entries_with a claimed about) ++ [] ≡ events_in a.items
 entries-events a claimed None h = h
 entries-events a claimed (Some (Cache n)) h = h
 entries-events a claimed (Some (Handle n)) h = h
@@ -142,7 +156,8 @@ entries-events a claimed (Some (Happened event)) h =
     ∙ ap (λ (e : Event ScriptCredential). events_of a.entries ++ e ∷ []) (claimed-event a event claimed)
     ∙ h
 
-claims-log : (a : Account) (claimed : ClaimedReply) (text : List ℕ) → claim_of text ≡ Some claimed → claim_error a (subject_in a) claimed text ≡ None → IsLegalLog a → IsLegalLog (with_claim a claimed)
+claims-log : (a : Account) (claimed : ClaimedReply) (text : List ℕ) → claim_of text ≡ Some claimed
+    → claim_error a (subject_in a) claimed text ≡ None → IsLegalLog a → IsLegalLog (with_claim a claimed)
 claims-log a claimed text read good h = record {
   legal = entries-legal a claimed text read h.legal (subject_in a) good;
   events = entries-events a claimed (subject_in a) h.events;
@@ -151,7 +166,8 @@ claims-log a claimed text read good h = record {
 -- ---- all lines
 
 -- one more line that was read
-next-log : (before : List AuditLine) (line : List ℕ) (x : AuditLine) → audit_reading before line ≡ Ok x → IsLegalLog (account_of before) → IsLegalLog (with_line (account_of before) x)
+next-log : (before : List AuditLine) (line : List ℕ) (x : AuditLine) → audit_reading before line ≡ Ok x
+    → IsLegalLog (account_of before) → IsLegalLog (with_line (account_of before) x)
 next-log before line VersionTwo read h = record { legal = h.legal; events = h.events }
 next-log before line (Says x) read h = let next = says-log (account_of before) x (says-good before x (line, read)) h in record { legal = next.legal; events = next.events }
 next-log before line (Claims claimed) read h =
@@ -160,18 +176,25 @@ next-log before line (Claims claimed) read h =
 
 -- a line that was read as good is no longer than a line may be, and the command reads it so
 read_good : (long : Bool) (number : ℕ) (command_read : Result AuditLine AuditError) (x : AuditLine)
-    → (if long then Err (too_long_line number) else result_map_both (λ (y : AuditLine). y) (blamed audit_command number) command_read) ≡ Ok x → command_read ≡ Ok x
+    → (if long then Err (too_long_line number) else result_map_both (λ (y : AuditLine). y)
+    (blamed audit_command number) command_read)
+    ≡ Ok x
+    → command_read ≡ Ok x
 read_good true number command_read x h = absurd cc
 read_good false number (Ok y) x h = let same : y ≡ x = cc (h) in ap (λ (v : AuditLine). let r : Result AuditLine AuditError = Ok v in r) same
 read_good false number (Err cause) x h = absurd cc
 
-next-read : (before : List AuditLine) (line : List ℕ) (rest : List AuditLine → LinesRead AuditLine) (reading : Result AuditLine BadLine) → reading_of audit_command before line ≡ reading → IsLegalLog (account_of before)
-    → ((after : List AuditLine) → IsLegalLog (account_of after) → IsLegalLog (account_of (rest after).items)) → IsLegalLog (account_of (read_on before rest reading).items)
+next-read : (before : List AuditLine) (line : List ℕ) (rest : List AuditLine → LinesRead AuditLine)
+    (reading : Result AuditLine BadLine) → reading_of audit_command before line ≡ reading
+    → IsLegalLog (account_of before)
+    → ((after : List AuditLine) → IsLegalLog (account_of after) → IsLegalLog (account_of (rest after).items))
+    → IsLegalLog (account_of (read_on before rest reading).items)
 next-read before line rest (Err bad) e h later = h
 next-read before line rest (Ok x) e h later =
     later (before ++ x ∷ []) (subst IsLegalLog (sym (account-more before x)) (next-log before line x (read_good (is_too_long line) _ (audit_reading before line) x e) h))
 
-from-log : (lines : List (List ℕ)) (before : List AuditLine) → IsLegalLog (account_of before) → IsLegalLog (account_of (read_from audit_command before lines).items)
+from-log : (lines : List (List ℕ)) (before : List AuditLine) → IsLegalLog (account_of before)
+    → IsLegalLog (account_of (read_from audit_command before lines).items)
 unfolding read_from
 from-log [] before h = h
 from-log (line ∷ rest) before h = next-read before line (λ after. read_from audit_command after rest) (reading_of audit_command before line) refl h (λ after g. from-log rest after g)

@@ -15,7 +15,8 @@ use Rattle.signctl_audit.specs.declared.audit_line.AuditLine.TheVariants.{Versio
 use Rattle.signctl_audit.specs.declared.claimed_reply.ClaimedReply.{ClaimedReply}
 
 -- a line that was read is good, and is this one
-good_line : (line other : AuditLine) (error : Option AuditError) → line_or line error ≡ Ok other → (error ≡ None) × (line ≡ other)
+good_line : (line other : AuditLine) (error : Option AuditError) → line_or line error ≡ Ok other
+    → (error ≡ None) × (line ≡ other)
 good_line line other None h = (refl, cc)
 good_line line other (Some why) h = absurd cc
 
@@ -29,52 +30,67 @@ abbrev claim_in : ClaimedReply → AuditLine → ClaimedReply
 claim_in other (Claims claimed) = claimed
 claim_in other _ = other
 
-item_read : (a : Account) (read : Option ScriptItem) (item : ScriptItem) → item_reading a read ≡ Ok (Says item) → audit_item_error a item ≡ None
+item_read : (a : Account) (read : Option ScriptItem) (item : ScriptItem)
+    → item_reading a read ≡ Ok (Says item) → audit_item_error a item ≡ None
 item_read a None item h = absurd cc
 item_read a (Some x) item h =
     let good = good_line (Says x) (Says item) (audit_item_error a x) h in
     let same : x ≡ item = ap (item_in item) good.1 in
     subst (λ (y : ScriptItem). audit_item_error a y ≡ None) same good.0
 
-no_item : (a : Account) (read : Option ScriptItem) (claimed : ClaimedReply) → item_reading a read ≡ Ok (Claims claimed) → ⊥
+no_item : (a : Account) (read : Option ScriptItem) (claimed : ClaimedReply)
+    → item_reading a read ≡ Ok (Claims claimed) → ⊥
 no_item a None claimed h = cc
 no_item a (Some x) claimed h =
     let good = good_line (Says x) (Claims claimed) (audit_item_error a x) h in
     absurd (cc (good.1))
 
-claim_read : (a : Account) (text : List ℕ) (read : Option ClaimedReply) (claimed : ClaimedReply) → claim_reading a text read ≡ Ok (Claims claimed) → (read ≡ Some claimed) × (claim_error a (subject_in a) claimed text ≡ None)
+claim_read : (a : Account) (text : List ℕ) (read : Option ClaimedReply) (claimed : ClaimedReply)
+    → claim_reading a text read ≡ Ok (Claims claimed)
+    → (read ≡ Some claimed) × (claim_error a (subject_in a) claimed text ≡ None)
 claim_read a text None claimed h = absurd cc
 claim_read a text (Some x) claimed h =
     let good = good_line (Claims x) (Claims claimed) (claim_error a (subject_in a) x text) h in
     let same : x ≡ claimed = ap (claim_in claimed) good.1 in
     (ap (λ (y : ClaimedReply). Some y) same, subst (λ (y : ClaimedReply). claim_error a (subject_in a) y text ≡ None) same good.0)
 
-no_claim : (a : Account) (text : List ℕ) (read : Option ClaimedReply) (item : ScriptItem) → claim_reading a text read ≡ Ok (Says item) → ⊥
+no_claim : (a : Account) (text : List ℕ) (read : Option ClaimedReply) (item : ScriptItem)
+    → claim_reading a text read ≡ Ok (Says item) → ⊥
 no_claim a text None item h = cc
 no_claim a text (Some x) item h =
     let good = good_line (Claims x) (Says item) (claim_error a (subject_in a) x text) h in
     absurd (cc (good.1))
 
 -- the item of a line that was read is good after the lines before it
-pub says-good : (lines : List AuditLine) (item : ScriptItem) → MayFollow audit_command lines (Says item) → audit_item_error (account_of lines) item ≡ None
+pub says-good : (lines : List AuditLine) (item : ScriptItem) → MayFollow audit_command lines (Says item)
+    → audit_item_error (account_of lines) item ≡ None
 says-good lines item may = by_version (is_none (account_of lines).version && is_version_line may.0) may.1
   where
-    by_text : (text : Option (List ℕ)) → text_reading (account_of lines) may.0 text ≡ Ok (Says item) → audit_item_error (account_of lines) item ≡ None
+    by_text : (text : Option (List ℕ)) → text_reading (account_of lines) may.0 text ≡ Ok (Says item)
+        → audit_item_error (account_of lines) item ≡ None
     by_text None h = item_read (account_of lines) _ item h
     by_text (Some text) h = absurd (no_claim (account_of lines) text _ item h)
 
-    by_version : (b : Bool) → (if b then Ok VersionTwo else text_reading (account_of lines) may.0 (claim_text may.0)) ≡ Ok (Says item) → audit_item_error (account_of lines) item ≡ None
+    by_version : (b : Bool)
+        → (if b then Ok VersionTwo else text_reading (account_of lines) may.0 (claim_text may.0))
+        ≡ Ok (Says item)
+        → audit_item_error (account_of lines) item ≡ None
     by_version true h = absurd cc
     by_version false h = by_text (claim_text may.0) h
 
 -- and its claim is right
-pub claim-right : (lines : List AuditLine) (claimed : ClaimedReply) → MayFollow audit_command lines (Claims claimed) → IsRightClaim (account_of lines) claimed
+pub claim-right : (lines : List AuditLine) (claimed : ClaimedReply)
+    → MayFollow audit_command lines (Claims claimed) → IsRightClaim (account_of lines) claimed
 claim-right lines claimed may = by_version (is_none (account_of lines).version && is_version_line may.0) may.1
   where
-    by_text : (text : Option (List ℕ)) → text_reading (account_of lines) may.0 text ≡ Ok (Claims claimed) → IsRightClaim (account_of lines) claimed
+    by_text : (text : Option (List ℕ)) → text_reading (account_of lines) may.0 text ≡ Ok (Claims claimed)
+        → IsRightClaim (account_of lines) claimed
     by_text None h = absurd (no_item (account_of lines) _ claimed h)
     by_text (Some text) h = let read = claim_read (account_of lines) text (claim_of text) claimed h in (text, read.0, read.1)
 
-    by_version : (b : Bool) → (if b then Ok VersionTwo else text_reading (account_of lines) may.0 (claim_text may.0)) ≡ Ok (Claims claimed) → IsRightClaim (account_of lines) claimed
+    by_version : (b : Bool)
+        → (if b then Ok VersionTwo else text_reading (account_of lines) may.0 (claim_text may.0))
+        ≡ Ok (Claims claimed)
+        → IsRightClaim (account_of lines) claimed
     by_version true h = absurd cc
     by_version false h = by_text (claim_text may.0) h

@@ -7,7 +7,9 @@ use Rattle.signctl_format.specs.Words.{spaced_words, line_of}
 use Rattle.signctl_format.specs.Lines.{with_newline}
 
 -- some more words
-pub more-words : (old text new word : List ℕ) (before more : List (List ℕ)) → text ≡ old ++ line_of (word ∷ before) → new ≡ text ++ spaced_words more → new ≡ old ++ line_of (word ∷ (before ++ more))
+pub more-words : (old text new word : List ℕ) (before more : List (List ℕ))
+    → text ≡ old ++ line_of (word ∷ before) → new ≡ text ++ spaced_words more
+    → new ≡ old ++ line_of (word ∷ (before ++ more))
 more-words old text new word before more so_far end =
     end
     ∙ ap (λ (v : List ℕ). v ++ spaced_words more) so_far
@@ -16,6 +18,7 @@ more-words old text new word before more so_far end =
     (append_assoc word (spaced_words before) (spaced_words more) ∙ ap (λ (v : List ℕ). word ++ v) (sym (flat_map-append (λ (w : List ℕ). space ∷ w) before more)))
 
 -- a line that is added and ended
-pub line-with_newline : (old mid new line : List ℕ) → mid ≡ old ++ line → new ≡ mid ++ newline ∷ [] → new ≡ old ++ with_newline line
+pub line-with_newline : (old mid new line : List ℕ) → mid ≡ old ++ line → new ≡ mid ++ newline ∷ []
+    → new ≡ old ++ with_newline line
 line-with_newline old mid new line added end =
     end ∙ ap (λ (v : List ℕ). v ++ newline ∷ []) added ∙ append_assoc old line (newline ∷ [])

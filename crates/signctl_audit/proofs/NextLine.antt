@@ -39,16 +39,19 @@ use Rattle.signctl_audit.specs.declared.claimed_reply.ClaimedReply.TheVariants a
 use Rattle.signctl_audit.proofs.PlainEntries.{reply-plain}
 
 -- a session that is seen so represents what it is seen as
-pub as_seen : (inside session : SessionState) (a : Account) → inside ≡ session → RepresentsAccount session a → RepresentsAccount inside a
+pub as_seen : (inside session : SessionState) (a : Account) → inside ≡ session → RepresentsAccount session a
+    → RepresentsAccount inside a
 as_seen inside session a seen stands = let P : SessionState → Type 0 = λ s. RepresentsAccount s a in subst P (sym seen) stands
 
 -- and so it has the signer of what it is seen as
-pub signer-seen : (inside session : SessionState) (a : Account) → inside ≡ session → HasSigner session.desk session.audit a → HasSigner inside.desk inside.audit a
+pub signer-seen : (inside session : SessionState) (a : Account) → inside ≡ session
+    → HasSigner session.desk session.audit a → HasSigner inside.desk inside.audit a
 signer-seen inside session a seen signer = let P : SessionState → Type 0 = λ s. HasSigner s.desk s.audit a in subst P (sym seen) signer
 
 -- ---- what a good item says
 
-none_before : (error : Option LineError) (missing : Option AuditError) → script_error error missing ≡ None → (error ≡ None) × (missing ≡ None)
+none_before : (error : Option LineError) (missing : Option AuditError) → script_error error missing ≡ None
+    → (error ≡ None) × (missing ≡ None)
 none_before None missing h = (refl, h)
 none_before (Some why) missing h = absurd cc
 
@@ -62,7 +65,8 @@ not_overdue None h = refl
 not_overdue (Some unclaimed) h = absurd cc
 
 -- so it is where a good item makes something
-pub none-wanted : (a : Account) (x : ScriptItem) (subject : Subject) → subject_of a.items x ≡ Some subject → audit_item_error a x ≡ None → a.unclaimed ≡ None
+pub none-wanted : (a : Account) (x : ScriptItem) (subject : Subject) → subject_of a.items x ≡ Some subject
+    → audit_item_error a x ≡ None → a.unclaimed ≡ None
 none-wanted a x subject makes h =
     let P : Option Subject → Type 0 = λ made. missing_claim made a.unclaimed ≡ None in
     not_overdue a.unclaimed (subst P makes (none_before (item_error a.items x) _ h).1)
@@ -72,58 +76,72 @@ empty_is [] h = refl
 empty_is (x ∷ rest) h = absurd cc
 
 -- a good cache or handle line comes before the first event
-pub cache-first : (a : Account) (loader : Loader) → audit_item_error a (item.Cache loader) ≡ None → events_in a.items ≡ []
+pub cache-first : (a : Account) (loader : Loader) → audit_item_error a (item.Cache loader) ≡ None
+    → events_in a.items ≡ []
 cache-first a loader h = empty_is (events_in a.items) (cache-no_event a.items loader (good-item a (item.Cache loader) h))
 
-pub handle-first : (a : Account) (cache : ℕ) (rule : ScriptRule) → audit_item_error a (item.Handle cache rule) ≡ None → events_in a.items ≡ []
+pub handle-first : (a : Account) (cache : ℕ) (rule : ScriptRule)
+    → audit_item_error a (item.Handle cache rule) ≡ None → events_in a.items ≡ []
 handle-first a cache rule h = empty_is (events_in a.items) (handle-no_event a.items cache rule (good-item a (item.Handle cache rule) h))
 
 -- then there is no audit
-pub no_audit : (audit : AuditState ScriptCredential ScriptRule) (a : Account) → IsAudited audit a → events_in a.items ≡ [] → ⊥
+pub no_audit : (audit : AuditState ScriptCredential ScriptRule) (a : Account) → IsAudited audit a
+    → events_in a.items ≡ [] → ⊥
 no_audit audit a stands none =
     let begun : is_empty (events_in a.items) ≡ true = ap (λ (v : List (Event ScriptCredential)). is_empty v) none in
     absurd (cc (begun, stands.begun))
 
 -- so there is a desk
-pub desk-there : (desk : Option (DeskState ScriptCredential ScriptRule)) (audit : Option (AuditState ScriptCredential ScriptRule)) (a : Account)
-    → HasSigner desk audit a → events_in a.items ≡ [] → desk ≡ None → ⊥
+pub desk-there : (desk : Option (DeskState ScriptCredential ScriptRule))
+    (audit : Option (AuditState ScriptCredential ScriptRule)) (a : Account) → HasSigner desk audit a
+    → events_in a.items ≡ [] → desk ≡ None → ⊥
 desk-there (Some desk) audit a h none e = absurd cc
 desk-there None (Some audit) a h none e = no_audit audit a h none
 desk-there None None a h none e = h
 
 -- the signer of a session that has a desk
-pub set_up : (desk : DeskState ScriptCredential ScriptRule) (kept : Option (DeskState ScriptCredential ScriptRule)) (audit : Option (AuditState ScriptCredential ScriptRule)) (a : Account)
-    → HasSigner kept audit a → kept ≡ Some desk → IsSetUp desk a
+pub set_up : (desk : DeskState ScriptCredential ScriptRule)
+    (kept : Option (DeskState ScriptCredential ScriptRule))
+    (audit : Option (AuditState ScriptCredential ScriptRule)) (a : Account) → HasSigner kept audit a
+    → kept ≡ Some desk → IsSetUp desk a
 set_up desk (Some other) None a h e = let same : other ≡ desk = cc in subst (λ (d : DeskState ScriptCredential ScriptRule). IsSetUp d a) same h
 set_up desk (Some other) (Some audit) a h e = absurd h
 set_up desk None audit a h e = absurd cc
 
 -- and of one that has an audit
-pub audited : (audit : AuditState ScriptCredential ScriptRule) (desk : Option (DeskState ScriptCredential ScriptRule)) (kept : Option (AuditState ScriptCredential ScriptRule)) (a : Account)
-    → HasSigner desk kept a → kept ≡ Some audit → IsAudited audit a
+pub audited : (audit : AuditState ScriptCredential ScriptRule)
+    (desk : Option (DeskState ScriptCredential ScriptRule))
+    (kept : Option (AuditState ScriptCredential ScriptRule)) (a : Account) → HasSigner desk kept a
+    → kept ≡ Some audit → IsAudited audit a
 audited audit None (Some other) a h e = let same : other ≡ audit = cc in subst (λ (d : AuditState ScriptCredential ScriptRule). IsAudited d a) same h
 audited audit (Some desk) (Some other) a h e = absurd h
 audited audit (Some desk) None a h e = absurd cc
 audited audit None None a h e = absurd h
 
 -- another audit takes its place
-pub audited-again : (audit new : AuditState ScriptCredential ScriptRule) (desk : Option (DeskState ScriptCredential ScriptRule)) (kept : Option (AuditState ScriptCredential ScriptRule)) (a b : Account)
-    → HasSigner desk kept a → kept ≡ Some audit → IsAudited new b → HasSigner desk (Some new) b
+pub audited-again : (audit new : AuditState ScriptCredential ScriptRule)
+    (desk : Option (DeskState ScriptCredential ScriptRule))
+    (kept : Option (AuditState ScriptCredential ScriptRule)) (a b : Account) → HasSigner desk kept a
+    → kept ≡ Some audit → IsAudited new b → HasSigner desk (Some new) b
 audited-again audit new None (Some other) a b h e is = is
 audited-again audit new (Some desk) (Some other) a b h e is = absurd h
 audited-again audit new (Some desk) None a b h e is = absurd cc
 audited-again audit new None None a b h e is = absurd h
 
 -- beside a desk there is no audit
-pub no_audit_yet : (desk : DeskState ScriptCredential ScriptRule) (kept : Option (DeskState ScriptCredential ScriptRule)) (audit : Option (AuditState ScriptCredential ScriptRule)) (a : Account)
-    → HasSigner kept audit a → kept ≡ Some desk → audit ≡ None
+pub no_audit_yet : (desk : DeskState ScriptCredential ScriptRule)
+    (kept : Option (DeskState ScriptCredential ScriptRule))
+    (audit : Option (AuditState ScriptCredential ScriptRule)) (a : Account) → HasSigner kept audit a
+    → kept ≡ Some desk → audit ≡ None
 no_audit_yet desk (Some other) None a h e = refl
 no_audit_yet desk (Some other) (Some audit) a h e = absurd h
 no_audit_yet desk None audit a h e = absurd cc
 
 -- ---- a silent line
 
-silent-signer : (a : Account) (desk : Option (DeskState ScriptCredential ScriptRule)) (audit : Option (AuditState ScriptCredential ScriptRule)) → HasSigner desk audit a → HasSigner desk audit (with_item a item.Silent)
+silent-signer : (a : Account) (desk : Option (DeskState ScriptCredential ScriptRule))
+    (audit : Option (AuditState ScriptCredential ScriptRule)) → HasSigner desk audit a
+    → HasSigner desk audit (with_item a item.Silent)
 silent-signer a (Some desk) None h = record {
   setup = h.setup ∙ sym (setup_in-silent a.items);
   fresh = h.fresh;
@@ -141,7 +159,8 @@ silent-signer a None (Some audit) h = record {
 silent-signer a (Some desk) (Some audit) h = h
 silent-signer a None None h = h
 
-pub next-silent : (session : SessionState) (a : Account) → RepresentsAccount session a → RepresentsAccount session (with_item a item.Silent)
+pub next-silent : (session : SessionState) (a : Account) → RepresentsAccount session a
+    → RepresentsAccount session (with_item a item.Silent)
 next-silent session a stands = record {
   lines = stands.lines;
   caches = stands.caches ∙ ap (λ (s : Setup ScriptRule). length s.loaders) (sym (setup_in-silent a.items));
@@ -154,8 +173,10 @@ next-silent session a stands = record {
 -- ---- caches and handles
 
 -- a desk that is set up further, before the first event
-more_set_up : (new : DeskState ScriptCredential ScriptRule) (a : Account) (x : ScriptItem) (subject : Subject) → subject_of a.items x ≡ Some subject → IsNoEvent (Some subject)
-    → a.entries ≡ [] → events_in (a.items ++ x ∷ []) ≡ [] → setup_of new ≡ setup_in (a.items ++ x ∷ []) → Represents script_policy new [] → IsSetUp new (with_item a x)
+more_set_up : (new : DeskState ScriptCredential ScriptRule) (a : Account) (x : ScriptItem) (subject : Subject)
+    → subject_of a.items x ≡ Some subject → IsNoEvent (Some subject) → a.entries ≡ []
+    → events_in (a.items ++ x ∷ []) ≡ [] → setup_of new ≡ setup_in (a.items ++ x ∷ [])
+    → Represents script_policy new [] → IsSetUp new (with_item a x)
 more_set_up new a x subject makes no_event entries events setup fresh = record {
   setup = setup;
   fresh = fresh;
@@ -166,14 +187,16 @@ more_set_up new a x subject makes no_event entries events setup fresh = record {
       subst P (sym makes) no_event;
 }
 
-silent_events : (a : Account) (x : ScriptItem) → events_in (a.items ++ x ∷ []) ≡ events_in a.items ++ [] → events_in (a.items ++ x ∷ []) ≡ events_in a.items
+silent_events : (a : Account) (x : ScriptItem) → events_in (a.items ++ x ∷ []) ≡ events_in a.items ++ []
+    → events_in (a.items ++ x ∷ []) ≡ events_in a.items
 silent_events a x e = e ∙ append-nil (events_in a.items)
 
 -- a line that is answered wants its claim about this
 abbrev pub IsWanted : Unclaimed → ℕ → Subject → Type 0
 IsWanted wanted lines subject = wanted ≡ record { line = lines + 1; subject = subject }
 
-wants : (wanted : Unclaimed) (lines : ℕ) (a : Account) (x : ScriptItem) (subject due : Subject) → IsWanted wanted lines subject → lines ≡ a.lines → subject ≡ due → subject_of a.items x ≡ Some due
+wants : (wanted : Unclaimed) (lines : ℕ) (a : Account) (x : ScriptItem) (subject due : Subject)
+    → IsWanted wanted lines subject → lines ≡ a.lines → subject ≡ due → subject_of a.items x ≡ Some due
     → Some wanted ≡ (with_item a x).unclaimed
 wants wanted lines a x subject due is counts same makes =
     ap (λ (u : Unclaimed). Some u) is
@@ -182,10 +205,14 @@ wants wanted lines a x subject due is counts same makes =
     ∙ ap (λ (made : Option Subject). unclaimed_with (a.lines + 1) a.unclaimed made) (sym makes)
 
 -- one cache more
-pub next-cache : (session : SessionState) (a : Account) (loader : Loader) (desk new : DeskState ScriptCredential ScriptRule) (n : ℕ) (wanted : Unclaimed)
+pub next-cache : (session : SessionState) (a : Account) (loader : Loader)
+    (desk new : DeskState ScriptCredential ScriptRule) (n : ℕ) (wanted : Unclaimed)
     → RepresentsAccount session a → audit_item_error a (item.Cache loader) ≡ None → session.desk ≡ Some desk
-    → new ≡ with_cache loader desk → Represents script_policy new [] → n ≡ length (setup_in a.items).loaders → IsWanted wanted session.lines (Cache n)
-    → RepresentsAccount (record session { desk = Some new; caches = session.caches + 1; unclaimed = Some wanted }) (with_item a (item.Cache loader))
+    → new ≡ with_cache loader desk → Represents script_policy new [] → n ≡ length (setup_in a.items).loaders
+    → IsWanted wanted session.lines (Cache n)
+    → RepresentsAccount
+    (record session { desk = Some new; caches = session.caches + 1; unclaimed = Some wanted })
+    (with_item a (item.Cache loader))
 next-cache session a loader desk new n wanted stands good kept added fresh number is_wanted =
     let none = cache-first a loader good in
     let was = set_up desk session.desk session.audit a stands.signer kept in
@@ -209,10 +236,14 @@ next-cache session a loader desk new n wanted stands good kept added fresh numbe
     }
 
 -- one handle more
-pub next-handle : (session : SessionState) (a : Account) (cache : ℕ) (rule : ScriptRule) (desk new : DeskState ScriptCredential ScriptRule) (n : ℕ) (wanted : Unclaimed)
-    → RepresentsAccount session a → audit_item_error a (item.Handle cache rule) ≡ None → session.desk ≡ Some desk
-    → new ≡ with_handle cache (place_of_rule rule) desk → Represents script_policy new [] → n ≡ length (setup_in a.items).handles → IsWanted wanted session.lines (MadeHandle n)
-    → RepresentsAccount (record session { desk = Some new; unclaimed = Some wanted }) (with_item a (item.Handle cache rule))
+pub next-handle : (session : SessionState) (a : Account) (cache : ℕ) (rule : ScriptRule)
+    (desk new : DeskState ScriptCredential ScriptRule) (n : ℕ) (wanted : Unclaimed)
+    → RepresentsAccount session a → audit_item_error a (item.Handle cache rule) ≡ None
+    → session.desk ≡ Some desk → new ≡ with_handle cache (place_of_rule rule) desk
+    → Represents script_policy new [] → n ≡ length (setup_in a.items).handles
+    → IsWanted wanted session.lines (MadeHandle n)
+    → RepresentsAccount (record session { desk = Some new; unclaimed = Some wanted })
+    (with_item a (item.Handle cache rule))
 next-handle session a cache rule desk new n wanted stands good kept added fresh number is_wanted =
     let none = handle-first a cache rule good in
     let was = set_up desk session.desk session.audit a stands.signer kept in
@@ -235,63 +266,83 @@ next-handle session a cache rule desk new n wanted stands good kept added fresh 
     }
 
 -- the caches of a desk that is set up are those of the lines, and so are its handles
-pub loaders-same : (desk : DeskState ScriptCredential ScriptRule) (a : Account) → IsSetUp desk a → desk.loaders ≡ (setup_in a.items).loaders
+pub loaders-same : (desk : DeskState ScriptCredential ScriptRule) (a : Account) → IsSetUp desk a
+    → desk.loaders ≡ (setup_in a.items).loaders
 loaders-same desk a stands = ap (λ (s : Setup ScriptRule). s.loaders) stands.setup
 
-handles-same : (desk : DeskState ScriptCredential ScriptRule) (a : Account) → IsSetUp desk a → desk.handles ≡ (setup_in a.items).handles
+handles-same : (desk : DeskState ScriptCredential ScriptRule) (a : Account) → IsSetUp desk a
+    → desk.handles ≡ (setup_in a.items).handles
 handles-same desk a stands = ap (λ (s : Setup ScriptRule). s.handles) stands.setup
 
 -- there is a number for one cache more
-pub caches-fit : (desk : DeskState ScriptCredential ScriptRule) (a : Account) → IsSetUp desk a → length a.items < input_limit → length desk.loaders < 4294967295
+pub caches-fit : (desk : DeskState ScriptCredential ScriptRule) (a : Account) → IsSetUp desk a
+    → length a.items < input_limit → length desk.loaders < 4294967295
 caches-fit desk a stands few = omega (arith, few, caches-few a.items, ap (λ (v : List Loader). length v) (loaders-same desk a stands))
 
 -- and for one handle more
-pub handles-fit : (desk : DeskState ScriptCredential ScriptRule) (a : Account) → IsSetUp desk a → length a.items < input_limit → length desk.handles < 4294967295
+pub handles-fit : (desk : DeskState ScriptCredential ScriptRule) (a : Account) → IsSetUp desk a
+    → length a.items < input_limit → length desk.handles < 4294967295
 handles-fit desk a stands few = omega (arith, few, handles-few a.items, ap (λ (v : List Handle). length v) (handles-same desk a stands))
 
-not_started : (desk : DeskState ScriptCredential ScriptRule) (a : Account) → IsSetUp desk a → desk.started ≡ false
+not_started : (desk : DeskState ScriptCredential ScriptRule) (a : Account) → IsSetUp desk a
+    → desk.started ≡ false
 unfolding committed_entries
 not_started desk a stands = stands.fresh.started
 
 -- the one refusal of a new cache is out of memory, and its number counts those before it
-cache-answer : (desk : DeskState ScriptCredential ScriptRule) (a : Account) → IsSetUp desk a → (answer : Result ℕ AddError)
-    → AddAnswer (late_refusal desk) (length desk.loaders) answer → AddAnswer None (length desk.loaders) answer
+cache-answer : (desk : DeskState ScriptCredential ScriptRule) (a : Account) → IsSetUp desk a
+    → (answer : Result ℕ AddError) → AddAnswer (late_refusal desk) (length desk.loaders) answer
+    → AddAnswer None (length desk.loaders) answer
 cache-answer desk a stands answer h = cache-allowed desk _ answer (not_started desk a stands) h
 
-pub cache-out_of_memory : (desk : DeskState ScriptCredential ScriptRule) (a : Account) (e : AddError) → IsSetUp desk a → AddAnswer (late_refusal desk) (length desk.loaders) (Err e) → e ≡ AddError.OutOfMemory
+pub cache-out_of_memory : (desk : DeskState ScriptCredential ScriptRule) (a : Account) (e : AddError)
+    → IsSetUp desk a → AddAnswer (late_refusal desk) (length desk.loaders) (Err e) → e ≡ AddError.OutOfMemory
 cache-out_of_memory desk a e stands h = cache-answer desk a stands (Err e) h
 
-pub cache-number : (desk : DeskState ScriptCredential ScriptRule) (a : Account) (n : ℕ) → IsSetUp desk a → AddAnswer (late_refusal desk) (length desk.loaders) (Ok n) → n ≡ length (setup_in a.items).loaders
+pub cache-number : (desk : DeskState ScriptCredential ScriptRule) (a : Account) (n : ℕ) → IsSetUp desk a
+    → AddAnswer (late_refusal desk) (length desk.loaders) (Ok n) → n ≡ length (setup_in a.items).loaders
 cache-number desk a n stands h = cache-answer desk a stands (Ok n) h ∙ ap (λ (v : List Loader). length v) (loaders-same desk a stands)
 
 -- so it is with a new handle, whose cache and whose rule are there
-handle-answer : (desk : DeskState ScriptCredential ScriptRule) (a : Account) (cache : ℕ) (rule : ScriptRule) → audit_item_error a (item.Handle cache rule) ≡ None → IsSetUp desk a → (answer : Result ℕ AddError)
-    → AddAnswer (handle_refusal desk cache (place_of_rule rule)) (length desk.handles) answer → AddAnswer None (length desk.handles) answer
+handle-answer : (desk : DeskState ScriptCredential ScriptRule) (a : Account) (cache : ℕ) (rule : ScriptRule)
+    → audit_item_error a (item.Handle cache rule) ≡ None → IsSetUp desk a → (answer : Result ℕ AddError)
+    → AddAnswer (handle_refusal desk cache (place_of_rule rule)) (length desk.handles) answer
+    → AddAnswer None (length desk.handles) answer
 handle-answer desk a cache rule good stands answer h =
     handle-allowed desk _ answer cache (place_of_rule rule) (not_started desk a stands)
     (ap (λ (v : List Loader). nat_lt cache (length v)) (loaders-same desk a stands) ∙ handle-cache a.items cache rule (good-item a (item.Handle cache rule) good))
     (ap (λ (s : Setup ScriptRule). nat_lt (place_of_rule rule) (length s.rules)) stands.setup ∙ rule-placed a.items rule)
     h
 
-pub handle-out_of_memory : (desk : DeskState ScriptCredential ScriptRule) (a : Account) (cache : ℕ) (rule : ScriptRule) (e : AddError) → audit_item_error a (item.Handle cache rule) ≡ None → IsSetUp desk a → AddAnswer (handle_refusal desk cache (place_of_rule rule)) (length desk.handles) (Err e) → e ≡ AddError.OutOfMemory
+pub handle-out_of_memory : (desk : DeskState ScriptCredential ScriptRule) (a : Account) (cache : ℕ)
+    (rule : ScriptRule) (e : AddError) → audit_item_error a (item.Handle cache rule) ≡ None → IsSetUp desk a
+    → AddAnswer (handle_refusal desk cache (place_of_rule rule)) (length desk.handles) (Err e)
+    → e ≡ AddError.OutOfMemory
 handle-out_of_memory desk a cache rule e good stands h = handle-answer desk a cache rule good stands (Err e) h
 
-pub handle-number : (desk : DeskState ScriptCredential ScriptRule) (a : Account) (cache : ℕ) (rule : ScriptRule) (n : ℕ) → audit_item_error a (item.Handle cache rule) ≡ None → IsSetUp desk a → AddAnswer (handle_refusal desk cache (place_of_rule rule)) (length desk.handles) (Ok n) → n ≡ length (setup_in a.items).handles
+pub handle-number : (desk : DeskState ScriptCredential ScriptRule) (a : Account) (cache : ℕ)
+    (rule : ScriptRule) (n : ℕ) → audit_item_error a (item.Handle cache rule) ≡ None → IsSetUp desk a
+    → AddAnswer (handle_refusal desk cache (place_of_rule rule)) (length desk.handles) (Ok n)
+    → n ≡ length (setup_in a.items).handles
 handle-number desk a cache rule n good stands h = handle-answer desk a cache rule good stands (Ok n) h ∙ ap (λ (v : List Handle). length v) (handles-same desk a stands)
 
 -- ---- events
 
 -- an event has happened
-begun_by : (a : Account) (event : Event ScriptCredential) → is_empty (events_in (a.items ++ item.Event event ∷ [])) ≡ false
+begun_by : (a : Account) (event : Event ScriptCredential)
+    → is_empty (events_in (a.items ++ item.Event event ∷ [])) ≡ false
 begun_by a event = ap (λ (v : List (Event ScriptCredential)). is_empty v) (events_in-more a.items (item.Event event)) ∙ not_empty (events_in a.items) event
   where
-    not_empty : (xs : List (Event ScriptCredential)) (x : Event ScriptCredential) → is_empty (xs ++ x ∷ []) ≡ false
+    not_empty : (xs : List (Event ScriptCredential)) (x : Event ScriptCredential)
+        → is_empty (xs ++ x ∷ []) ≡ false
     not_empty [] x = refl
     not_empty (y ∷ rest) x = refl
 
 -- the first event begins the audit
-pub first-signer : (desk : DeskState ScriptCredential ScriptRule) (audit : AuditState ScriptCredential ScriptRule) (a : Account) (event : Event ScriptCredential)
-    → IsSetUp desk a → audit.desk ≡ desk → AuditRepresents script_policy audit [] → HasSigner None (Some audit) (with_item a (item.Event event))
+pub first-signer : (desk : DeskState ScriptCredential ScriptRule)
+    (audit : AuditState ScriptCredential ScriptRule) (a : Account) (event : Event ScriptCredential)
+    → IsSetUp desk a → audit.desk ≡ desk → AuditRepresents script_policy audit []
+    → HasSigner None (Some audit) (with_item a (item.Event event))
 first-signer desk audit a event stands same fresh = record {
   setup = ap (λ (d : DeskState ScriptCredential ScriptRule). setup_of d) same ∙ stands.setup ∙ sym (setup_in-event a.items event);
   begun = begun_by a event;
@@ -301,7 +352,9 @@ first-signer desk audit a event stands same fresh = record {
 }
 
 -- a later one leaves it
-pub later-signer : (audit : Option (AuditState ScriptCredential ScriptRule)) (a : Account) (event : Event ScriptCredential) → HasSigner None audit a → HasSigner None audit (with_item a (item.Event event))
+pub later-signer : (audit : Option (AuditState ScriptCredential ScriptRule)) (a : Account)
+    (event : Event ScriptCredential) → HasSigner None audit a
+    → HasSigner None audit (with_item a (item.Event event))
 later-signer (Some audit) a event stands = record {
   setup = stands.setup ∙ sym (setup_in-event a.items event);
   begun = begun_by a event;
@@ -312,15 +365,20 @@ later-signer (Some audit) a event stands = record {
 later-signer None a event stands = stands
 
 -- so without a desk
-pub undisturbed : (desk : Option (DeskState ScriptCredential ScriptRule)) (audit : Option (AuditState ScriptCredential ScriptRule)) (a : Account) (event : Event ScriptCredential)
+pub undisturbed : (desk : Option (DeskState ScriptCredential ScriptRule))
+    (audit : Option (AuditState ScriptCredential ScriptRule)) (a : Account) (event : Event ScriptCredential)
     → HasSigner desk audit a → desk ≡ None → HasSigner None audit (with_item a (item.Event event))
 undisturbed None audit a event stands e = later-signer audit a event stands
 undisturbed (Some desk) audit a event stands e = absurd cc
 
 -- one event more, which waits for its claim
-pub next-event : (session : SessionState) (a : Account) (event : Event ScriptCredential) (audit : Option (AuditState ScriptCredential ScriptRule)) (wanted : Unclaimed)
-    → RepresentsAccount session a → HasSigner None audit (with_item a (item.Event event)) → IsWanted wanted session.lines (Happened event)
-    → RepresentsAccount (record session { desk = None; audit = audit; events = session.events + 1; unclaimed = Some wanted }) (with_item a (item.Event event))
+pub next-event : (session : SessionState) (a : Account) (event : Event ScriptCredential)
+    (audit : Option (AuditState ScriptCredential ScriptRule)) (wanted : Unclaimed)
+    → RepresentsAccount session a → HasSigner None audit (with_item a (item.Event event))
+    → IsWanted wanted session.lines (Happened event)
+    → RepresentsAccount
+    (record session { desk = None; audit = audit; events = session.events + 1; unclaimed = Some wanted })
+    (with_item a (item.Event event))
 next-event session a event audit wanted stands signer is_wanted =
     let more : length (events_in (a.items ++ item.Event event ∷ [])) ≡ length (events_in a.items) + 1 =
     ap (λ (v : List (Event ScriptCredential)). length v) (events_in-more a.items (item.Event event)) ∙ length-append (events_in a.items) (event ∷ []) in record {
@@ -335,12 +393,17 @@ next-event session a event audit wanted stands signer is_wanted =
 -- ---- claims
 
 -- the entry that was claimed, as the audit has it and as the lines have it
-entry-plain : (setup : Setup ScriptRule) (a : Account) (stepped : List (Entry ScriptCredential)) (event : Event ScriptCredential) (claimed : ClaimedReply) (missed : Bool)
-    → setup ≡ setup_in a.items → plain_entries stepped ≡ a.entries → missed ≡ is_missed claimed
-    → plain_entries (record { event = event; reply = if missed then reply.OutOfMemory else expected_reply script_policy setup (committed_entries stepped) event } ∷ []) ≡ claimed_entry a (plain_event event) claimed ∷ []
+entry-plain : (setup : Setup ScriptRule) (a : Account) (stepped : List (Entry ScriptCredential))
+    (event : Event ScriptCredential) (claimed : ClaimedReply) (missed : Bool) → setup ≡ setup_in a.items
+    → plain_entries stepped ≡ a.entries → missed ≡ is_missed claimed
+    → plain_entries
+    (record { event = event; reply = if missed then reply.OutOfMemory else expected_reply script_policy setup (committed_entries stepped) event }
+    ∷ [])
+    ≡ claimed_entry a (plain_event event) claimed ∷ []
 entry-plain setup a stepped event claimed missed is_setup are says = by_claim claimed says
   where
-    due : expected_reply script_policy setup (committed_entries stepped) event ≡ reply_due a (plain_event event)
+    due : expected_reply script_policy setup (committed_entries stepped) event
+        ≡ reply_due a (plain_event event)
     due =
         sym (reply-plain setup stepped event)
         ∙ ap (λ (s : Setup ScriptRule). expected_reply script_policy s (committed_entries (plain_entries stepped)) (plain_event event)) is_setup
@@ -349,10 +412,16 @@ entry-plain setup a stepped event claimed missed is_setup are says = by_claim cl
     plain : Reply ScriptCredential → List (Entry ScriptCredential)
     plain r = record { event = plain_event event; reply = r } ∷ []
 
-    other : missed ≡ false → plain (if missed then reply.OutOfMemory else expected_reply script_policy setup (committed_entries stepped) event) ≡ plain (reply_due a (plain_event event))
+    other : missed ≡ false
+        → plain (if missed then reply.OutOfMemory else expected_reply script_policy setup
+        (committed_entries stepped) event)
+        ≡ plain (reply_due a (plain_event event))
     other e = rw e (ap plain due)
 
-    by_claim : (c : ClaimedReply) → missed ≡ is_missed c → plain (if missed then reply.OutOfMemory else expected_reply script_policy setup (committed_entries stepped) event) ≡ claimed_entry a (plain_event event) c ∷ []
+    by_claim : (c : ClaimedReply) → missed ≡ is_missed c
+        → plain (if missed then reply.OutOfMemory else expected_reply script_policy setup
+        (committed_entries stepped) event)
+        ≡ claimed_entry a (plain_event event) c ∷ []
     by_claim claim.OutOfMemory e = rw e refl
     by_claim (claim.Cache n) e = other e
     by_claim (claim.Handle n) e = other e
@@ -366,17 +435,27 @@ entry-plain setup a stepped event claimed missed is_setup are says = by_claim cl
     by_claim (claim.Cancelled wake) e = other e
 
 -- the entry that a legal claim added
-pub legal-entry : (says : Reply ScriptCredential → Bool → Type 0) (audit new : AuditState ScriptCredential ScriptRule) (stepped : List (Entry ScriptCredential)) (missed : Bool) (event : Event ScriptCredential) (answer : Claim ScriptCredential)
+pub legal-entry : (says : Reply ScriptCredential → Bool → Type 0)
+    (audit new : AuditState ScriptCredential ScriptRule) (stepped : List (Entry ScriptCredential))
+    (missed : Bool) (event : Event ScriptCredential) (answer : Claim ScriptCredential)
     → AnswersTest script_policy audit stepped says missed event answer new → answer ≡ Claim.Legal
-    → AuditRepresents script_policy new (stepped ++ record { event = event; reply = if missed then reply.OutOfMemory else expected_reply script_policy (setup_of audit.desk) (committed_entries stepped) event } ∷ [])
+    → AuditRepresents script_policy new
+    (stepped
+    ++ record { event = event; reply = if missed then reply.OutOfMemory else expected_reply script_policy (setup_of audit.desk) (committed_entries stepped) event }
+    ∷ [])
 legal-entry says audit new stepped missed event Claim.Legal h e = h.1
 legal-entry says audit new stepped missed event (Claim.Due due) h e = absurd cc
 legal-entry says audit new stepped missed event Claim.OutOfMemory h e = absurd cc
 
 -- one claim of an event more
-pub next-entry : (audit new : AuditState ScriptCredential ScriptRule) (a : Account) (event : Event ScriptCredential) (claimed : ClaimedReply) (missed : Bool) (stands : IsAudited audit a)
-    → subject_in a ≡ Some (Happened (plain_event event)) → missed ≡ is_missed claimed → setup_of new.desk ≡ setup_of audit.desk
-    → AuditRepresents script_policy new (stands.stepped ++ record { event = event; reply = if missed then reply.OutOfMemory else expected_reply script_policy (setup_of audit.desk) (committed_entries stands.stepped) event } ∷ [])
+pub next-entry : (audit new : AuditState ScriptCredential ScriptRule) (a : Account)
+    (event : Event ScriptCredential) (claimed : ClaimedReply) (missed : Bool) (stands : IsAudited audit a)
+    → subject_in a ≡ Some (Happened (plain_event event)) → missed ≡ is_missed claimed
+    → setup_of new.desk ≡ setup_of audit.desk
+    → AuditRepresents script_policy new
+    (stands.stepped
+    ++ record { event = event; reply = if missed then reply.OutOfMemory else expected_reply script_policy (setup_of audit.desk) (committed_entries stands.stepped) event }
+    ∷ [])
     → IsAudited new (with_claim a claimed)
 next-entry audit new a event claimed missed stands about says setup represents =
     let entry : Entry ScriptCredential = record { event = event; reply = if missed then reply.OutOfMemory else expected_reply script_policy (setup_of audit.desk) (committed_entries stands.stepped) event } in record {
@@ -392,27 +471,32 @@ next-entry audit new a event claimed missed stands about says setup represents =
     }
 
 -- a desk that is set up is claimed no event for
-pub no_event-claimed : (desk : DeskState ScriptCredential ScriptRule) (a : Account) (event : Event ScriptCredential) → IsSetUp desk a → subject_in a ≡ Some (Happened event) → ⊥
+pub no_event-claimed : (desk : DeskState ScriptCredential ScriptRule) (a : Account)
+    (event : Event ScriptCredential) → IsSetUp desk a → subject_in a ≡ Some (Happened event) → ⊥
 no_event-claimed desk a event stands about = let P : Option Subject → Type 0 = λ s. IsNoEvent s in subst P about stands.no_claim
 
 -- what is no claim of an event changes no entries
-other_subject : (a : Account) (claimed : ClaimedReply) (subject : Option Subject) → IsNoEvent subject → entries_with a claimed subject ≡ a.entries
+other_subject : (a : Account) (claimed : ClaimedReply) (subject : Option Subject) → IsNoEvent subject
+    → entries_with a claimed subject ≡ a.entries
 other_subject a claimed None h = refl
 other_subject a claimed (Some (Cache n)) h = refl
 other_subject a claimed (Some (MadeHandle n)) h = refl
 other_subject a claimed (Some (Happened event)) h = absurd h
 
 -- so it leaves the signer
-pub other-signer : (a : Account) (claimed : ClaimedReply) (desk : Option (DeskState ScriptCredential ScriptRule)) (audit : Option (AuditState ScriptCredential ScriptRule))
-    → IsNoEvent (subject_in a) → HasSigner desk audit a → HasSigner desk audit (with_claim a claimed)
+pub other-signer : (a : Account) (claimed : ClaimedReply)
+    (desk : Option (DeskState ScriptCredential ScriptRule))
+    (audit : Option (AuditState ScriptCredential ScriptRule)) → IsNoEvent (subject_in a)
+    → HasSigner desk audit a → HasSigner desk audit (with_claim a claimed)
 other-signer a claimed (Some desk) None other h = record { setup = h.setup; fresh = h.fresh; no_event = h.no_event; no_entries = other_subject a claimed (subject_in a) other ∙ h.no_entries; no_claim = tt }
 other-signer a claimed None (Some audit) other h = record { setup = h.setup; begun = h.begun; stepped = h.stepped; entries = h.entries ∙ sym (other_subject a claimed (subject_in a) other); represents = h.represents }
 other-signer a claimed (Some desk) (Some audit) other h = h
 other-signer a claimed None None other h = h
 
 -- the claim is taken
-pub next-claim : (session : SessionState) (a : Account) (claimed : ClaimedReply) (audit : Option (AuditState ScriptCredential ScriptRule))
-    → RepresentsAccount session a → HasSigner session.desk audit (with_claim a claimed)
+pub next-claim : (session : SessionState) (a : Account) (claimed : ClaimedReply)
+    (audit : Option (AuditState ScriptCredential ScriptRule)) → RepresentsAccount session a
+    → HasSigner session.desk audit (with_claim a claimed)
     → RepresentsAccount (record session { audit = audit; unclaimed = None }) (with_claim a claimed)
 next-claim session a claimed audit stands signer = record {
   lines = stands.lines;
@@ -425,14 +509,19 @@ next-claim session a claimed audit stands signer = record {
 
 -- ---- the line counts
 
-counted-signer : (a : Account) (version : ScriptVersion) (desk : Option (DeskState ScriptCredential ScriptRule)) (audit : Option (AuditState ScriptCredential ScriptRule)) → HasSigner desk audit a → HasSigner desk audit (counted version a)
+counted-signer : (a : Account) (version : ScriptVersion)
+    (desk : Option (DeskState ScriptCredential ScriptRule))
+    (audit : Option (AuditState ScriptCredential ScriptRule)) → HasSigner desk audit a
+    → HasSigner desk audit (counted version a)
 counted-signer a version (Some desk) None h = record { setup = h.setup; fresh = h.fresh; no_event = h.no_event; no_entries = h.no_entries; no_claim = h.no_claim }
 counted-signer a version None (Some audit) h = record { setup = h.setup; begun = h.begun; stepped = h.stepped; entries = h.entries; represents = h.represents }
 counted-signer a version (Some desk) (Some audit) h = h
 counted-signer a version None None h = h
 
-pub next-counted : (session : SessionState) (a : Account) (version : ScriptVersion) → RepresentsAccount session a
-    → RepresentsAccount (record session { lines = session.lines + 1; version = Some version }) (counted version a)
+pub next-counted : (session : SessionState) (a : Account) (version : ScriptVersion)
+    → RepresentsAccount session a
+    → RepresentsAccount (record session { lines = session.lines + 1; version = Some version })
+    (counted version a)
 next-counted session a version stands = record {
   lines = ap (λ (n : ℕ). n + 1) stands.lines;
   caches = stands.caches;

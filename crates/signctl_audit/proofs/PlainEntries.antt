@@ -1,4 +1,5 @@
--- Entries as lines have them, and those that the audit was given, are alike: they differ in how durations are stored alone.
+-- Entries as lines have them, and those that the audit was given, are alike: they differ in how durations are
+-- stored alone.
 use Rattle.std.proofs.Common.{◌≡◌, ℕ, suc, Bool, true, false, not, List, [], ◌∷◌, length, filter, Option, Some, None, option_map, refl, ap, ◌∙◌, arith}
 use Rattle.std.specs.Duration.{as_nanos}
 use Rattle.std.specs.declared.time.Duration.{Duration}
@@ -56,7 +57,8 @@ plain-alike : (entries : List (Entry ScriptCredential)) → AlikeTranscripts (pl
 plain-alike [] = none
 plain-alike (e ∷ rest) = more (record { event = plain_event-alike e.event; reply = refl }) (plain-alike rest)
 
-committed-more : (e : Entry ScriptCredential) (rest : List (Entry ScriptCredential)) (b : Bool) → not (is_out_of_memory e.reply) ≡ b
+committed-more : (e : Entry ScriptCredential) (rest : List (Entry ScriptCredential)) (b : Bool)
+    → not (is_out_of_memory e.reply) ≡ b
     → committed_entries (plain_entries rest) ≡ plain_entries (committed_entries rest)
     → committed_entries (plain_entries (e ∷ rest)) ≡ plain_entries (committed_entries (e ∷ rest))
 unfolding committed_entries
@@ -64,7 +66,8 @@ committed-more e rest true h so_far = rw (h, so_far) refl
 committed-more e rest false h so_far = rw (h, so_far) refl
 
 -- the same entries are committed
-pub committed-plain : (entries : List (Entry ScriptCredential)) → committed_entries (plain_entries entries) ≡ plain_entries (committed_entries entries)
+pub committed-plain : (entries : List (Entry ScriptCredential))
+    → committed_entries (plain_entries entries) ≡ plain_entries (committed_entries entries)
 unfolding committed_entries
 committed-plain [] = refl
 committed-plain (e ∷ rest) = committed-more e rest (not (is_out_of_memory e.reply)) refl (committed-plain rest)
@@ -72,13 +75,16 @@ committed-plain (e ∷ rest) = committed-more e rest (not (is_out_of_memory e.re
 -- ---- replies
 
 -- an event has the same expected reply
-pub reply-plain : (setup : Setup ScriptRule) (entries : List (Entry ScriptCredential)) (event : Event ScriptCredential)
-    → expected_reply script_policy setup (committed_entries (plain_entries entries)) (plain_event event) ≡ expected_reply script_policy setup (committed_entries entries) event
+pub reply-plain : (setup : Setup ScriptRule) (entries : List (Entry ScriptCredential))
+    (event : Event ScriptCredential)
+    → expected_reply script_policy setup (committed_entries (plain_entries entries)) (plain_event event)
+    ≡ expected_reply script_policy setup (committed_entries entries) event
 reply-plain setup entries event =
     ap (λ (t : List (Entry ScriptCredential)). expected_reply script_policy setup t (plain_event event)) (committed-plain entries)
     ∙ expected_reply-with_events script_policy setup plain_event plain_event-alike (committed_entries entries) event
 
-allocates-alike : (setup : Setup ScriptRule) (a b : List (Entry ScriptCredential)) → AlikeTranscripts a b → (event : Event ScriptCredential)
+allocates-alike : (setup : Setup ScriptRule) (a b : List (Entry ScriptCredential)) → AlikeTranscripts a b
+    → (event : Event ScriptCredential)
     → allocates script_policy setup a (plain_event event) ≡ allocates script_policy setup b event
 allocates-alike setup a b alike (Begin call head d) = rw (is_new_number-alike alike call) refl
 allocates-alike setup a b alike (Poll call now) = rw (phase_of-alike alike call, expected_reply-alike script_policy setup alike (equal (Poll call now))) refl
@@ -90,8 +96,10 @@ allocates-alike setup a b alike (Signed call (verdict.Failed e)) = rw (phase_of-
 allocates-alike setup a b alike (Cancel call) = rw (phase_of-alike alike call) refl
 
 -- it may run out of memory alike
-pub allocates-plain : (setup : Setup ScriptRule) (entries : List (Entry ScriptCredential)) (event : Event ScriptCredential)
-    → allocates script_policy setup (committed_entries (plain_entries entries)) (plain_event event) ≡ allocates script_policy setup (committed_entries entries) event
+pub allocates-plain : (setup : Setup ScriptRule) (entries : List (Entry ScriptCredential))
+    (event : Event ScriptCredential)
+    → allocates script_policy setup (committed_entries (plain_entries entries)) (plain_event event)
+    ≡ allocates script_policy setup (committed_entries entries) event
 allocates-plain setup entries event =
     ap (λ (t : List (Entry ScriptCredential)). allocates script_policy setup t (plain_event event)) (committed-plain entries)
     ∙ allocates-alike setup (plain_entries (committed_entries entries)) (committed_entries entries) (plain-alike (committed_entries entries)) event
@@ -120,7 +128,8 @@ module _ (setup : Setup ScriptRule) (a b : List (Entry ScriptCredential)) (alike
       (map-pairwise (λ (e : Entry ScriptCredential). call_of e.event) (λ x y h. calls-alike h.event)
       (filter-pairwise (is_poll_at setup i) (λ x y h. rw (is_poll-alike h.event, h.reply, calls-alike h.event) refl) alike))
 
-  ahead-alike : (call : CallId) (cache : Option ℕ) → open_ahead setup a call cache ≡ open_ahead setup b call cache
+  ahead-alike : (call : CallId) (cache : Option ℕ)
+      → open_ahead setup a call cache ≡ open_ahead setup b call cache
   ahead-alike call None = refl
   ahead-alike call (Some i) =
       ap (λ (order : List CallId). filter (λ other. not (hold_is_finished a other)) (before_call call order)) (order-alike i)
@@ -132,24 +141,28 @@ module _ (setup : Setup ScriptRule) (a b : List (Entry ScriptCredential)) (alike
 
 -- a call waits for the same calls
 pub blockers-plain : (setup : Setup ScriptRule) (entries : List (Entry ScriptCredential)) (call : CallId)
-    → blockers_of setup (committed_entries (plain_entries entries)) call ≡ blockers_of setup (committed_entries entries) call
+    → blockers_of setup (committed_entries (plain_entries entries)) call
+    ≡ blockers_of setup (committed_entries entries) call
 blockers-plain setup entries call =
     ap (λ (t : List (Entry ScriptCredential)). blockers_of setup t call) (committed-plain entries)
     ∙ blockers-alike setup (plain_entries (committed_entries entries)) (committed_entries entries) (plain-alike (committed_entries entries)) call
 
 -- ---- counts
 
-same_length : {R : Entry ScriptCredential → Entry ScriptCredential → Type 0} {xs ys : List (Entry ScriptCredential)} → Pairwise R xs ys → length xs ≡ length ys
+same_length : {R : Entry ScriptCredential → Entry ScriptCredential → Type 0}
+    {xs ys : List (Entry ScriptCredential)} → Pairwise R xs ys → length xs ≡ length ys
 same_length none = refl
 same_length (more r rest) = ap (λ (n : ℕ). suc n) (same_length rest)
 
-number-plain : (setup : Setup ScriptRule) (i : ℕ) (kind : Reply ScriptCredential → Bool) (entries : List (Entry ScriptCredential))
+number-plain : (setup : Setup ScriptRule) (i : ℕ) (kind : Reply ScriptCredential → Bool)
+    (entries : List (Entry ScriptCredential))
     → number_at setup i kind (plain_entries entries) ≡ number_at setup i kind entries
 number-plain setup i kind entries =
     same_length (filter-pairwise (is_kind_at setup i kind) (λ x y h. rw (calls-alike h.event, h.reply) refl) (plain-alike entries))
 
 -- replies are counted alike
-pub counts-plain : (setup : Setup ScriptRule) (entries : List (Entry ScriptCredential)) (i : ℕ) → counts_of setup (plain_entries entries) i ≡ counts_of setup entries i
+pub counts-plain : (setup : Setup ScriptRule) (entries : List (Entry ScriptCredential)) (i : ℕ)
+    → counts_of setup (plain_entries entries) i ≡ counts_of setup entries i
 counts-plain setup entries i =
     rw (
       number-plain setup i is_ask entries,

@@ -42,7 +42,8 @@ unfolding first_byte
 begins_otherwise line other e = false≢true (sym other ∙ ap (λ (l : List ℕ). nat_eq (first_byte l) 111) e)
 
 -- no other reply is printed so
-not_printed : (answer : Reply ScriptCredential) → is_out_of_memory answer ≡ false → reply_line answer ≡ codes "out of memory" → ⊥
+not_printed : (answer : Reply ScriptCredential) → is_out_of_memory answer ≡ false
+    → reply_line answer ≡ codes "out of memory" → ⊥
 unfolding first_byte
 not_printed reply.Begun m e = begins_otherwise (reply_line reply.Begun) refl e
 not_printed reply.Pending m e = begins_otherwise (reply_line reply.Pending) refl e
@@ -68,7 +69,8 @@ missed-is (claim.Done head) h = absurd cc
 missed-is (claim.Cancelled wake) h = absurd cc
 
 -- a text that claims that memory ran out is this one
-missed-text : (text : List ℕ) (claimed : ClaimedReply) → claim_of text ≡ Some claimed → is_missed claimed ≡ true → text ≡ codes "out of memory"
+missed-text : (text : List ℕ) (claimed : ClaimedReply) → claim_of text ≡ Some claimed
+    → is_missed claimed ≡ true → text ≡ codes "out of memory"
 missed-text text claimed read missed =
     one_spelling claim.OutOfMemory text (codes "out of memory")
     (claim_of-some text claim.OutOfMemory (read ∙ ap (λ (c : ClaimedReply). Some c) (missed-is claimed missed))) (tt, refl)
@@ -102,7 +104,9 @@ module _ (audit : AuditState ScriptCredential ScriptRule) (a : Account) (stands 
     not_due false m h = always _ h
 
     -- by a test that all replies pass, a right claim is legal, unless an allocation failed
-    pub right-answered : (answer : Claim ScriptCredential) (new : AuditState ScriptCredential ScriptRule) → AnswersTest script_policy audit stands.stepped fits missed event answer new → IsLegalOrNoMemory answer
+    pub right-answered : (answer : Claim ScriptCredential) (new : AuditState ScriptCredential ScriptRule)
+        → AnswersTest script_policy audit stands.stepped fits missed event answer new
+        → IsLegalOrNoMemory answer
     right-answered Claim.Legal new h = tt
     right-answered (Claim.Due due) new h = not_due missed refl h.0
     right-answered Claim.OutOfMemory new h = tt

@@ -19,18 +19,28 @@ use Rattle.signctl_audit.proofs.Accounts.{account-more, lines-are, items-few, en
 use Rattle.signctl_audit.proofs.NextLine.{as_seen, next-counted}
 
 -- a desk with the two rules alone stands before the first line
-set_up-first : (desk : DeskState ScriptCredential ScriptRule) → setup_of desk ≡ record { loaders = []; rules = Now ∷ Cred ∷ []; handles = [] } → Represents script_policy desk [] → IsSetUp desk no_lines
+set_up-first : (desk : DeskState ScriptCredential ScriptRule)
+    → setup_of desk ≡ record { loaders = []; rules = Now ∷ Cred ∷ []; handles = [] }
+    → Represents script_policy desk [] → IsSetUp desk no_lines
 unfolding setup_in events_in
 set_up-first desk setup fresh = record { setup = setup; fresh = fresh; no_event = refl; no_entries = refl; no_claim = tt }
 
-first-account : (desk : DeskState ScriptCredential ScriptRule) → setup_of desk ≡ record { loaders = []; rules = Now ∷ Cred ∷ []; handles = [] } → Represents script_policy desk []
-    → RepresentsAccount (record { desk = Some desk; audit = None; lines = 0; caches = 0; events = 0; version = None; unclaimed = None }) no_lines
+first-account : (desk : DeskState ScriptCredential ScriptRule)
+    → setup_of desk ≡ record { loaders = []; rules = Now ∷ Cred ∷ []; handles = [] }
+    → Represents script_policy desk []
+    → RepresentsAccount
+    (record { desk = Some desk; audit = None; lines = 0; caches = 0; events = 0; version = None; unclaimed = None })
+    no_lines
 unfolding setup_in events_in
 first-account desk setup fresh = record { lines = refl; caches = refl; events = refl; version = refl; unclaimed = refl; signer = set_up-first desk setup fresh }
 
 -- a session before the first line
-pub first-session : (desk : DeskState ScriptCredential ScriptRule) → setup_of desk ≡ record { loaders = []; rules = Now ∷ Cred ∷ []; handles = [] } → Represents script_policy desk []
-    → SessionRepresents (record { desk = Some desk; audit = None; lines = 0; caches = 0; events = 0; version = None; unclaimed = None }) []
+pub first-session : (desk : DeskState ScriptCredential ScriptRule)
+    → setup_of desk ≡ record { loaders = []; rules = Now ∷ Cred ∷ []; handles = [] }
+    → Represents script_policy desk []
+    → SessionRepresents
+    (record { desk = Some desk; audit = None; lines = 0; caches = 0; events = 0; version = None; unclaimed = None })
+    []
 unfolding account_of
 first-session desk setup fresh = record { account = first-account desk setup fresh; few = omega arith }
 
@@ -43,11 +53,13 @@ has-room lines few = record {
 }
 
 -- the lines of a session fit its count
-pub lines-fit : (session : SessionState) (a : Account) → RepresentsAccount session a → HasRoom a → session.lines < 18446744073709551615
+pub lines-fit : (session : SessionState) (a : Account) → RepresentsAccount session a → HasRoom a
+    → session.lines < 18446744073709551615
 lines-fit session a stands room = omega (arith, stands.lines, room.lines)
 
 -- so do its caches
-pub caches-fit : (session : SessionState) (a : Account) → RepresentsAccount session a → HasRoom a → session.caches + 1 < 4294967296
+pub caches-fit : (session : SessionState) (a : Account) → RepresentsAccount session a → HasRoom a
+    → session.caches + 1 < 4294967296
 caches-fit session a stands room = omega (arith, stands.caches, caches-few a.items, room.items)
 
 events-few : (a : Account) → length (events_in a.items) ≤ length a.items
@@ -55,12 +67,15 @@ unfolding events_in
 events-few a = picked-few event_in a.items
 
 -- and its events
-pub events-fit : (session : SessionState) (a : Account) → RepresentsAccount session a → HasRoom a → session.events + 1 < 18446744073709551616
+pub events-fit : (session : SessionState) (a : Account) → RepresentsAccount session a → HasRoom a
+    → session.events + 1 < 18446744073709551616
 events-fit session a stands room = omega (arith, stands.events, events-few a, room.items)
 
 -- the line is answered: the session represents the lines with it
-pub next-line : (inside session : SessionState) (lines before : List AuditLine) (line : AuditLine) (a : Account) (version : ScriptVersion)
-    → inside ≡ record session { lines = session.lines + 1; version = Some version } → RepresentsAccount session a → counted version a ≡ with_line (account_of lines) line
+pub next-line : (inside session : SessionState) (lines before : List AuditLine) (line : AuditLine)
+    (a : Account) (version : ScriptVersion)
+    → inside ≡ record session { lines = session.lines + 1; version = Some version }
+    → RepresentsAccount session a → counted version a ≡ with_line (account_of lines) line
     → a.lines ≡ length lines → session.lines ≡ length before → length before < input_limit
     → SessionRepresents inside (lines ++ line ∷ [])
 next-line inside session lines before line a version is stands next count there few =

@@ -23,7 +23,8 @@ seen-within : (bytes held : List ℕ) → length (bytes ++ held) ≤ input_limit
 seen-within bytes held few = take_all (input_limit - length bytes) held (omega (arith, length-append bytes held))
 
 -- a whole line that is looked at stays whole
-pub seen-line : (bytes line rest : List ℕ) → length bytes + (length line + 1) ≤ input_limit → (more : List ℕ) × (seen bytes (line ++ newline ∷ rest) ≡ line ++ newline ∷ more)
+pub seen-line : (bytes line rest : List ℕ) → length bytes + (length line + 1) ≤ input_limit
+    → (more : List ℕ) × (seen bytes (line ++ newline ∷ rest) ≡ line ++ newline ∷ more)
 seen-line bytes line rest fits =
     let room = input_limit - (length bytes + (length line + 1)) in
     let ended = line ++ newline ∷ [] in
@@ -36,10 +37,14 @@ seen-line bytes line rest fits =
 
 module _ {Item Cause : Type 0} (command : Command Item Cause) (items : List Item) (bytes : List ℕ) (go : GoesOn command items bytes) where
   -- a bad line among the bytes that are looked at closes the output to all bytes taken
-  pub output-bad_seen : (held : List ℕ) (bad : BadLine) → length bytes ≤ input_limit → ((ending : Ending) → lines_read command (bytes ++ seen bytes held) ending ≡ record { items = items; bad = Some bad }) → (ending : Ending) → output command (bytes ++ held) ending ≡ answers_to command items ++ bad_line bad
+  pub output-bad_seen : (held : List ℕ) (bad : BadLine) → length bytes ≤ input_limit
+      → ((ending : Ending)
+      → lines_read command (bytes ++ seen bytes held) ending ≡ record { items = items; bad = Some bad })
+      → (ending : Ending) → output command (bytes ++ held) ending ≡ answers_to command items ++ bad_line bad
   output-bad_seen held bad few reads ending = by_length (nat_lt input_limit (length (bytes ++ held))) refl
     where
-      by_length : (b : Bool) → nat_lt input_limit (length (bytes ++ held)) ≡ b → output command (bytes ++ held) ending ≡ answers_to command items ++ bad_line bad
+      by_length : (b : Bool) → nat_lt input_limit (length (bytes ++ held)) ≡ b
+          → output command (bytes ++ held) ending ≡ answers_to command items ++ bad_line bad
       by_length true e =
           let past : input_limit < length (bytes ++ held) = ltb-true input_limit (length (bytes ++ held)) e in
           output-many command items (Some bad) (bytes ++ held) (bytes ++ seen bytes held) ending past (seen-past bytes held few) (reads Fault)
@@ -48,10 +53,14 @@ module _ {Item Cause : Type 0} (command : Command Item Cause) (items : List Item
           output-bad command items (bytes ++ held) ending bad within (ap (λ v. lines_read command (bytes ++ v) ending) (sym (seen-within bytes held within)) ∙ reads ending)
 
   -- and is why the input is refused
-  pub refused-bad_seen : (left : Option (List ℕ)) (held : List ℕ) (bad : BadLine) → ((ending : Ending) → lines_read command (bytes ++ seen bytes held) ending ≡ record { items = items; bad = Some bad }) → IsBadInput command left (bytes ++ held)
+  pub refused-bad_seen : (left : Option (List ℕ)) (held : List ℕ) (bad : BadLine)
+      → ((ending : Ending)
+      → lines_read command (bytes ++ seen bytes held) ending ≡ record { items = items; bad = Some bad })
+      → IsBadInput command left (bytes ++ held)
   refused-bad_seen left held bad reads = by_length (nat_lt input_limit (length (bytes ++ held))) refl
     where
-      by_length : (b : Bool) → nat_lt input_limit (length (bytes ++ held)) ≡ b → IsBadInput command left (bytes ++ held)
+      by_length : (b : Bool) → nat_lt input_limit (length (bytes ++ held)) ≡ b
+          → IsBadInput command left (bytes ++ held)
       by_length true e =
           let past : input_limit < length (bytes ++ held) = ltb-true input_limit (length (bytes ++ held)) e in
           inr (inr past)
@@ -62,7 +71,10 @@ module _ {Item Cause : Type 0} (command : Command Item Cause) (items : List Item
           inl (subst P (sym read) refl)
 
   -- a bad line, with its newline
-  pub bad-line : (held line rest : List ℕ) (bad : BadLine) → held ≡ line ++ newline ∷ rest → length bytes + (length line + 1) ≤ input_limit → HasNoNewline line → reading_of command items line ≡ Err bad → (ending : Ending) → lines_read command (bytes ++ seen bytes held) ending ≡ record { items = items; bad = Some bad }
+  pub bad-line : (held line rest : List ℕ) (bad : BadLine) → held ≡ line ++ newline ∷ rest
+      → length bytes + (length line + 1) ≤ input_limit → HasNoNewline line
+      → reading_of command items line ≡ Err bad → (ending : Ending)
+      → lines_read command (bytes ++ seen bytes held) ending ≡ record { items = items; bad = Some bad }
   bad-line held line rest bad is fits clear reads ending =
       let whole = seen-line bytes line rest fits in
       ap (λ v. lines_read command (bytes ++ v) ending) (ap (λ v. seen bytes v) is ∙ whole.1)
@@ -71,7 +83,9 @@ module _ {Item Cause : Type 0} (command : Command Item Cause) (items : List Item
       ∙ read-bad command items line (lines_of whole.0 ending) bad reads
 
   -- a line that is too long
-  pub bad-too_long : (held : List ℕ) → BeginsTooLong (seen bytes held) → (ending : Ending) → lines_read command (bytes ++ seen bytes held) ending ≡ record { items = items; bad = Some (too_long_line (length items + 1)) }
+  pub bad-too_long : (held : List ℕ) → BeginsTooLong (seen bytes held) → (ending : Ending)
+      → lines_read command (bytes ++ seen bytes held) ending
+      ≡ record { items = items; bad = Some (too_long_line (length items + 1)) }
   bad-too_long held long ending =
       let first = take (line_limit + 1) (seen bytes held) in
       let behind = drop (line_limit + 1) (seen bytes held) in

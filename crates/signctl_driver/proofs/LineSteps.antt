@@ -8,7 +8,8 @@ use Rattle.signctl_driver.specs.Lines.{Ending, End, Fault, is_too_long, lines_in
 use Rattle.signctl_driver.proofs.Pieces.{first_piece, too_long-grows, too_long-line, grows-line}
 
 -- a line and its newline in front of more bytes are one line more
-pub lines-line : (line more : List ℕ) (ending : Ending) → HasNoNewline line → lines_of (line ++ newline ∷ more) ending ≡ line ∷ lines_of more ending
+pub lines-line : (line more : List ℕ) (ending : Ending) → HasNoNewline line
+    → lines_of (line ++ newline ∷ more) ending ≡ line ∷ lines_of more ending
 lines-line line more ending clear =
     let first = first_piece more in
     ap (λ v. lines_in ending v) (slice_split_at is_newline line newline more clear refl ∙ ap (λ v. line ∷ v) first.2)
@@ -32,7 +33,9 @@ lines-part bytes clear few =
     ∙ ap (λ (t : Bool). if t then bytes ∷ [] else []) short
 
 -- too many bytes with no newline begin a line that is too long, whatever follows
-pub lines-too_long : (bytes more : List ℕ) (ending : Ending) → HasNoNewline bytes → line_limit < length bytes → (line : List ℕ) × (rest : List (List ℕ)) × (is_too_long line ≡ true) × (lines_of (bytes ++ more) ending ≡ line ∷ rest)
+pub lines-too_long : (bytes more : List ℕ) (ending : Ending) → HasNoNewline bytes → line_limit < length bytes
+    → (line : List ℕ) × (rest : List (List ℕ)) × (is_too_long line ≡ true)
+    × (lines_of (bytes ++ more) ending ≡ line ∷ rest)
 lines-too_long bytes more ending clear many =
     let long : is_too_long bytes ≡ true = grind (arith, nat_tests) in
     let g = grows-line bytes clear more in

@@ -13,20 +13,26 @@ pub record Cut (bytes : List ℕ) : Type 0 where
   pub last : List ℕ
   pub clear : HasNoNewline last
   pub pieces : slice_split is_newline bytes ≡ done ++ last ∷ []
-  pub more : (next : List ℕ) → slice_split is_newline (bytes ++ next) ≡ done ++ slice_split is_newline (last ++ next)
+  pub more : (next : List ℕ)
+      → slice_split is_newline (bytes ++ next) ≡ done ++ slice_split is_newline (last ++ next)
 
 -- there is a first piece
-pub first_piece : (bytes : List ℕ) → (first : List ℕ) × (rest : List (List ℕ)) × (slice_split is_newline bytes ≡ first ∷ rest)
+pub first_piece : (bytes : List ℕ)
+    → (first : List ℕ) × (rest : List (List ℕ)) × (slice_split is_newline bytes ≡ first ∷ rest)
 first_piece [] = ([], [], refl)
 first_piece (x ∷ xs) = by_test (first_piece xs) (is_newline x) refl
   where
-    by_test : (first : List ℕ) × (rest : List (List ℕ)) × (slice_split is_newline xs ≡ first ∷ rest) → (b : Bool) → is_newline x ≡ b → (first : List ℕ) × (rest : List (List ℕ)) × (slice_split is_newline (x ∷ xs) ≡ first ∷ rest)
+    by_test : (first : List ℕ) × (rest : List (List ℕ)) × (slice_split is_newline xs ≡ first ∷ rest)
+        → (b : Bool) → is_newline x ≡ b
+        → (first : List ℕ) × (rest : List (List ℕ)) × (slice_split is_newline (x ∷ xs) ≡ first ∷ rest)
     by_test behind true e = ([], slice_split is_newline xs, slice_split-cons_yes is_newline x xs e)
     by_test behind false e =
         (x ∷ behind.0, behind.1, slice_split-cons_no is_newline x xs e ∙ ap (λ v. onto_first x v) behind.2)
 
 -- bytes with no newline begin the first piece, whatever follows
-pub grows-line : (line : List ℕ) → HasNoNewline line → (next : List ℕ) → (behind : List ℕ) × (rest : List (List ℕ)) × (slice_split is_newline (line ++ next) ≡ (line ++ behind) ∷ rest)
+pub grows-line : (line : List ℕ) → HasNoNewline line → (next : List ℕ)
+    → (behind : List ℕ) × (rest : List (List ℕ))
+    × (slice_split is_newline (line ++ next) ≡ (line ++ behind) ∷ rest)
 grows-line [] clear next = first_piece next
 grows-line (b ∷ line) clear next =
     let behind = grows-line line (All-tail (λ v. is_newline v ≡ false) b line clear) next in (
@@ -47,7 +53,11 @@ cut_of [] = record {
 }
 cut_of (x ∷ xs) = by_test (cut_of xs) (is_newline x) refl
   where
-    by_done : is_newline x ≡ false → (done : List (List ℕ)) (last : List ℕ) → HasNoNewline last → slice_split is_newline xs ≡ done ++ last ∷ [] → ((next : List ℕ) → slice_split is_newline (xs ++ next) ≡ done ++ slice_split is_newline (last ++ next)) → Cut (x ∷ xs)
+    by_done : is_newline x ≡ false → (done : List (List ℕ)) (last : List ℕ) → HasNoNewline last
+        → slice_split is_newline xs ≡ done ++ last ∷ []
+        → ((next : List ℕ)
+        → slice_split is_newline (xs ++ next) ≡ done ++ slice_split is_newline (last ++ next))
+        → Cut (x ∷ xs)
     by_done e [] last clear pieces more = record {
       done = [];
       last = x ∷ last;
@@ -74,7 +84,8 @@ cut_of (x ∷ xs) = by_test (cut_of xs) (is_newline x) refl
     by_test c false e = by_done e c.done c.last c.clear c.pieces c.more
 
 -- all pieces but the last are lines
-pub lines_in-after : (ending : Ending) (done : List (List ℕ)) (piece : List ℕ) (rest : List (List ℕ)) → lines_in ending (done ++ piece ∷ rest) ≡ done ++ lines_in ending (piece ∷ rest)
+pub lines_in-after : (ending : Ending) (done : List (List ℕ)) (piece : List ℕ) (rest : List (List ℕ))
+    → lines_in ending (done ++ piece ∷ rest) ≡ done ++ lines_in ending (piece ∷ rest)
 lines_in-after ending [] piece rest = refl
 lines_in-after ending (d ∷ []) piece rest = refl
 lines_in-after ending (d ∷ (e ∷ ds)) piece rest = ap (λ v. d ∷ v) (lines_in-after ending (e ∷ ds) piece rest)
@@ -86,7 +97,8 @@ too_long-grows line behind h =
     grind (arith, nat_tests)
 
 -- a piece that is too long is a line, whatever follows it
-pub too_long-line : (ending : Ending) (piece : List ℕ) (rest : List (List ℕ)) → is_too_long piece ≡ true → (more : List (List ℕ)) × (lines_in ending (piece ∷ rest) ≡ piece ∷ more)
+pub too_long-line : (ending : Ending) (piece : List ℕ) (rest : List (List ℕ)) → is_too_long piece ≡ true
+    → (more : List (List ℕ)) × (lines_in ending (piece ∷ rest) ≡ piece ∷ more)
 too_long-line End [] [] h = absurd (cc)
 too_long-line End (b ∷ bs) [] h = ([], refl)
 too_long-line Fault piece [] h = ([], ap (λ (t : Bool). if t then piece ∷ [] else []) h)

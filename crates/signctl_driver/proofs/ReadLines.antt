@@ -10,7 +10,8 @@ use Rattle.signctl_driver.specs.Output.{bad_line, output_of}
 use Rattle.signctl_driver.proofs.Starts.{starts-append, starts-same, starts-trans}
 
 -- one item more comes after all others
-each_after-push : {A : Type 0} (before items : List A) (x : A) → each_after before (items ++ x ∷ []) ≡ each_after before items ++ (before ++ items, x) ∷ []
+each_after-push : {A : Type 0} (before items : List A) (x : A)
+    → each_after before (items ++ x ∷ []) ≡ each_after before items ++ (before ++ items, x) ∷ []
 each_after-push before [] x = ap (λ v. (v, x) ∷ []) (sym (append-nil before))
 each_after-push before (y ∷ rest) x =
     ap (λ v. (before, y) ∷ v)
@@ -23,7 +24,8 @@ module _ {Item Cause : Type 0} (command : Command Item Cause) where
   answers-none = refl
 
   -- one item more is answered after the others
-  pub answers-push : (items : List Item) (x : Item) → answers_to command (items ++ x ∷ []) ≡ answers_to command items ++ command.answer items x
+  pub answers-push : (items : List Item) (x : Item)
+      → answers_to command (items ++ x ∷ []) ≡ answers_to command items ++ command.answer items x
   unfolding answers_to
   answers-push items x =
       let answer = λ (p : List Item × Item). command.answer p.0 p.1 in
@@ -37,25 +39,36 @@ module _ {Item Cause : Type 0} (command : Command Item Cause) where
   read-none before = refl
 
   -- the lines after a good one are read after its item
-  pub read-good : (before : List Item) (line : List ℕ) (rest : List (List ℕ)) (x : Item) → reading_of command before line ≡ Ok x → read_from command before (line ∷ rest) ≡ read_from command (before ++ x ∷ []) rest
+  pub read-good : (before : List Item) (line : List ℕ) (rest : List (List ℕ)) (x : Item)
+      → reading_of command before line ≡ Ok x
+      → read_from command before (line ∷ rest) ≡ read_from command (before ++ x ∷ []) rest
   unfolding read_from
   read-good before line rest x h =
       ap (λ (r : Result Item BadLine). read_on before (λ items. read_from command items rest) r) h
 
   -- no line is read after a bad one
-  pub read-bad : (before : List Item) (line : List ℕ) (rest : List (List ℕ)) (bad : BadLine) → reading_of command before line ≡ Err bad → read_from command before (line ∷ rest) ≡ record { items = before; bad = Some bad }
+  pub read-bad : (before : List Item) (line : List ℕ) (rest : List (List ℕ)) (bad : BadLine)
+      → reading_of command before line ≡ Err bad
+      → read_from command before (line ∷ rest) ≡ record { items = before; bad = Some bad }
   unfolding read_from
   read-bad before line rest bad h =
       ap (λ (r : Result Item BadLine). read_on before (λ items. read_from command items rest) r) h
 
   -- what was answered so far is a prefix of the output
-  pub answers-start : (lines : List (List ℕ)) (before : List Item) (closing : List Item → List ℕ) → StartsWith (output_of command closing (read_from command before lines)) (answers_to command before)
+  pub answers-start : (lines : List (List ℕ)) (before : List Item) (closing : List Item → List ℕ)
+      → StartsWith (output_of command closing (read_from command before lines)) (answers_to command before)
   answers-start [] before closing =
       starts-append _ (answers_to command before) (closing before) (ap (λ (s : LinesRead Item). output_of command closing s) (read-none before))
   answers-start (line ∷ rest) before closing =
       by_reading (λ x. answers-start rest (before ++ x ∷ []) closing) (reading_of command before line) refl
     where
-      by_reading : ((x : Item) → StartsWith (output_of command closing (read_from command (before ++ x ∷ []) rest)) (answers_to command (before ++ x ∷ []))) → (r : Result Item BadLine) → reading_of command before line ≡ r → StartsWith (output_of command closing (read_from command before (line ∷ rest))) (answers_to command before)
+      by_reading : ((x : Item)
+          → StartsWith (output_of command closing (read_from command (before ++ x ∷ []) rest)) (answers_to
+          command (before
+          ++ x ∷ [])))
+          → (r : Result Item BadLine) → reading_of command before line ≡ r
+          → StartsWith (output_of command closing (read_from command before (line ∷ rest)))
+          (answers_to command before)
       by_reading go_on (Ok x) e =
           let P : LinesRead Item → Type 0 = λ s. StartsWith (output_of command closing s) (answers_to command before) in
           subst P (sym (read-good before line rest x e))
@@ -64,10 +77,15 @@ module _ {Item Cause : Type 0} (command : Command Item Cause) where
       by_reading go_on (Err bad) e =
           starts-append _ (answers_to command before) (bad_line bad) (ap (λ (s : LinesRead Item). output_of command closing s) (read-bad before line rest bad e))
 
-  -- what a line reads as changes nothing of what comes before it: lines in front of both keep a prefix a prefix
+  -- what a line reads as changes nothing of what comes before it: lines in front of both keep a prefix a
+  -- prefix
   pub output-after : (front less more : List (List ℕ)) (closing : List Item → List ℕ)
-      → ((before : List Item) → StartsWith (output_of command closing (read_from command before more)) (output_of command (λ items. []) (read_from command before less)))
-      → (before : List Item) → StartsWith (output_of command closing (read_from command before (front ++ more))) (output_of command (λ items. []) (read_from command before (front ++ less)))
+      → ((before : List Item)
+      → StartsWith (output_of command closing (read_from command before more)) (output_of command
+      (λ items. []) (read_from command before less)))
+      → (before : List Item)
+      → StartsWith (output_of command closing (read_from command before (front ++ more)))
+      (output_of command (λ items. []) (read_from command before (front ++ less)))
   output-after [] less more closing h before = h before
   output-after (line ∷ rest) less more closing h before =
       by_reading (λ x. output-after rest less more closing h (before ++ x ∷ [])) (reading_of command before line) refl
@@ -75,7 +93,13 @@ module _ {Item Cause : Type 0} (command : Command Item Cause) where
       Starts : LinesRead Item → LinesRead Item → Type 0
       Starts s t = StartsWith (output_of command closing s) (output_of command (λ items. []) t)
 
-      by_reading : ((x : Item) → StartsWith (output_of command closing (read_from command (before ++ x ∷ []) (rest ++ more))) (output_of command (λ items. []) (read_from command (before ++ x ∷ []) (rest ++ less)))) → (r : Result Item BadLine) → reading_of command before line ≡ r → StartsWith (output_of command closing (read_from command before (line ∷ (rest ++ more)))) (output_of command (λ items. []) (read_from command before (line ∷ (rest ++ less))))
+      by_reading : ((x : Item)
+          → StartsWith (output_of command closing
+          (read_from command (before ++ x ∷ []) (rest ++ more))) (output_of command (λ items. [])
+          (read_from command (before ++ x ∷ []) (rest ++ less))))
+          → (r : Result Item BadLine) → reading_of command before line ≡ r
+          → StartsWith (output_of command closing (read_from command before (line ∷ (rest ++ more))))
+          (output_of command (λ items. []) (read_from command before (line ∷ (rest ++ less))))
       by_reading go_on (Ok x) e =
           let P : LinesRead Item → Type 0 = λ s. StartsWith (output_of command closing s) (output_of command (λ items. []) (read_from command before (line ∷ (rest ++ less)))) in
           let Q : LinesRead Item → Type 0 = λ s. StartsWith (output_of command closing (read_from command (before ++ x ∷ []) (rest ++ more))) (output_of command (λ items. []) s) in
@@ -85,6 +109,7 @@ module _ {Item Cause : Type 0} (command : Command Item Cause) where
           ∙ sym (ap (λ (s : LinesRead Item). output_of command (λ items. []) s) (read-bad before line (rest ++ less) bad e)))
 
   -- the output to no lines is nothing
-  pub output-none : (before : List Item) → output_of command (λ items. []) (read_from command before []) ≡ answers_to command before
+  pub output-none : (before : List Item)
+      → output_of command (λ items. []) (read_from command before []) ≡ answers_to command before
   output-none before =
       ap (λ (s : LinesRead Item). output_of command (λ items. []) s) (read-none before) ∙ append-nil (answers_to command before)

@@ -18,15 +18,18 @@ use Rattle.signctl_driver.proofs.Endings.{status-is, closing-is}
 
 module _ {Item Cause : Type 0} (command : Command Item Cause) where
   -- no read has failed at the end
-  end-no_fault : (items : List Item) (closes : Result (List ℕ) Cause) (status : Status) (closing : List ℕ) → end_outcome command items closes ≡ Ends status closing → is_read_fault status ≡ false
+  end-no_fault : (items : List Item) (closes : Result (List ℕ) Cause) (status : Status) (closing : List ℕ)
+      → end_outcome command items closes ≡ Ends status closing → is_read_fault status ≡ false
   end-no_fault items (Ok text) status closing t = ap (λ s. is_read_fault s) (sym (status-is {Item = Item} _ _ _ _ t))
   end-no_fault items (Err cause) status closing t = ap (λ s. is_read_fault s) (sym (status-is {Item = Item} _ _ _ _ t))
 
   -- a run ends as in a failed read exactly where the reader says so
-  pub turn-fault : (items : List Item) (answer : Result (List ℕ) Close) (status : Status) (closing : List ℕ) → line_outcome command items answer ≡ Ends status closing → is_read_fault status ≡ is_fault answer
+  pub turn-fault : (items : List Item) (answer : Result (List ℕ) Close) (status : Status) (closing : List ℕ)
+      → line_outcome command items answer ≡ Ends status closing → is_read_fault status ≡ is_fault answer
   turn-fault items (Ok line) status closing t = by_reading (reading_of command items line) t
     where
-      by_reading : (r : Result Item BadLine) → line_outcome_by r ≡ Ends status closing → is_read_fault status ≡ false
+      by_reading : (r : Result Item BadLine) → line_outcome_by r ≡ Ends status closing
+          → is_read_fault status ≡ false
       by_reading (Ok x) e = absurd (cc)
       by_reading (Err bad) e = ap (λ s. is_read_fault s) (sym (status-is {Item = Item} _ _ _ _ e))
   turn-fault items (Err close.TooLong) status closing t = ap (λ s. is_read_fault s) (sym (status-is {Item = Item} _ _ _ _ t))
@@ -35,14 +38,19 @@ module _ {Item Cause : Type 0} (command : Command Item Cause) where
   turn-fault items (Err close.Fault) status closing t = ap (λ s. is_read_fault s) (sym (status-is {Item = Item} _ _ _ _ t))
 
   -- and no write has failed yet
-  end-no_write_fault : (items : List Item) (closes : Result (List ℕ) Cause) (status : Status) (closing : List ℕ) → end_outcome command items closes ≡ Ends status closing → is_write_fault status ≡ false
+  end-no_write_fault : (items : List Item) (closes : Result (List ℕ) Cause) (status : Status)
+      (closing : List ℕ) → end_outcome command items closes ≡ Ends status closing
+      → is_write_fault status ≡ false
   end-no_write_fault items (Ok text) status closing t = ap (λ s. is_write_fault s) (sym (status-is {Item = Item} _ _ _ _ t))
   end-no_write_fault items (Err cause) status closing t = ap (λ s. is_write_fault s) (sym (status-is {Item = Item} _ _ _ _ t))
 
-  pub turn-no_write_fault : (items : List Item) (answer : Result (List ℕ) Close) (status : Status) (closing : List ℕ) → line_outcome command items answer ≡ Ends status closing → is_write_fault status ≡ false
+  pub turn-no_write_fault : (items : List Item) (answer : Result (List ℕ) Close) (status : Status)
+      (closing : List ℕ) → line_outcome command items answer ≡ Ends status closing
+      → is_write_fault status ≡ false
   turn-no_write_fault items (Ok line) status closing t = by_reading (reading_of command items line) t
     where
-      by_reading : (r : Result Item BadLine) → line_outcome_by r ≡ Ends status closing → is_write_fault status ≡ false
+      by_reading : (r : Result Item BadLine) → line_outcome_by r ≡ Ends status closing
+          → is_write_fault status ≡ false
       by_reading (Ok x) e = absurd (cc)
       by_reading (Err bad) e = ap (λ s. is_write_fault s) (sym (status-is {Item = Item} _ _ _ _ e))
   turn-no_write_fault items (Err close.TooLong) status closing t = ap (λ s. is_write_fault s) (sym (status-is {Item = Item} _ _ _ _ t))
@@ -52,7 +60,8 @@ module _ {Item Cause : Type 0} (command : Command Item Cause) where
   turn-no_write_fault items (Err close.Fault) status closing t = ap (λ s. is_write_fault s) (sym (status-is {Item = Item} _ _ _ _ t))
 
   -- after a good line no read has failed
-  pub good-no_fault : (items : List Item) (answer : Result (List ℕ) Close) (x : Item) → line_outcome command items answer ≡ Good x → is_fault answer ≡ false
+  pub good-no_fault : (items : List Item) (answer : Result (List ℕ) Close) (x : Item)
+      → line_outcome command items answer ≡ Good x → is_fault answer ≡ false
   good-no_fault items (Ok line) x t = refl
   good-no_fault items (Err close.TooLong) x t = refl
   good-no_fault items (Err close.TooMuch) x t = refl
@@ -60,7 +69,8 @@ module _ {Item Cause : Type 0} (command : Command Item Cause) where
   good-no_fault items (Err close.Fault) x t = absurd (cc)
 
   -- and nothing closes the output then
-  pub turn-nothing : (items : List Item) (answer : Result (List ℕ) Close) (status : Status) (closing : List ℕ) → line_outcome command items answer ≡ Ends status closing → is_fault answer ≡ true → closing ≡ []
+  pub turn-nothing : (items : List Item) (answer : Result (List ℕ) Close) (status : Status) (closing : List ℕ)
+      → line_outcome command items answer ≡ Ends status closing → is_fault answer ≡ true → closing ≡ []
   turn-nothing items (Ok line) status closing t h = absurd (cc)
   turn-nothing items (Err close.TooLong) status closing t h = absurd (cc)
   turn-nothing items (Err close.TooMuch) status closing t h = absurd (cc)
@@ -73,7 +83,8 @@ module _ {Item Cause : Type 0} (command : Command Item Cause) where
     pub needs-fault : is_fault answer ≡ true → NeedsRead input
     needs-fault h = by_read read
       where
-        by_answer : (a : Result (List ℕ) Close) → is_fault a ≡ true → AnswersOpen input left next a new → NeedsRead input
+        by_answer : (a : Result (List ℕ) Close) → is_fault a ≡ true → AnswersOpen input left next a new
+            → NeedsRead input
         by_answer (Ok line) f opened = absurd (cc)
         by_answer (Err close.TooLong) f opened = absurd (cc)
         by_answer (Err close.TooMuch) f opened = absurd (cc)
@@ -100,7 +111,8 @@ module _ {Item Cause : Type 0} (command : Command Item Cause) where
             absurd (cc)
 
     -- an answer counts a fault of the source where it says so, and else none
-    pub counts-answer : (before now : ℕ) → (input.closed ≡ None → CountsFault (is_fault answer) before now) → ((NeedsRead input → ⊥) → now ≡ before) → CountsFault (is_fault answer) before now
+    pub counts-answer : (before now : ℕ) → (input.closed ≡ None → CountsFault (is_fault answer) before now)
+        → ((NeedsRead input → ⊥) → now ≡ before) → CountsFault (is_fault answer) before now
     counts-answer before now counts still = by_read read
       where
         by_read : IsReadSoFar command left items bytes input → CountsFault (is_fault answer) before now
@@ -112,7 +124,9 @@ module _ {Item Cause : Type 0} (command : Command Item Cause) where
             subst Q (sym (ap (λ a. is_fault a) e.0)) (still (λ needs. let e : Some close.End ≡ None = sym over.0 ∙ needs.0 in absurd (cc)))
 
 -- a failed read stays what a run ends by, where nothing waits to be written
-pub finish-fault : (fault : Bool) (text : List ℕ) (before now : Option (List ℕ)) (status result : Status) → is_read_fault status ≡ fault → FinishesBy status text before now result → (fault ≡ true → result ≡ status) → is_read_fault result ≡ fault
+pub finish-fault : (fault : Bool) (text : List ℕ) (before now : Option (List ℕ)) (status result : Status)
+    → is_read_fault status ≡ fault → FinishesBy status text before now result
+    → (fault ≡ true → result ≡ status) → is_read_fault result ≡ fault
 finish-fault fault text before now status result is (inl all) nothing = ap (λ s. is_read_fault s) all.0 ∙ is
 finish-fault true text before now status result is (inr part) nothing = ap (λ s. is_read_fault s) (nothing refl) ∙ is
 finish-fault false text before now status result is (inr part) nothing = ap (λ s. is_read_fault s) part.0
@@ -122,14 +136,16 @@ pub nothing-waits : (old closing new : List ℕ) → new ≡ old ++ closing → 
 nothing-waits old closing new is none more = is ∙ ap (λ v. v ++ closing) none ∙ more
 
 -- the same count, by what is the same
-pub counts-same : (f g : Bool) (first before now : ℕ) → CountsFault f before now → g ≡ f → before ≡ first → CountsFault g first now
+pub counts-same : (f g : Bool) (first before now : ℕ) → CountsFault f before now → g ≡ f → before ≡ first
+    → CountsFault g first now
 counts-same f g first before now counts same since =
     let P : Bool → Type 0 = λ b. CountsFault b before now in
     let Q : ℕ → Type 0 = λ n. CountsFault g n now in
     subst Q since (subst P (sym same) counts)
 
 -- where no call failed, the count stays
-pub counts-none : (fault : Bool) (before now : ℕ) → CountsFault fault before now → (fault ≡ true → false ≡ true) → now ≡ before
+pub counts-none : (fault : Bool) (before now : ℕ) → CountsFault fault before now
+    → (fault ≡ true → false ≡ true) → now ≡ before
 counts-none true before now counts fine = let e : false ≡ true = fine refl in absurd (cc)
 counts-none false before now counts fine = counts
 

@@ -23,8 +23,10 @@ pub record Streams : Type 0 where
 abbrev pub streams_of : Since → Since → Streams
 streams_of source sink = record { source = source; sink = sink }
 
--- what the bytes handed out say: the lines after them are read after these items; or all was read, and no line is bad
-abbrev pub IsReadSoFar : {Item Cause : Type 0} → Command Item Cause → Option (List ℕ) → List Item → List ℕ → LineInput → Type 0
+-- what the bytes handed out say: the lines after them are read after these items; or all was read, and no
+-- line is bad
+abbrev pub IsReadSoFar : {Item Cause : Type 0} → Command Item Cause → Option (List ℕ) → List Item → List ℕ
+    → LineInput → Type 0
 IsReadSoFar command left items bytes input =
     ((input.closed ≡ None) × GoesOn command items bytes)
     ⊎ ((input.closed ≡ Some close.End) × IsAtEnd left × (input.held ≡ []) × (lines_read command bytes End ≡ record { items = items; bad = None }))

@@ -21,12 +21,14 @@ use Rattle.signctl_format.proofs.Seconds.{moment_of-word, moment_of-some}
 -- ---- numbers and moments in their places
 
 -- the word of a number reads as it, with the words after it
-pub number_at-decimal : (limit n : ℕ) (rest : List (List ℕ)) → n ≤ limit → limit < 2 ^ 64 → number_at limit (decimal n ∷ rest) ≡ Some (n, rest)
+pub number_at-decimal : (limit n : ℕ) (rest : List (List ℕ)) → n ≤ limit → limit < 2 ^ 64
+    → number_at limit (decimal n ∷ rest) ≡ Some (n, rest)
 unfolding number_at
 number_at-decimal limit n rest le wide = rw (number_of-decimal limit n (decimal n) (omega arith) refl le) refl
 
 -- words that read as a number and others begin with its word
-pub number_at-some : (limit : ℕ) (ws : List (List ℕ)) (p : ℕ × List (List ℕ)) → number_at limit ws ≡ Some p → (ws ≡ decimal p.0 ∷ p.1) × (p.0 ≤ limit)
+pub number_at-some : (limit : ℕ) (ws : List (List ℕ)) (p : ℕ × List (List ℕ)) → number_at limit ws ≡ Some p
+    → (ws ≡ decimal p.0 ∷ p.1) × (p.0 ≤ limit)
 unfolding number_at
 number_at-some limit ws p e =
     let first = first_word_some (number_of limit) ws p e in
@@ -34,12 +36,14 @@ number_at-some limit ws p e =
     (first.1 ∙ ap (λ (w : List ℕ). w ∷ p.1) spelled.0, spelled.1)
 
 -- the word of a moment reads as it, with the words after it
-pub moment_at-word : (version : ScriptVersion) (t : ℤ) (rest : List (List ℕ)) → IsLineMoment version t → moment_at version (moment_word version t ∷ rest) ≡ Some (t, rest)
+pub moment_at-word : (version : ScriptVersion) (t : ℤ) (rest : List (List ℕ)) → IsLineMoment version t
+    → moment_at version (moment_word version t ∷ rest) ≡ Some (t, rest)
 unfolding moment_at
 moment_at-word version t rest fits = rw (moment_of-word version t fits) refl
 
 -- words that read as a moment and others begin with its word
-pub moment_at-some : (version : ScriptVersion) (ws : List (List ℕ)) (p : ℤ × List (List ℕ)) → moment_at version ws ≡ Some p → (ws ≡ moment_word version p.0 ∷ p.1) × IsLineMoment version p.0
+pub moment_at-some : (version : ScriptVersion) (ws : List (List ℕ)) (p : ℤ × List (List ℕ))
+    → moment_at version ws ≡ Some p → (ws ≡ moment_word version p.0 ∷ p.1) × IsLineMoment version p.0
 unfolding moment_at
 moment_at-some version ws p e =
     let first = first_word_some (moment_of version) ws p e in
@@ -49,7 +53,8 @@ moment_at-some version ws p e =
 -- ---- calls
 
 -- the words of a call read as it, with the words after it
-pub call_at-words : (call : CallId) (rest : List (List ℕ)) → IsLineCall call → call_at (call_words call ++ rest) ≡ Some (call, rest)
+pub call_at-words : (call : CallId) (rest : List (List ℕ)) → IsLineCall call
+    → call_at (call_words call ++ rest) ≡ Some (call, rest)
 unfolding call_at
 call_at-words call rest fits = rw (number_at-decimal greatest_u32 call.handle (decimal call.number ∷ rest) fits.handle (omega arith), number_at-decimal greatest_u64 call.number rest fits.number (omega arith)) refl
 
@@ -58,7 +63,8 @@ abbrev pub SpellsCall : List (List ℕ) → CallId → List (List ℕ) → Type 
 SpellsCall ws call rest = (ws ≡ call_words call ++ rest) × IsLineCall call
 
 -- words that read as a call and others begin with its words
-pub call_at-some : (ws : List (List ℕ)) (p : CallId × List (List ℕ)) → call_at ws ≡ Some p → SpellsCall ws p.0 p.1
+pub call_at-some : (ws : List (List ℕ)) (p : CallId × List (List ℕ)) → call_at ws ≡ Some p
+    → SpellsCall ws p.0 p.1
 unfolding call_at
 call_at-some ws p e =
     let a = bind_some (number_at greatest_u32 ws) (λ (h : ℕ × List (List ℕ)). number_at greatest_u64 h.1 >>= λ (n : ℕ × List (List ℕ)). Some (record { handle = h.0; number = n.0 }, n.1)) p e in
@@ -74,7 +80,8 @@ call_at-some ws p e =
 -- ---- credentials
 
 -- the words of a credential read as it
-pub credential_in-words : (version : ScriptVersion) (c : ScriptCredential) → IsLineCredential version c → credential_in version (credential_words version c) ≡ Some c
+pub credential_in-words : (version : ScriptVersion) (c : ScriptCredential) → IsLineCredential version c
+    → credential_in version (credential_words version c) ≡ Some c
 unfolding credential_in
 credential_in-words version c fits =
     let required = moment_word version c.required ∷ [] in
@@ -85,11 +92,15 @@ credential_in-words version c fits =
 abbrev pub SpellsCredential : ScriptVersion → List (List ℕ) → ScriptCredential → Type 0
 SpellsCredential version ws c = (ws ≡ credential_words version c) × IsLineCredential version c
 
-credential_parted : (version : ScriptVersion) (c : ScriptCredential) (ws a b d rest : List (List ℕ)) → ws ≡ decimal c.generation ∷ a → a ≡ moment_word version c.fresh ∷ b → b ≡ moment_word version c.expires ∷ d → d ≡ moment_word version c.required ∷ rest → rest ≡ [] → ws ≡ credential_words version c
+credential_parted : (version : ScriptVersion) (c : ScriptCredential) (ws a b d rest : List (List ℕ))
+    → ws ≡ decimal c.generation ∷ a → a ≡ moment_word version c.fresh ∷ b
+    → b ≡ moment_word version c.expires ∷ d → d ≡ moment_word version c.required ∷ rest → rest ≡ []
+    → ws ≡ credential_words version c
 credential_parted version c ws a b d rest p q r s t = cc
 
 -- words that read as a credential are its words
-pub credential_in-some : (version : ScriptVersion) (ws : List (List ℕ)) (c : ScriptCredential) → credential_in version ws ≡ Some c → SpellsCredential version ws c
+pub credential_in-some : (version : ScriptVersion) (ws : List (List ℕ)) (c : ScriptCredential)
+    → credential_in version ws ≡ Some c → SpellsCredential version ws c
 unfolding credential_in
 credential_in-some version ws c e =
     let a = bind_some (number_at greatest_u64 ws) (λ (g : ℕ × List (List ℕ)). moment_at version g.1 >>= λ (f : ℤ × List (List ℕ)). moment_at version f.1 >>= λ (x : ℤ × List (List ℕ)). moment_at version x.1 >>= λ (r : ℤ × List (List ℕ)). at_end_of_line (record { generation = g.0; fresh = f.0; expires = x.0; required = r.0 }) r.1) c e in

@@ -20,7 +20,8 @@ pub digits_start : (word : List ℕ) → ReadsDigits 0 word word
 digits_start word = record { all = λ d. d; left = λ d. d; value = refl }
 
 -- one more digit was read
-pub digits_more : (n m b : ℕ) (after rest word : List ℕ) → rest ≡ b ∷ after → digit_value b < 10 → n * 10 + digit_value b ≡ m → ReadsDigits n rest word → ReadsDigits m after word
+pub digits_more : (n m b : ℕ) (after rest word : List ℕ) → rest ≡ b ∷ after → digit_value b < 10
+    → n * 10 + digit_value b ≡ m → ReadsDigits n rest word → ReadsDigits m after word
 digits_more n m b after rest word parted digit next so_far =
     let here : ReadsDigits n (b ∷ after) word = subst (λ (r : List ℕ). ReadsDigits n r word) parted so_far in
     record {
@@ -34,7 +35,9 @@ value_rises n [] = omega arith
 value_rises n (c ∷ cs) = omega (arith, value_rises (n * 10 + digit_value c) cs)
 
 -- a byte that is no digit, or a number that gets too great, is in no number's spelling
-pub digits_stop : (n b : ℕ) (after rest word : List ℕ) → rest ≡ b ∷ after → (digit_value b < 10 → 2 ^ 64 ≤ n * 10 + digit_value b) → ReadsDigits n rest word → (m : ℕ) → m < 2 ^ 64 → word ≢ decimal m
+pub digits_stop : (n b : ℕ) (after rest word : List ℕ) → rest ≡ b ∷ after
+    → (digit_value b < 10 → 2 ^ 64 ≤ n * 10 + digit_value b) → ReadsDigits n rest word → (m : ℕ) → m < 2 ^ 64
+    → word ≢ decimal m
 digits_stop n b after rest word parted stop so_far m small spelled =
     let here : ReadsDigits n (b ∷ after) word = subst (λ (r : List ℕ). ReadsDigits n r word) parted so_far in
     let numeral = decimal_is_IsNumeral m small in
@@ -47,7 +50,9 @@ first_and_rest [] some = absurd (omega arith)
 first_and_rest (b ∷ rest) some = refl
 
 -- the same of the first byte of what is left
-pub digits_stop_at_first : (n b : ℕ) (rest word : List ℕ) → 1 ≤ length rest → b ≡ get_or rest 0 0 → (digit_value b < 10 → 2 ^ 64 ≤ n * 10 + digit_value b) → ReadsDigits n rest word → (m : ℕ) → m < 2 ^ 64 → word ≢ decimal m
+pub digits_stop_at_first : (n b : ℕ) (rest word : List ℕ) → 1 ≤ length rest → b ≡ get_or rest 0 0
+    → (digit_value b < 10 → 2 ^ 64 ≤ n * 10 + digit_value b) → ReadsDigits n rest word → (m : ℕ) → m < 2 ^ 64
+    → word ≢ decimal m
 digits_stop_at_first n b rest word some first stop so_far =
     let parted : rest ≡ b ∷ drop 1 rest = first_and_rest rest some ∙ ap (λ (x : ℕ). x ∷ drop 1 rest) (sym first) in
     digits_stop n b (drop 1 rest) rest word parted stop so_far
@@ -64,7 +69,8 @@ nonzero_first b false test e z =
     absurd cc
 
 -- a word of digits that begins as a number does is the spelling of its value
-pub digits_spell : (word : List ℕ) → begins_a_number word ≡ true → AllDigits 10 word → digits_value 10 word < 2 ^ 64 → word ≡ decimal (digits_value 10 word)
+pub digits_spell : (word : List ℕ) → begins_a_number word ≡ true → AllDigits 10 word
+    → digits_value 10 word < 2 ^ 64 → word ≡ decimal (digits_value 10 word)
 digits_spell [] begins all small = absurd cc
 digits_spell (b ∷ []) begins all small = sym (decimal-digits_value own (b ∷ []) all (omega arith) (λ z. refl) small)
 digits_spell (b ∷ c ∷ rest) begins all small =
@@ -84,7 +90,8 @@ spelling_begins (suc n) (b ∷ c ∷ rest) small spelled =
     positive_begins b c rest (eqb b zero_digit) refl more
 
 -- a word that begins otherwise spells no number
-pub no_number : (limit : ℕ) (word : List ℕ) (says : Option ℕ) → limit < 2 ^ 64 → number_of limit word ≡ says → begins_a_number word ≡ false → says ≡ None
+pub no_number : (limit : ℕ) (word : List ℕ) (says : Option ℕ) → limit < 2 ^ 64 → number_of limit word ≡ says
+    → begins_a_number word ≡ false → says ≡ None
 no_number limit word None small is begins = refl
 no_number limit word (Some n) small is begins =
     let spelled = number_of-some limit n word is in
@@ -92,14 +99,16 @@ no_number limit word (Some n) small is begins =
     absurd cc
 
 -- nor does one that is not the spelling of a number of 64 bits
-pub no_spelling : (limit : ℕ) (word : List ℕ) (says : Option ℕ) → limit < 2 ^ 64 → number_of limit word ≡ says → ((m : ℕ) → m < 2 ^ 64 → word ≢ decimal m) → says ≡ None
+pub no_spelling : (limit : ℕ) (word : List ℕ) (says : Option ℕ) → limit < 2 ^ 64 → number_of limit word ≡ says
+    → ((m : ℕ) → m < 2 ^ 64 → word ≢ decimal m) → says ≡ None
 no_spelling limit word None small is none = refl
 no_spelling limit word (Some n) small is none =
     let spelled = number_of-some limit n word is in
     absurd (none n (omega (arith, spelled.1)) spelled.0)
 
 -- nor one whose number is past the limit
-pub past_the_limit : (limit n : ℕ) (word : List ℕ) (says : Option ℕ) → limit < 2 ^ 64 → number_of limit word ≡ says → digits_value 10 word ≡ n → limit < n → says ≡ None
+pub past_the_limit : (limit n : ℕ) (word : List ℕ) (says : Option ℕ) → limit < 2 ^ 64
+    → number_of limit word ≡ says → digits_value 10 word ≡ n → limit < n → says ≡ None
 past_the_limit limit n word None small is value past = refl
 past_the_limit limit n word (Some m) small is value past =
     let spelled = number_of-some limit m word is in

@@ -36,11 +36,13 @@ Has line name rest = words line ≡ name ∷ rest
 -- ---- cache
 
 -- the words after the name of `cache chain N` read as it
-pub chain_form-words : (providers : ℕ) → providers ≤ greatest_u32 → chain_form (decimal providers ∷ []) ≡ Some (Cache (Chain providers))
+pub chain_form-words : (providers : ℕ) → providers ≤ greatest_u32
+    → chain_form (decimal providers ∷ []) ≡ Some (Cache (Chain providers))
 unfolding chain_form
 chain_form-words providers fits = rw (number_at-decimal greatest_u32 providers [] fits (omega arith)) refl
 
-chain_form-some : (version : ScriptVersion) (line : List ℕ) (ws : List (List ℕ)) (item : ScriptItem) → Has line (codes "cache") (codes "chain" ∷ ws) → chain_form ws ≡ Some item → Spells version line item
+chain_form-some : (version : ScriptVersion) (line : List ℕ) (ws : List (List ℕ)) (item : ScriptItem)
+    → Has line (codes "cache") (codes "chain" ∷ ws) → chain_form ws ≡ Some item → Spells version line item
 unfolding chain_form
 chain_form-some version line ws item has e =
     let n = bind_some (number_at greatest_u32 ws) (λ (n : ℕ × List (List ℕ)). at_end_of_line (Cache (Chain n.0)) n.1) item e in
@@ -49,7 +51,8 @@ chain_form-some version line ws item has e =
     subst (λ (i : ScriptItem). Spells version line i) {x = Cache (Chain n.0.0)} last.0 (number.1, cc (has, number.0, last.1))
 
 -- a line of `cache` that reads as an item spells it
-pub cache_form-some : (version : ScriptVersion) (line : List ℕ) (ws : List (List ℕ)) (item : ScriptItem) → Has line (codes "cache") ws → cache_form ws ≡ Some item → Spells version line item
+pub cache_form-some : (version : ScriptVersion) (line : List ℕ) (ws : List (List ℕ)) (item : ScriptItem)
+    → Has line (codes "cache") ws → cache_form ws ≡ Some item → Spells version line item
 unfolding cache_form
 cache_form-some version line [] item has e = absurd cc
 cache_form-some version line (kind ∷ rest) item has e = elim (chosen (bytes_eq kind (codes "single")) (at_end_of_line (Cache Single) rest) (cond (bytes_eq kind (codes "chain")) (chain_form rest) None) (Some item) e) [
@@ -66,12 +69,14 @@ cache_form-some version line (kind ∷ rest) item has e = elim (chosen (bytes_eq
 -- ---- handle
 
 -- the words after the name of `handle C RULE` read as it
-pub handle_form-words : (cache : ℕ) (rule : ScriptRule) → cache ≤ greatest_u32 → handle_form (decimal cache ∷ rule_word rule ∷ []) ≡ Some (Handle cache rule)
+pub handle_form-words : (cache : ℕ) (rule : ScriptRule) → cache ≤ greatest_u32
+    → handle_form (decimal cache ∷ rule_word rule ∷ []) ≡ Some (Handle cache rule)
 unfolding handle_form
 handle_form-words cache rule fits = rw (number_at-decimal greatest_u32 cache (rule_word rule ∷ []) fits (omega arith), rule_in-word rule) refl
 
 -- a line of `handle C RULE` that reads as an item spells it
-pub handle_form-some : (version : ScriptVersion) (line : List ℕ) (ws : List (List ℕ)) (item : ScriptItem) → Has line (codes "handle") ws → handle_form ws ≡ Some item → Spells version line item
+pub handle_form-some : (version : ScriptVersion) (line : List ℕ) (ws : List (List ℕ)) (item : ScriptItem)
+    → Has line (codes "handle") ws → handle_form ws ≡ Some item → Spells version line item
 unfolding handle_form
 handle_form-some version line ws item has e =
     let n = bind_some (number_at greatest_u32 ws) (λ (n : ℕ × List (List ℕ)). first_word rule_in n.1 >>= λ (r : ScriptRule × List (List ℕ)). at_end_of_line (Handle n.0 r.0) r.1) item e in
@@ -85,12 +90,16 @@ handle_form-some version line ws item has e =
 -- ---- events
 
 -- the words after the name of `begin H N D HEAD` read as it
-pub begin_form-words : (version : ScriptVersion) (call : CallId) (head : Head) (d : Option Duration) → IsLineCall call → IsLineDuration version d → IsLineHead head → begin_form version (call_words call ++ duration_word version d ∷ head_words head) ≡ Some (Event (Begin call head d))
+pub begin_form-words : (version : ScriptVersion) (call : CallId) (head : Head) (d : Option Duration)
+    → IsLineCall call → IsLineDuration version d → IsLineHead head
+    → begin_form version (call_words call ++ duration_word version d ∷ head_words head)
+    ≡ Some (Event (Begin call head d))
 unfolding begin_form
 begin_form-words version call head d is_call is_duration is_head = rw (call_at-words call (duration_word version d ∷ head_words head) is_call, duration_of-word version d is_duration, head_in-words head is_head) refl
 
 -- a line of `begin H N D HEAD` that reads as an item spells it
-pub begin_form-some : (version : ScriptVersion) (line : List ℕ) (ws : List (List ℕ)) (item : ScriptItem) → Has line (codes "begin") ws → begin_form version ws ≡ Some item → Spells version line item
+pub begin_form-some : (version : ScriptVersion) (line : List ℕ) (ws : List (List ℕ)) (item : ScriptItem)
+    → Has line (codes "begin") ws → begin_form version ws ≡ Some item → Spells version line item
 unfolding begin_form
 begin_form-some version line ws item has e =
     let c = bind_some (call_at ws) (λ (c : CallId × List (List ℕ)). first_word (duration_of version) c.1 >>= λ (d : Option Duration × List (List ℕ)). head_in d.1 >>= λ (h : Head). Some (Event (Begin c.0 h d.0))) item e in
@@ -104,12 +113,15 @@ begin_form-some version line ws item has e =
     ((call.1, duration.1, head.1), cc (has, call.0, first.1, duration.0, head.0))
 
 -- the words after the name of `poll H N T` read as it
-pub poll_form-words : (version : ScriptVersion) (call : CallId) (now : ℤ) → IsLineCall call → IsLineMoment version now → poll_form version (call_words call ++ moment_word version now ∷ []) ≡ Some (Event (Poll call now))
+pub poll_form-words : (version : ScriptVersion) (call : CallId) (now : ℤ) → IsLineCall call
+    → IsLineMoment version now
+    → poll_form version (call_words call ++ moment_word version now ∷ []) ≡ Some (Event (Poll call now))
 unfolding poll_form
 poll_form-words version call now is_call is_moment = rw (call_at-words call (moment_word version now ∷ []) is_call, moment_at-word version now [] is_moment) refl
 
 -- a line of `poll H N T` that reads as an item spells it
-pub poll_form-some : (version : ScriptVersion) (line : List ℕ) (ws : List (List ℕ)) (item : ScriptItem) → Has line (codes "poll") ws → poll_form version ws ≡ Some item → Spells version line item
+pub poll_form-some : (version : ScriptVersion) (line : List ℕ) (ws : List (List ℕ)) (item : ScriptItem)
+    → Has line (codes "poll") ws → poll_form version ws ≡ Some item → Spells version line item
 unfolding poll_form
 poll_form-some version line ws item has e =
     let c = bind_some (call_at ws) (λ (c : CallId × List (List ℕ)). moment_at version c.1 >>= λ (t : ℤ × List (List ℕ)). at_end_of_line (Event (Poll c.0 t.0)) t.1) item e in
@@ -120,12 +132,16 @@ poll_form-some version line ws item has e =
     subst (λ (i : ScriptItem). Spells version line i) {x = Event (Poll c.0.0 t.0.0)} last.0 ((call.1, now.1), cc (has, call.0, now.0, last.1))
 
 -- the words after the name of `found H N T CREDENTIAL` read as it
-pub found_form-words : (version : ScriptVersion) (call : CallId) (now : ℤ) (k : ScriptCredential) → IsLineCall call → IsLineMoment version now → IsLineCredential version k → found_form version (call_words call ++ moment_word version now ∷ credential_words version k) ≡ Some (Event (Provided call now (Found k)))
+pub found_form-words : (version : ScriptVersion) (call : CallId) (now : ℤ) (k : ScriptCredential)
+    → IsLineCall call → IsLineMoment version now → IsLineCredential version k
+    → found_form version (call_words call ++ moment_word version now ∷ credential_words version k)
+    ≡ Some (Event (Provided call now (Found k)))
 unfolding found_form
 found_form-words version call now k is_call is_moment is_credential = rw (call_at-words call (moment_word version now ∷ credential_words version k) is_call, moment_at-word version now (credential_words version k) is_moment, credential_in-words version k is_credential) refl
 
 -- a line of `found H N T CREDENTIAL` that reads as an item spells it
-pub found_form-some : (version : ScriptVersion) (line : List ℕ) (ws : List (List ℕ)) (item : ScriptItem) → Has line (codes "found") ws → found_form version ws ≡ Some item → Spells version line item
+pub found_form-some : (version : ScriptVersion) (line : List ℕ) (ws : List (List ℕ)) (item : ScriptItem)
+    → Has line (codes "found") ws → found_form version ws ≡ Some item → Spells version line item
 unfolding found_form
 found_form-some version line ws item has e =
     let c = bind_some (call_at ws) (λ (c : CallId × List (List ℕ)). moment_at version c.1 >>= λ (t : ℤ × List (List ℕ)). credential_in version t.1 >>= λ (k : ScriptCredential). Some (Event (Provided c.0 t.0 (Found k)))) item e in
@@ -138,12 +154,16 @@ found_form-some version line ws item has e =
     ((call.1, now.1, credential.1), cc (has, call.0, now.0, credential.0))
 
 -- the words after the name of `missing H N T` read as it
-pub missing_form-words : (version : ScriptVersion) (call : CallId) (now : ℤ) → IsLineCall call → IsLineMoment version now → missing_form version (call_words call ++ moment_word version now ∷ []) ≡ Some (Event (Provided call now Missing))
+pub missing_form-words : (version : ScriptVersion) (call : CallId) (now : ℤ) → IsLineCall call
+    → IsLineMoment version now
+    → missing_form version (call_words call ++ moment_word version now ∷ [])
+    ≡ Some (Event (Provided call now Missing))
 unfolding missing_form
 missing_form-words version call now is_call is_moment = rw (call_at-words call (moment_word version now ∷ []) is_call, moment_at-word version now [] is_moment) refl
 
 -- a line of `missing H N T` that reads as an item spells it
-pub missing_form-some : (version : ScriptVersion) (line : List ℕ) (ws : List (List ℕ)) (item : ScriptItem) → Has line (codes "missing") ws → missing_form version ws ≡ Some item → Spells version line item
+pub missing_form-some : (version : ScriptVersion) (line : List ℕ) (ws : List (List ℕ)) (item : ScriptItem)
+    → Has line (codes "missing") ws → missing_form version ws ≡ Some item → Spells version line item
 unfolding missing_form
 missing_form-some version line ws item has e =
     let c = bind_some (call_at ws) (λ (c : CallId × List (List ℕ)). moment_at version c.1 >>= λ (t : ℤ × List (List ℕ)). at_end_of_line (Event (Provided c.0 t.0 Missing)) t.1) item e in
@@ -154,12 +174,16 @@ missing_form-some version line ws item has e =
     subst (λ (i : ScriptItem). Spells version line i) {x = Event (Provided c.0.0 t.0.0 Missing)} last.0 ((call.1, now.1), cc (has, call.0, now.0, last.1))
 
 -- the words after the name of `failed H N T E` read as it
-pub failed_form-words : (version : ScriptVersion) (call : CallId) (now : ℤ) (error : ℕ) → IsLineCall call → IsLineMoment version now → error ≤ greatest_u64 → failed_form version (call_words call ++ moment_word version now ∷ decimal error ∷ []) ≡ Some (Event (Provided call now (answer.Failed error)))
+pub failed_form-words : (version : ScriptVersion) (call : CallId) (now : ℤ) (error : ℕ) → IsLineCall call
+    → IsLineMoment version now → error ≤ greatest_u64
+    → failed_form version (call_words call ++ moment_word version now ∷ decimal error ∷ [])
+    ≡ Some (Event (Provided call now (answer.Failed error)))
 unfolding failed_form
 failed_form-words version call now error is_call is_moment fits = rw (call_at-words call (moment_word version now ∷ decimal error ∷ []) is_call, moment_at-word version now (decimal error ∷ []) is_moment, number_at-decimal greatest_u64 error [] fits (omega arith)) refl
 
 -- a line of `failed H N T E` that reads as an item spells it
-pub failed_form-some : (version : ScriptVersion) (line : List ℕ) (ws : List (List ℕ)) (item : ScriptItem) → Has line (codes "failed") ws → failed_form version ws ≡ Some item → Spells version line item
+pub failed_form-some : (version : ScriptVersion) (line : List ℕ) (ws : List (List ℕ)) (item : ScriptItem)
+    → Has line (codes "failed") ws → failed_form version ws ≡ Some item → Spells version line item
 unfolding failed_form
 failed_form-some version line ws item has e =
     let c = bind_some (call_at ws) (λ (c : CallId × List (List ℕ)). moment_at version c.1 >>= λ (t : ℤ × List (List ℕ)). number_at greatest_u64 t.1 >>= λ (n : ℕ × List (List ℕ)). at_end_of_line (Event (Provided c.0 t.0 (answer.Failed n.0))) n.1) item e in
@@ -172,12 +196,14 @@ failed_form-some version line ws item has e =
     subst (λ (i : ScriptItem). Spells version line i) {x = Event (Provided c.0.0 t.0.0 (answer.Failed n.0.0))} last.0 ((call.1, now.1, number.1), cc (has, call.0, now.0, number.0, last.1))
 
 -- the words after the name of `accept H N HEAD` read as it
-pub accept_form-words : (call : CallId) (head : Head) → IsLineCall call → IsLineHead head → accept_form (call_words call ++ head_words head) ≡ Some (Event (Signed call (Accepted head)))
+pub accept_form-words : (call : CallId) (head : Head) → IsLineCall call → IsLineHead head
+    → accept_form (call_words call ++ head_words head) ≡ Some (Event (Signed call (Accepted head)))
 unfolding accept_form
 accept_form-words call head is_call is_head = rw (call_at-words call (head_words head) is_call, head_in-words head is_head) refl
 
 -- a line of `accept H N HEAD` that reads as an item spells it
-pub accept_form-some : (version : ScriptVersion) (line : List ℕ) (ws : List (List ℕ)) (item : ScriptItem) → Has line (codes "accept") ws → accept_form ws ≡ Some item → Spells version line item
+pub accept_form-some : (version : ScriptVersion) (line : List ℕ) (ws : List (List ℕ)) (item : ScriptItem)
+    → Has line (codes "accept") ws → accept_form ws ≡ Some item → Spells version line item
 unfolding accept_form
 accept_form-some version line ws item has e =
     let c = bind_some (call_at ws) (λ (c : CallId × List (List ℕ)). head_in c.1 >>= λ (h : Head). Some (Event (Signed c.0 (Accepted h)))) item e in
@@ -187,12 +213,14 @@ accept_form-some version line ws item has e =
     subst (λ (i : ScriptItem). Spells version line i) {x = Event (Signed c.0.0 (Accepted h.0))} (some_is (Event (Signed c.0.0 (Accepted h.0))) item h.2) ((call.1, head.1), cc (has, call.0, head.0))
 
 -- the words after the name of `reject H N E` read as it
-pub reject_form-words : (call : CallId) (error : ℕ) → IsLineCall call → error ≤ greatest_u64 → reject_form (call_words call ++ decimal error ∷ []) ≡ Some (Event (Signed call (verdict.Failed error)))
+pub reject_form-words : (call : CallId) (error : ℕ) → IsLineCall call → error ≤ greatest_u64
+    → reject_form (call_words call ++ decimal error ∷ []) ≡ Some (Event (Signed call (verdict.Failed error)))
 unfolding reject_form
 reject_form-words call error is_call fits = rw (call_at-words call (decimal error ∷ []) is_call, number_at-decimal greatest_u64 error [] fits (omega arith)) refl
 
 -- a line of `reject H N E` that reads as an item spells it
-pub reject_form-some : (version : ScriptVersion) (line : List ℕ) (ws : List (List ℕ)) (item : ScriptItem) → Has line (codes "reject") ws → reject_form ws ≡ Some item → Spells version line item
+pub reject_form-some : (version : ScriptVersion) (line : List ℕ) (ws : List (List ℕ)) (item : ScriptItem)
+    → Has line (codes "reject") ws → reject_form ws ≡ Some item → Spells version line item
 unfolding reject_form
 reject_form-some version line ws item has e =
     let c = bind_some (call_at ws) (λ (c : CallId × List (List ℕ)). number_at greatest_u64 c.1 >>= λ (n : ℕ × List (List ℕ)). at_end_of_line (Event (Signed c.0 (verdict.Failed n.0))) n.1) item e in
@@ -203,12 +231,14 @@ reject_form-some version line ws item has e =
     subst (λ (i : ScriptItem). Spells version line i) {x = Event (Signed c.0.0 (verdict.Failed n.0.0))} last.0 ((call.1, number.1), cc (has, call.0, number.0, last.1))
 
 -- the words after the name of `cancel H N` read as it
-pub cancel_form-words : (call : CallId) → IsLineCall call → cancel_form (call_words call) ≡ Some (Event (Cancel call))
+pub cancel_form-words : (call : CallId) → IsLineCall call
+    → cancel_form (call_words call) ≡ Some (Event (Cancel call))
 unfolding cancel_form
 cancel_form-words call is_call = rw (call_at-words call [] is_call) refl
 
 -- a line of `cancel H N` that reads as an item spells it
-pub cancel_form-some : (version : ScriptVersion) (line : List ℕ) (ws : List (List ℕ)) (item : ScriptItem) → Has line (codes "cancel") ws → cancel_form ws ≡ Some item → Spells version line item
+pub cancel_form-some : (version : ScriptVersion) (line : List ℕ) (ws : List (List ℕ)) (item : ScriptItem)
+    → Has line (codes "cancel") ws → cancel_form ws ≡ Some item → Spells version line item
 unfolding cancel_form
 cancel_form-some version line ws item has e =
     let c = bind_some (call_at ws) (λ (c : CallId × List (List ℕ)). at_end_of_line (Event (Cancel c.0)) c.1) item e in

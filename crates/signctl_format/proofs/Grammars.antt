@@ -25,7 +25,8 @@ use Rattle.signctl_format.proofs.Forms.{Has, chain_form-words, cache_form-some, 
 
 -- ---- what reads as an item spells it
 
-item_form-some : (version : ScriptVersion) (line name : List ℕ) (ws : List (List ℕ)) (item : ScriptItem) → Has line name ws → item_form version name ws ≡ Some item → Spells version line item
+item_form-some : (version : ScriptVersion) (line name : List ℕ) (ws : List (List ℕ)) (item : ScriptItem)
+    → Has line name ws → item_form version name ws ≡ Some item → Spells version line item
 unfolding item_form
 item_form-some version line name ws item has e = elim (chosen (bytes_eq name (codes "cache")) (cache_form ws) _ (Some item) e) [
   | inl a ↦ cache_form-some version line ws item (has ∙ ap (λ (w : List ℕ). w ∷ ws) (same_word name (codes "cache") a.0)) a.1
@@ -58,13 +59,15 @@ item_form-some version line name ws item has e = elim (chosen (bytes_eq name (co
   ]
 ]
 
-words_say-some : (version : ScriptVersion) (line : List ℕ) (ws : List (List ℕ)) (item : ScriptItem) → words line ≡ ws → words_say version ws ≡ Some item → Spells version line item
+words_say-some : (version : ScriptVersion) (line : List ℕ) (ws : List (List ℕ)) (item : ScriptItem)
+    → words line ≡ ws → words_say version ws ≡ Some item → Spells version line item
 unfolding words_say
 words_say-some version line [] item parted e = absurd cc
 words_say-some version line (name ∷ ws) item parted e = item_form-some version line name ws item parted e
 
 -- a line that reads as an item spells it
-pub item_of-some : (version : ScriptVersion) (line : List ℕ) (item : ScriptItem) → item_of version line ≡ Some item → Spells version line item
+pub item_of-some : (version : ScriptVersion) (line : List ℕ) (item : ScriptItem)
+    → item_of version line ≡ Some item → Spells version line item
 unfolding item_of
 item_of-some version line item e = elim (chosen (is_silent line) (Some Silent) (words_say version (words line)) (Some item) e) [
   | inl here ↦ subst (λ (i : ScriptItem). Spells version line i) {x = Silent} (some_is Silent item here.1) here.0
@@ -73,16 +76,21 @@ item_of-some version line item e = elim (chosen (is_silent line) (Some Silent) (
 
 -- ---- what spells an item reads as it
 
-after_hash : (text : List ℕ) → words (hash_sign ∷ text) ≡ (hash_sign ∷ take (position_or_len is_space text) text) ∷ words_after (drop (position_or_len is_space text) text)
+after_hash : (text : List ℕ)
+    → words (hash_sign ∷ text)
+    ≡ (hash_sign ∷ take (position_or_len is_space text) text)
+    ∷ words_after (drop (position_or_len is_space text) text)
 after_hash text = rw (words_split text) refl
 
-hash_name : (text name : List ℕ) (rest : List (List ℕ)) → words (hash_sign ∷ text) ≡ name ∷ rest → is_silent name ≡ true
+hash_name : (text name : List ℕ) (rest : List (List ℕ)) → words (hash_sign ∷ text) ≡ name ∷ rest
+    → is_silent name ≡ true
 hash_name text name rest parted =
     let same : hash_sign ∷ take (position_or_len is_space text) text ≡ name = cc (after_hash text, parted) in
     subst (λ (w : List ℕ). is_silent w ≡ true) same refl
 
 -- the first word of a silent line is empty or begins with `#`
-pub named_silent : (line name : List ℕ) (rest : List (List ℕ)) (silent : Bool) → words line ≡ name ∷ rest → is_silent name ≡ false → is_silent line ≡ silent → silent ≡ false
+pub named_silent : (line name : List ℕ) (rest : List (List ℕ)) (silent : Bool) → words line ≡ name ∷ rest
+    → is_silent name ≡ false → is_silent line ≡ silent → silent ≡ false
 named_silent line name rest false parted field_named e = refl
 named_silent [] name rest true parted field_named e =
     let same : [] ≡ name = cc in
@@ -91,12 +99,15 @@ named_silent (b ∷ text) name rest true parted field_named e =
     let hash : b ≡ hash_sign = eqb-true b hash_sign e in
     sym (hash_name text name rest (subst (λ (x : ℕ). words (x ∷ text) ≡ name ∷ rest) hash parted)) ∙ field_named
 
-named_line : (version : ScriptVersion) (line name : List ℕ) (rest : List (List ℕ)) (item : ScriptItem) → words line ≡ name ∷ rest → is_silent name ≡ false → item_form version name rest ≡ Some item → item_of version line ≡ Some item
+named_line : (version : ScriptVersion) (line name : List ℕ) (rest : List (List ℕ)) (item : ScriptItem)
+    → words line ≡ name ∷ rest → is_silent name ≡ false → item_form version name rest ≡ Some item
+    → item_of version line ≡ Some item
 unfolding item_of words_say
 named_line version line name rest item parted field_named e = rw (named_silent line name rest (is_silent line) parted field_named refl, parted) e
 
 -- a line that spells an item reads as it
-pub item_of-spelled : (version : ScriptVersion) (line : List ℕ) (item : ScriptItem) → Spells version line item → item_of version line ≡ Some item
+pub item_of-spelled : (version : ScriptVersion) (line : List ℕ) (item : ScriptItem) → Spells version line item
+    → item_of version line ≡ Some item
 unfolding item_of item_form cache_form
 item_of-spelled version line Silent spelled = rw spelled refl
 item_of-spelled version line (Cache Single) spelled = named_line version line (codes "cache") (codes "single" ∷ []) (Cache Single) spelled.1 refl refl
@@ -114,7 +125,8 @@ item_of-spelled version line (Event (Cancel call)) spelled = named_line version 
 -- ---- the laws
 
 -- a line spells at most one item
-pub one_item : (version : ScriptVersion) (line : List ℕ) (a b : ScriptItem) → Spells version line a → Spells version line b → a ≡ b
+pub one_item : (version : ScriptVersion) (line : List ℕ) (a b : ScriptItem) → Spells version line a
+    → Spells version line b → a ≡ b
 one_item version line a b first second = some_is a b (sym (item_of-spelled version line a first) ∙ item_of-spelled version line b second)
 
 -- lines of the same words are the same line
@@ -122,12 +134,14 @@ pub same_line : (a b : List ℕ) (ws : List (List ℕ)) → words a ≡ ws → w
 same_line a b ws first second = sym (join_with_byte-slice_split space a) ∙ ap (join_with_byte space) (first ∙ sym second) ∙ join_with_byte-slice_split space b
 
 -- an item has at most one spelling, but for those that say nothing
-pub one_spelling : (version : ScriptVersion) (item : ScriptItem) (a b : List ℕ) → item ≢ Silent → Spells version a item → Spells version b item → a ≡ b
+pub one_spelling : (version : ScriptVersion) (item : ScriptItem) (a b : List ℕ) → item ≢ Silent
+    → Spells version a item → Spells version b item → a ≡ b
 one_spelling version Silent a b loud first second = absurd (loud refl)
 one_spelling version (Cache loader) a b loud first second = same_line a b _ first.1 second.1
 one_spelling version (Handle cache rule) a b loud first second = same_line a b _ first.1 second.1
 one_spelling version (Event event) a b loud first second = same_line a b _ first.1 second.1
 
 -- the grammar is decided
-pub decided : (version : ScriptVersion) (line : List ℕ) (item : ScriptItem) → Spells version line item ↔ (item_of version line ≡ Some item)
+pub decided : (version : ScriptVersion) (line : List ℕ) (item : ScriptItem)
+    → Spells version line item ↔ (item_of version line ≡ Some item)
 decided version line item = (item_of-spelled version line item, item_of-some version line item)

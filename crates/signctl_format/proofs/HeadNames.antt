@@ -27,7 +27,8 @@ name_no_colon (b ∷ name) all =
     rw (here, name_no_colon name parts.1) refl
 
 -- visible bytes of which none is a colon are those of a name
-name_bytes : (name : List ℕ) → list_all is_visible name ≡ true → list_any is_colon name ≡ false → list_all is_name_byte name ≡ true
+name_bytes : (name : List ℕ) → list_all is_visible name ≡ true → list_any is_colon name ≡ false
+    → list_all is_name_byte name ≡ true
 name_bytes [] visible none = refl
 name_bytes (b ∷ name) visible none =
     let seen = and_parts (is_visible b) (list_all is_visible name) visible in
@@ -35,7 +36,8 @@ name_bytes (b ∷ name) visible none =
     rw (seen.0, other.0) (name_bytes name seen.1 other.1)
 
 -- a name before a colon is that of a header, where it has a byte
-pub name_found : (word name rest value : List ℕ) → name ++ rest ≡ word → rest ≡ colon ∷ value → list_all is_name_byte name ≡ true → 0 < length name → field_of word ≡ field_named name (value_of value)
+pub name_found : (word name rest value : List ℕ) → name ++ rest ≡ word → rest ≡ colon ∷ value
+    → list_all is_name_byte name ≡ true → 0 < length name → field_of word ≡ field_named name (value_of value)
 name_found word name rest value parts colon_first all some =
     let whole : word ≡ name ++ colon ∷ value = sym parts ∙ ap (λ (r : List ℕ). name ++ r) colon_first in
     let place = position-mark colon name value (name_no_colon name all) in
@@ -44,7 +46,9 @@ name_found word name rest value parts colon_first all some =
     read ∙ rw (take-mark colon name value, drop-mark colon name value, target) refl
 
 -- a word parts in one way into the bytes of a name and what begins with none
-parts_once : (front value name rest : List ℕ) → front ++ colon ∷ value ≡ name ++ rest → list_all is_name_byte front ≡ true → list_all is_name_byte name ≡ true → begins_with is_name_byte rest ≡ false → rest ≡ colon ∷ value
+parts_once : (front value name rest : List ℕ) → front ++ colon ∷ value ≡ name ++ rest
+    → list_all is_name_byte front ≡ true → list_all is_name_byte name ≡ true
+    → begins_with is_name_byte rest ≡ false → rest ≡ colon ∷ value
 parts_once [] value [] rest whole front_all name_all stops = sym whole
 parts_once [] value (b ∷ name) rest whole front_all name_all stops =
     let here = and_parts (is_name_byte b) (list_all is_name_byte name) name_all in
@@ -59,7 +63,10 @@ parts_once (b ∷ front) value (c ∷ name) rest whole front_all name_all stops 
     parts_once front value name rest tails (and_parts (is_name_byte b) (list_all is_name_byte front) front_all).1 (and_parts (is_name_byte c) (list_all is_name_byte name) name_all).1 stops
 
 -- with no colon after the bytes of a name in front, none stands after a name
-no_colon_at : (word name rest : List ℕ) (place : ℕ) (target : Bool) → is_target (take place word) ≡ target → position is_colon word ≡ Some place → name ++ rest ≡ word → begins_with is_colon rest ≡ false → list_all is_name_byte name ≡ true → begins_with is_name_byte rest ≡ false → field_at word (Some place) ≡ None
+no_colon_at : (word name rest : List ℕ) (place : ℕ) (target : Bool) → is_target (take place word) ≡ target
+    → position is_colon word ≡ Some place → name ++ rest ≡ word → begins_with is_colon rest ≡ false
+    → list_all is_name_byte name ≡ true → begins_with is_name_byte rest ≡ false
+    → field_at word (Some place) ≡ None
 no_colon_at word name rest place false bad found parts other all stops = rw bad refl
 no_colon_at word name rest place true good found parts other all stops =
     let split = parts_at colon word place found in
@@ -68,16 +75,20 @@ no_colon_at word name rest place true good found parts other all stops =
     let after = parts_once (take place word) (drop (place + 1) word) name rest (sym split.whole ∙ sym parts) front_all all stops in
     absurd (true≢false (sym (ap (begins_with is_colon) after) ∙ other))
 
-no_colon_in : (word name rest : List ℕ) (place : Option ℕ) → position is_colon word ≡ place → name ++ rest ≡ word → begins_with is_colon rest ≡ false → list_all is_name_byte name ≡ true → begins_with is_name_byte rest ≡ false → field_at word place ≡ None
+no_colon_in : (word name rest : List ℕ) (place : Option ℕ) → position is_colon word ≡ place
+    → name ++ rest ≡ word → begins_with is_colon rest ≡ false → list_all is_name_byte name ≡ true
+    → begins_with is_name_byte rest ≡ false → field_at word place ≡ None
 no_colon_in word name rest None found parts other all stops = refl
 no_colon_in word name rest (Some place) found parts other all stops = no_colon_at word name rest place (is_target (take place word)) refl found parts other all stops
 
 -- a word whose first bytes of a name are followed by no colon is no header
-pub no_colon_found : (word name rest : List ℕ) → name ++ rest ≡ word → begins_with is_colon rest ≡ false → list_all is_name_byte name ≡ true → begins_with is_name_byte rest ≡ false → field_of word ≡ None
+pub no_colon_found : (word name rest : List ℕ) → name ++ rest ≡ word → begins_with is_colon rest ≡ false
+    → list_all is_name_byte name ≡ true → begins_with is_name_byte rest ≡ false → field_of word ≡ None
 no_colon_found word name rest parts other all stops = no_colon_in word name rest (position is_colon word) refl parts other all stops
 
 -- a word that begins with a colon is no header
-pub no_name_found : (word name rest value : List ℕ) → name ++ rest ≡ word → rest ≡ colon ∷ value → length name ≡ 0 → field_of word ≡ None
+pub no_name_found : (word name rest value : List ℕ) → name ++ rest ≡ word → rest ≡ colon ∷ value
+    → length name ≡ 0 → field_of word ≡ None
 no_name_found word [] rest value parts colon_first none =
     let whole : word ≡ colon ∷ value = sym parts ∙ colon_first in
     ap field_of whole ∙ ap (field_at (colon ∷ value)) (position-mark colon [] value refl)

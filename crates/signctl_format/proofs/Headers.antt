@@ -17,7 +17,8 @@ use Rattle.signctl_format.proofs.ReadingSteps.{same_word, some_is, chosen, passe
 use Rattle.signctl_format.proofs.Marks.{position-mark, take-mark, drop-mark, parts_at}
 use Rattle.signctl_format.proofs.Values.{value_of-word, value_of-some}
 
-named_some : (name : List ℕ) (value : Option (List ℕ)) (f : Field) → field_named name value ≡ Some f → (v : List ℕ) × (value ≡ Some v) × (record { name = name; value = v } ≡ f)
+named_some : (name : List ℕ) (value : Option (List ℕ)) (f : Field) → field_named name value ≡ Some f
+    → (v : List ℕ) × (value ≡ Some v) × (record { name = name; value = v } ≡ f)
 named_some name (Some v) f e = (v, refl, some_is (record { name = name; value = v }) f e)
 named_some name None f e = absurd cc
 
@@ -38,7 +39,8 @@ field_of-word f fits =
 abbrev pub SpellsField : List ℕ → Field → Type 0
 SpellsField word f = (word ≡ field_word f) × (is_field f ≡ true)
 
-field_parted : (word : List ℕ) (place : Option ℕ) (f : Field) → position is_colon word ≡ place → field_at word place ≡ Some f → SpellsField word f
+field_parted : (word : List ℕ) (place : Option ℕ) (f : Field) → position is_colon word ≡ place
+    → field_at word place ≡ Some f → SpellsField word f
 field_parted word None f e read = absurd cc
 field_parted word (Some place) f e read =
     let parts = parts_at colon word place e in
@@ -54,7 +56,8 @@ pub field_of-some : (word : List ℕ) (f : Field) → field_of word ≡ Some f �
 field_of-some word f e = field_parted word (position is_colon word) f refl e
 
 -- the words of headers read as them
-pub fields_in-words : (fs : List Field) → list_all is_field fs ≡ true → fields_in (map field_word fs) ≡ Some fs
+pub fields_in-words : (fs : List Field) → list_all is_field fs ≡ true
+    → fields_in (map field_word fs) ≡ Some fs
 unfolding fields_in
 fields_in-words [] fit = refl
 fields_in-words (f ∷ fs) fit =
@@ -86,7 +89,9 @@ version_of-word V11 = refl
 version_of-word V2 = refl
 version_of-word V3 = refl
 
-version_named : (word : List ℕ) (v w : Version) (later : Option Version) → cond (bytes_eq word (version_word v)) (Some v) later ≡ Some w → (later ≡ Some w → word ≡ version_word w) → word ≡ version_word w
+version_named : (word : List ℕ) (v w : Version) (later : Option Version)
+    → cond (bytes_eq word (version_word v)) (Some v) later ≡ Some w → (later ≡ Some w → word ≡ version_word w)
+    → word ≡ version_word w
 version_named word v w later e rest = elim (chosen (bytes_eq word (version_word v)) (Some v) later (Some w) e) [
   | inl here ↦ same_word word (version_word v) here.0 ∙ ap version_word (some_is v w here.1)
   | inr there ↦ rest there.1
@@ -113,7 +118,9 @@ visible_target-some word o e =
     let same = some_is word o p.1 in
     (same, sym (ap is_target same) ∙ p.0)
 
-head_parted : (m u v : List ℕ) (rest ws : List (List ℕ)) (a b : List (List ℕ)) (head : Head) → ws ≡ m ∷ a → a ≡ u ∷ b → b ≡ v ∷ rest → m ≡ head.method → u ≡ head.uri → v ≡ version_word head.version → rest ≡ map field_word head.headers → ws ≡ head_words head
+head_parted : (m u v : List ℕ) (rest ws : List (List ℕ)) (a b : List (List ℕ)) (head : Head) → ws ≡ m ∷ a
+    → a ≡ u ∷ b → b ≡ v ∷ rest → m ≡ head.method → u ≡ head.uri → v ≡ version_word head.version
+    → rest ≡ map field_word head.headers → ws ≡ head_words head
 head_parted m u v rest ws a b head p q r method uri version headers = cc
 
 -- words that read as a head are its words

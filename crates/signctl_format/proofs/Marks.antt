@@ -11,7 +11,8 @@ use Rattle.signctl_format.proofs.ReadingSteps.{some_is, passed_test}
 abbrev pub is_the : ℕ → ℕ → Bool
 is_the mark b = eqb b mark
 
-mark_after : (mark : ℕ) (front rest : List ℕ) → list_any (is_the mark) front ≡ false → position_or_len (is_the mark) (front ++ mark ∷ rest) ≡ length front
+mark_after : (mark : ℕ) (front rest : List ℕ) → list_any (is_the mark) front ≡ false
+    → position_or_len (is_the mark) (front ++ mark ∷ rest) ≡ length front
 mark_after mark [] rest none = rw (eq-eqb mark mark refl) refl
 mark_after mark (b ∷ front) rest none =
     let parts = or_parts (is_the mark b) (list_any (is_the mark) front) none in
@@ -19,7 +20,8 @@ mark_after mark (b ∷ front) rest none =
     rw (parts.0, mark_after mark front rest parts.1, more) refl
 
 -- after bytes that are no mark the first mark stands where they end
-pub position-mark : (mark : ℕ) (front rest : List ℕ) → list_any (is_the mark) front ≡ false → position (is_the mark) (front ++ mark ∷ rest) ≡ Some (length front)
+pub position-mark : (mark : ℕ) (front rest : List ℕ) → list_any (is_the mark) front ≡ false
+    → position (is_the mark) (front ++ mark ∷ rest) ≡ Some (length front)
 position-mark mark front rest none =
     let within : length front < length (front ++ mark ∷ rest) = omega (arith, length-append front (mark ∷ rest)) in
     rw (mark_after mark front rest none, lt-ltb (length front) (length (front ++ mark ∷ rest)) within) refl
@@ -39,12 +41,15 @@ pub record PartsAt (mark : ℕ) (word : List ℕ) (place : ℕ) : Type 0 where
   pub whole : word ≡ take place word ++ mark ∷ drop (place + 1) word
   pub first : list_any (is_the mark) (take place word) ≡ false
 
-none_before : (mark : ℕ) (word : List ℕ) (k d : ℕ) → k < length (take (position_or_len (is_the mark) word) word) → is_the mark (get_or (take (position_or_len (is_the mark) word) word) k d) ≡ false
+none_before : (mark : ℕ) (word : List ℕ) (k d : ℕ)
+    → k < length (take (position_or_len (is_the mark) word) word)
+    → is_the mark (get_or (take (position_or_len (is_the mark) word) word) k d) ≡ false
 none_before mark word k d lt =
     let before : k < position_or_len (is_the mark) word = omega (arith, length-take (position_or_len (is_the mark) word) word) in
     rw (get_or-take (position_or_len (is_the mark) word) word k d before) (fails_before_first (is_the mark) word k d before)
 
-parts_at_first : (mark : ℕ) (word : List ℕ) → position_or_len (is_the mark) word < length word → PartsAt mark word (position_or_len (is_the mark) word)
+parts_at_first : (mark : ℕ) (word : List ℕ) → position_or_len (is_the mark) word < length word
+    → PartsAt mark word (position_or_len (is_the mark) word)
 parts_at_first mark word within =
     let here : get_or word (position_or_len (is_the mark) word) 0 ≡ mark = eqb-true _ mark (passes_at_first (is_the mark) word 0 within) in
     record {
@@ -53,7 +58,8 @@ parts_at_first mark word within =
     }
 
 -- a word parts at its first mark
-pub parts_at : (mark : ℕ) (word : List ℕ) (place : ℕ) → position (is_the mark) word ≡ Some place → PartsAt mark word place
+pub parts_at : (mark : ℕ) (word : List ℕ) (place : ℕ) → position (is_the mark) word ≡ Some place
+    → PartsAt mark word place
 parts_at mark word place e =
     let found = passed_test (ltb (position_or_len (is_the mark) word) (length word)) (Some (position_or_len (is_the mark) word)) place e in
     subst (λ (n : ℕ). PartsAt mark word n) (some_is (position_or_len (is_the mark) word) place found.1) (parts_at_first mark word (ltb-true (position_or_len (is_the mark) word) (length word) found.0))

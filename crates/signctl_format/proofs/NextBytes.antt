@@ -5,7 +5,9 @@ use Rattle.signctl_format.specs.Escapes.{is_plain, with_first_byte, value_of}
 use Rattle.signctl_format.proofs.HeadWords.{value_of-plain}
 
 -- a plain byte, and those after it
-pub plain_first : (rest : List ℕ) → is_plain (get_or rest 0 0) ≡ true → (value_of rest ≡ with_first_byte (get_or rest 0 0) (value_of (take (length rest - 1) (drop 1 rest)))) × (length (take (length rest - 1) (drop 1 rest)) < length rest)
+pub plain_first : (rest : List ℕ) → is_plain (get_or rest 0 0) ≡ true
+    → (value_of rest ≡ with_first_byte (get_or rest 0 0) (value_of (take (length rest - 1) (drop 1 rest))))
+    × (length (take (length rest - 1) (drop 1 rest)) < length rest)
 plain_first [] plain = absurd cc
 plain_first (b ∷ after) plain =
     let all : take (length (b ∷ after) - 1) after ≡ after = take_all (length (b ∷ after) - 1) after (omega arith) in (

@@ -10,9 +10,10 @@ use lib.Lanes.{chunk, mask_l, top}
 use Rattle.signctl_format.specs.Classes.{begins_with, IsRunIn, first_set}
 
 -- a lane is set just where a byte is not of the class, which is seen at each of the 256 bytes
-pub run_in : (q : ℕ → Bool) (d : List ℕ) (i r : ℕ) (z : List ℕ) (f : ℕ → ℕ) → i + 16 ≤ length d → ((k : ℕ) → Fits w8 (get_or d k 0))
-    → r ≡ first_set (mask_l (map (top 7) z) % 2 ^ 64) 16 → z ≡ map f (chunk i 16 d)
-    → agree_below (λ x. top 7 (f x)) (λ x. not (q x)) 256 ≡ true → IsRunIn q d i 16 r
+pub run_in : (q : ℕ → Bool) (d : List ℕ) (i r : ℕ) (z : List ℕ) (f : ℕ → ℕ) → i + 16 ≤ length d
+    → ((k : ℕ) → Fits w8 (get_or d k 0)) → r ≡ first_set (mask_l (map (top 7) z) % 2 ^ 64) 16
+    → z ≡ map f (chunk i 16 d) → agree_below (λ x. top 7 (f x)) (λ x. not (q x)) 256 ≡ true
+    → IsRunIn q d i 16 r
 run_in q d i r z f room fits found lanes all =
     let stops : ℕ → Bool = λ x. top 7 (f x) in
     let v : List ℕ = chunk i 16 d in
@@ -30,18 +31,21 @@ abbrev pub PassBefore : (ℕ → Bool) → List ℕ → ℕ → Type 0
 PassBefore q d n = (k : ℕ) → k < n → q (get_or d k 0) ≡ true
 
 -- what passes before a block, and in it up to a place
-pub pass_on : (q : ℕ → Bool) (d : List ℕ) (seen at n r : ℕ) → at ≤ seen → PassBefore q d seen → IsRunIn q d at n r → PassBefore q d (at + r)
+pub pass_on : (q : ℕ → Bool) (d : List ℕ) (seen at n r : ℕ) → at ≤ seen → PassBefore q d seen
+    → IsRunIn q d at n r → PassBefore q d (at + r)
 pass_on q d seen at n r reached before run = λ k lt. elim (cases_lt k seen) [
   | inl early ↦ before k early
   | inr late ↦ run.passes k (omega arith) lt
 ]
 
 -- a block where the run ends
-pub run_ends : (q : ℕ → Bool) (d : List ℕ) (seen at r : ℕ) → at ≤ seen → at + 16 ≤ length d → PassBefore q d seen → IsRunIn q d at 16 r → (at + r < length d → r < 16) → at + r ≡ prefix_len q d
+pub run_ends : (q : ℕ → Bool) (d : List ℕ) (seen at r : ℕ) → at ≤ seen → at + 16 ≤ length d
+    → PassBefore q d seen → IsRunIn q d at 16 r → (at + r < length d → r < 16) → at + r ≡ prefix_len q d
 run_ends q d seen at r reached room before run ends =
     sym (prefix_len_is q d (at + r) 0 (omega (arith, run.within)) (pass_on q d seen at 16 r reached before run) (λ short. run.stops (ends short)))
 
-first_passes : (q : ℕ → Bool) (b : ℕ) (d : List ℕ) (here : Bool) → q b ≡ here → list_all q (take (prefix_len q d) d) ≡ true → list_all q (take (prefix_len q (b ∷ d)) (b ∷ d)) ≡ true
+first_passes : (q : ℕ → Bool) (b : ℕ) (d : List ℕ) (here : Bool) → q b ≡ here
+    → list_all q (take (prefix_len q d) d) ≡ true → list_all q (take (prefix_len q (b ∷ d)) (b ∷ d)) ≡ true
 first_passes q b d true e rest =
     let k : 1 + prefix_len q d ≡ suc (prefix_len q d) = omega arith in
     rw (e, k) (and_from (q b) (list_all q (take (prefix_len q d) d)) e rest)
@@ -52,7 +56,9 @@ pub run_passes : (q : ℕ → Bool) (d : List ℕ) → list_all q (take (prefix_
 run_passes q [] = refl
 run_passes q (b ∷ d) = first_passes q b d (q b) refl (run_passes q d)
 
-first_stops : (q : ℕ → Bool) (b : ℕ) (d : List ℕ) (here : Bool) → q b ≡ here → begins_with q (drop (prefix_len q d) d) ≡ false → begins_with q (drop (prefix_len q (b ∷ d)) (b ∷ d)) ≡ false
+first_stops : (q : ℕ → Bool) (b : ℕ) (d : List ℕ) (here : Bool) → q b ≡ here
+    → begins_with q (drop (prefix_len q d) d) ≡ false
+    → begins_with q (drop (prefix_len q (b ∷ d)) (b ∷ d)) ≡ false
 first_stops q b d true e rest =
     let k : 1 + prefix_len q d ≡ suc (prefix_len q d) = omega arith in
     rw (e, k) rest

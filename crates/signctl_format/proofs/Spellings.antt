@@ -55,13 +55,15 @@ last_word (b ∷ word) visible =
     let parts = and_parts (is_visible b) (list_all is_visible word) visible in
     rw (visible_no_space b parts.0, last_word word parts.1) refl
 
-first_word_of : (word rest : List ℕ) → is_visible_word word ≡ true → words (word ++ space ∷ rest) ≡ word ∷ words rest
+first_word_of : (word rest : List ℕ) → is_visible_word word ≡ true
+    → words (word ++ space ∷ rest) ≡ word ∷ words rest
 first_word_of [] rest visible = refl
 first_word_of (b ∷ word) rest visible =
     let parts = and_parts (is_visible b) (list_all is_visible word) visible in
     rw (visible_no_space b parts.0, first_word_of word rest parts.1) refl
 
-words_of : (word : List ℕ) (rest : List (List ℕ)) → list_all is_visible_word (word ∷ rest) ≡ true → words (line_of (word ∷ rest)) ≡ word ∷ rest
+words_of : (word : List ℕ) (rest : List (List ℕ)) → list_all is_visible_word (word ∷ rest) ≡ true
+    → words (line_of (word ∷ rest)) ≡ word ∷ rest
 words_of word [] visible =
     let parts = and_parts (is_visible_word word) true visible in
     ap words (append-nil word) ∙ last_word word parts.0
@@ -70,7 +72,8 @@ words_of word (next ∷ rest) visible =
     first_word_of word (next ++ spaced_words rest) parts.0 ∙ ap (λ (ws : List (List ℕ)). word ∷ ws) (words_of next rest parts.1)
 
 -- the line of one or more visible words parts into them
-pub words_of_line : {word : List ℕ} {rest : List (List ℕ)} → AreVisibleWords (word ∷ rest) → words (line_of (word ∷ rest)) ≡ word ∷ rest
+pub words_of_line : {word : List ℕ} {rest : List (List ℕ)} → AreVisibleWords (word ∷ rest)
+    → words (line_of (word ∷ rest)) ≡ word ∷ rest
 words_of_line {word} {rest} visible = words_of word rest visible.all
 
 -- ---- words are visible
@@ -80,7 +83,8 @@ pub no_words : AreVisibleWords []
 no_words = record { all = refl }
 
 -- one more visible word
-pub one_word : {word : List ℕ} {rest : List (List ℕ)} → is_visible_word word ≡ true → AreVisibleWords rest → AreVisibleWords (word ∷ rest)
+pub one_word : {word : List ℕ} {rest : List (List ℕ)} → is_visible_word word ≡ true → AreVisibleWords rest
+    → AreVisibleWords (word ∷ rest)
 one_word {word} {rest} first others = record { all = and_from (is_visible_word word) (list_all is_visible_word rest) first others.all }
 
 visible_number : (n : ℕ) → n < 2 ^ 64 → is_visible_word (decimal n) ≡ true
@@ -92,16 +96,19 @@ visible_fraction n below = elim (cases_Bool (eqb n 0)) [
   | inr some ↦ rw some (all_wider is_digit is_visible digit_visible (fraction_digits 9 n) (fraction_of_digits 9 n below))
 ]
 
-visible_time : (version : ScriptVersion) (limit : ℕ) (time : Duration) → limit < 2 ^ 64 → IsLineTime version limit time → is_visible_word (time_word version time) ≡ true
+visible_time : (version : ScriptVersion) (limit : ℕ) (time : Duration) → limit < 2 ^ 64
+    → IsLineTime version limit time → is_visible_word (time_word version time) ≡ true
 visible_time One limit time wide fits = visible_number time.secs (omega (arith, fits.within))
 visible_time Two limit time wide fits = all_both is_visible (decimal time.secs) (fraction_word time.nanos) (visible_number time.secs (omega (arith, fits.within))) (visible_fraction time.nanos fits.below)
 
 -- the word of a moment is visible
-pub visible_moment : (version : ScriptVersion) (t : ℤ) → IsLineMoment version t → is_visible_word (moment_word version t) ≡ true
+pub visible_moment : (version : ScriptVersion) (t : ℤ) → IsLineMoment version t
+    → is_visible_word (moment_word version t) ≡ true
 visible_moment version (pos n) fits = ap is_visible_word (moment_word-pos version n) ∙ visible_time version last_second (in_nanos n) (lit< tt) fits
 visible_moment version (negsuc n) fits = absurd fits
 
-visible_duration : (version : ScriptVersion) (d : Option Duration) → IsLineDuration version d → is_visible_word (duration_word version d) ≡ true
+visible_duration : (version : ScriptVersion) (d : Option Duration) → IsLineDuration version d
+    → is_visible_word (duration_word version d) ≡ true
 visible_duration version None fits = refl
 visible_duration version (Some d) fits = visible_time version greatest_u64 d (lit< tt) fits
 
@@ -113,14 +120,16 @@ glyph_visible n small = elim (cases_lt n 10) [
   | inr high ↦ rw (le-ltb n 10 high, le-leb 0x21 (55 + n) (omega arith), le-leb (55 + n) 0x7e (omega arith)) refl
 ]
 
-visible_byte : (stands : ℕ → Bool) → ((b : ℕ) → stands b ≡ true → is_visible b ≡ true) → (b : ℕ) → b < 256 → is_visible_word (byte_or_escape stands b) ≡ true
+visible_byte : (stands : ℕ → Bool) → ((b : ℕ) → stands b ≡ true → is_visible b ≡ true) → (b : ℕ) → b < 256
+    → is_visible_word (byte_or_escape stands b) ≡ true
 visible_byte stands visible b small = elim (cases_Bool (stands b)) [
   | inl plain ↦ rw plain (and_from (is_visible b) true (visible b plain) refl)
   | inr escaped ↦ rw (escaped, glyph_visible (b / 16) (omega arith), glyph_visible (b % 16) (omega arith)) refl
 ]
 
 -- escaped bytes are visible where those that stand for themselves are
-pub visible_escapes : (stands : ℕ → Bool) → ((b : ℕ) → stands b ≡ true → is_visible b ≡ true) → (bytes : List ℕ) → list_all is_byte bytes ≡ true → is_visible_word (with_escapes stands bytes) ≡ true
+pub visible_escapes : (stands : ℕ → Bool) → ((b : ℕ) → stands b ≡ true → is_visible b ≡ true)
+    → (bytes : List ℕ) → list_all is_byte bytes ≡ true → is_visible_word (with_escapes stands bytes) ≡ true
 visible_escapes stands visible [] fit = refl
 visible_escapes stands visible (b ∷ bytes) fit =
     let parts = and_parts (is_byte b) (list_all is_byte bytes) fit in
@@ -158,11 +167,13 @@ visible_head head fits =
 
 -- ---- items
 
-visible_call : (call : CallId) {rest : List (List ℕ)} → IsLineCall call → AreVisibleWords rest → AreVisibleWords (call_words call ++ rest)
+visible_call : (call : CallId) {rest : List (List ℕ)} → IsLineCall call → AreVisibleWords rest
+    → AreVisibleWords (call_words call ++ rest)
 visible_call call fits others =
     one_word (visible_number call.handle (omega (arith, fits.handle))) (one_word (visible_number call.number (omega (arith, fits.number))) others)
 
-visible_credential : (version : ScriptVersion) (c : ScriptCredential) → IsLineCredential version c → AreVisibleWords (credential_words version c)
+visible_credential : (version : ScriptVersion) (c : ScriptCredential) → IsLineCredential version c
+    → AreVisibleWords (credential_words version c)
 visible_credential version c fits =
     one_word (visible_number c.generation (omega (arith, fits.generation))) (one_word (visible_moment version c.fresh fits.fresh) (one_word (visible_moment version c.expires fits.expires) (one_word (visible_moment version c.required fits.required) no_words)))
 
@@ -171,7 +182,8 @@ visible_rule Now = refl
 visible_rule Cred = refl
 
 -- an item whose parts a line may name is spelled by the line of its words
-pub spelled : (version : ScriptVersion) (item : ScriptItem) → IsLineItem version item → Spells version (line_of (item_words version item)) item
+pub spelled : (version : ScriptVersion) (item : ScriptItem) → IsLineItem version item
+    → Spells version (line_of (item_words version item)) item
 spelled version Silent fits = refl
 spelled version (Cache Single) fits = (fits, refl)
 spelled version (Cache (Chain providers)) fits = (fits, words_of_line (one_word refl (one_word refl (one_word (visible_number providers (omega (arith, fits))) no_words))))

@@ -15,15 +15,19 @@ pub grows_not : (a b : List ℕ) → b ≡ a → Grows a b
 grows_not a b e = record { more = []; is = e ∙ sym (append-nil a) }
 
 -- what was added by one call and then by another
-pub held_then : (old mid : Vec ℕ) {new : List ℕ} (first last : List ℕ) → mid.items ≡ old.items ++ first → new ≡ mid.items ++ last → new ≡ old.items ++ (first ++ last)
+pub held_then : (old mid : Vec ℕ) {new : List ℕ} (first last : List ℕ) → mid.items ≡ old.items ++ first
+    → new ≡ mid.items ++ last → new ≡ old.items ++ (first ++ last)
 held_then old mid first last held added = added ∙ ap (λ (t : List ℕ). t ++ last) held ∙ append_assoc old.items first last
 
 -- the same where it ends a list of words
-pub held_last : (old : Vec ℕ) {new : List ℕ} (last : List ℕ) → new ≡ old.items ++ last → new ≡ old.items ++ (last ++ [])
+pub held_last : (old : Vec ℕ) {new : List ℕ} (last : List ℕ) → new ≡ old.items ++ last
+    → new ≡ old.items ++ (last ++ [])
 held_last old last added = added ∙ ap (λ (t : List ℕ). old.items ++ t) (sym (append-nil last))
 
 -- one more of several parts was added
-pub held_more : {A : Type 0} (f : A → List ℕ) (xs : List A) (i : ℕ) (x d : A) (old mid : Vec ℕ) {new : List ℕ} → i < length xs → x ≡ get_or xs i d → mid.items ≡ old.items ++ flat_map f (take i xs) → new ≡ mid.items ++ f x → new ≡ old.items ++ flat_map f (take (i + 1) xs)
+pub held_more : {A : Type 0} (f : A → List ℕ) (xs : List A) (i : ℕ) (x d : A) (old mid : Vec ℕ) {new : List ℕ}
+    → i < length xs → x ≡ get_or xs i d → mid.items ≡ old.items ++ flat_map f (take i xs)
+    → new ≡ mid.items ++ f x → new ≡ old.items ++ flat_map f (take (i + 1) xs)
 held_more {A = A} f xs i x d old mid within is held added =
     let more : take (i + 1) xs ≡ take i xs ++ x ∷ [] = take_more xs i d within ∙ ap (λ (y : A). take i xs ++ y ∷ []) (sym is) in
     added ∙ ap (λ (t : List ℕ). t ++ f x) held ∙ flat_map_more f old.items (take i xs) x ∙ ap (λ (ys : List A). old.items ++ flat_map f ys) (sym more)

@@ -32,13 +32,15 @@ digit_reads letter n low =
     let back : zero_digit + n - zero_digit ≡ n = omega arith in
     rw (le-leb zero_digit (zero_digit + n) (omega arith), le-leb (zero_digit + n) nine_digit (omega arith), back) refl
 
-letter_reads : (letter n : ℕ) → nine_digit < letter → 10 ≤ n → n < 16 → hex_digit letter (letter + (n - 10)) ≡ Some n
+letter_reads : (letter n : ℕ) → nine_digit < letter → 10 ≤ n → n < 16
+    → hex_digit letter (letter + (n - 10)) ≡ Some n
 letter_reads letter n beyond high small =
     let back : letter + (n - 10) - letter + 10 ≡ n = omega arith in
     rw (le-leb zero_digit (letter + (n - 10)) (omega arith), lt-leb (letter + (n - 10)) nine_digit (omega arith), le-leb letter (letter + (n - 10)) (omega arith), le-leb (letter + (n - 10)) (letter + 5) (omega arith), back) refl
 
 -- the digit of a number below 16 reads as it
-pub hex_digit-glyph : (upper : Bool) (n : ℕ) → n < 16 → hex_digit (first_letter upper) (digit_glyph upper n) ≡ Some n
+pub hex_digit-glyph : (upper : Bool) (n : ℕ) → n < 16
+    → hex_digit (first_letter upper) (digit_glyph upper n) ≡ Some n
 hex_digit-glyph upper n small = elim (cases_lt n 10) [
   | inl low ↦ ap (hex_digit (first_letter upper)) (glyph_low upper n low) ∙ digit_reads (first_letter upper) n low
   | inr high ↦ ap (hex_digit (first_letter upper)) (glyph_high upper n high) ∙ letter_reads (first_letter upper) n (letters_beyond upper) high small
@@ -48,7 +50,11 @@ hex_digit-glyph upper n small = elim (cases_lt n 10) [
 abbrev IsDigit : Bool → ℕ → ℕ → Type 0
 IsDigit upper b n = (n < 16) × (b ≡ digit_glyph upper n)
 
-letter_some : (upper : Bool) (b n : ℕ) → cond (leb (first_letter upper) b && leb b (first_letter upper + 5)) (Some (b - first_letter upper + 10)) None ≡ Some n → IsDigit upper b n
+letter_some : (upper : Bool) (b n : ℕ)
+    → cond (leb (first_letter upper) b && leb b (first_letter upper + 5)) (Some (b - first_letter upper + 10))
+    None
+    ≡ Some n
+    → IsDigit upper b n
 letter_some upper b n e =
     let p = passed_test (leb (first_letter upper) b && leb b (first_letter upper + 5)) (Some (b - first_letter upper + 10)) n e in
     let range = and_parts (leb (first_letter upper) b) (leb b (first_letter upper + 5)) p.0 in
@@ -74,7 +80,8 @@ hex_digit-some upper b n e = elim (chosen (is_digit b) (Some (b - zero_digit)) (
 -- ---- escapes
 
 -- the digits of a byte that can't stand for itself represent it
-pub escaped_byte-digits : (b : ℕ) → b < 256 → is_plain b ≡ false → escaped_byte (digit_glyph true (b / 16)) (digit_glyph true (b % 16)) ≡ Some b
+pub escaped_byte-digits : (b : ℕ) → b < 256 → is_plain b ≡ false
+    → escaped_byte (digit_glyph true (b / 16)) (digit_glyph true (b % 16)) ≡ Some b
 escaped_byte-digits b small plain =
     let whole : 16 * (b / 16) + b % 16 ≡ b = omega arith in
     rw (hex_digit-glyph true (b / 16) (omega arith), hex_digit-glyph true (b % 16) (omega arith), whole, plain) refl
@@ -109,11 +116,13 @@ escaped_byte-some high low b e =
 
 -- ---- values
 
-led_by_some : (b : ℕ) (o : Option (List ℕ)) (v : List ℕ) → with_first_byte b o ≡ Some v → (u : List ℕ) × (o ≡ Some u) × (b ∷ u ≡ v)
+led_by_some : (b : ℕ) (o : Option (List ℕ)) (v : List ℕ) → with_first_byte b o ≡ Some v
+    → (u : List ℕ) × (o ≡ Some u) × (b ∷ u ≡ v)
 led_by_some b (Some u) v e = (u, refl, some_is (b ∷ u) v e)
 led_by_some b None v e = absurd cc
 
-byte_word : (b : ℕ) (v : List ℕ) (plain : Bool) → is_plain b ≡ plain → b < 256 → value_of (value_word v) ≡ Some v → value_of (value_word (b ∷ v)) ≡ Some (b ∷ v)
+byte_word : (b : ℕ) (v : List ℕ) (plain : Bool) → is_plain b ≡ plain → b < 256
+    → value_of (value_word v) ≡ Some v → value_of (value_word (b ∷ v)) ≡ Some (b ∷ v)
 byte_word b v true plain small read = rw plain (value_of-plain b (value_word v) plain ∙ ap (with_first_byte b) read)
 byte_word b v false plain small read = rw (plain, escaped_byte-digits b small plain, read) refl
 
@@ -136,7 +145,9 @@ plain_is_byte b plain =
     let high = leb-true b 126 (and_parts (leb 33 b) (leb b 126) visible).1 in
     lt-ltb b 256 (omega arith)
 
-plain_first : (b : ℕ) (after v : List ℕ) → is_plain b ≡ true → ((u : List ℕ) → value_of after ≡ Some u → SpellsValue after u) → value_of (b ∷ after) ≡ Some v → SpellsValue (b ∷ after) v
+plain_first : (b : ℕ) (after v : List ℕ) → is_plain b ≡ true
+    → ((u : List ℕ) → value_of after ≡ Some u → SpellsValue after u) → value_of (b ∷ after) ≡ Some v
+    → SpellsValue (b ∷ after) v
 plain_first b after v plain rest e =
     let parts = led_by_some b (value_of after) v (sym (value_of-plain b after plain) ∙ e) in
     let u = parts.0 in
@@ -144,13 +155,16 @@ plain_first b after v plain rest e =
     let written : value_word (b ∷ u) ≡ b ∷ value_word u = rw plain refl in
     subst (λ (w : List ℕ). SpellsValue (b ∷ after) w) parts.2 (ap (λ (w : List ℕ). b ∷ w) spelled.0 ∙ sym written, and_from (is_byte b) (list_all is_byte u) (plain_is_byte b plain) spelled.1)
 
-escape_made : (b c d x : ℕ) (after u : List ℕ) → b ≡ percent → IsEscape c d x → SpellsValue after u → SpellsValue (b ∷ c ∷ d ∷ after) (x ∷ u)
+escape_made : (b c d x : ℕ) (after u : List ℕ) → b ≡ percent → IsEscape c d x → SpellsValue after u
+    → SpellsValue (b ∷ c ∷ d ∷ after) (x ∷ u)
 escape_made b c d x after u mark escape spelled =
     let written : value_word (x ∷ u) ≡ percent ∷ hex_pair true x ++ value_word u = rw (escape.plain) refl in
     let read : b ∷ c ∷ d ∷ after ≡ percent ∷ hex_pair true x ++ value_word u = cc (mark, escape.first, escape.second, spelled.0) in
     (read ∙ sym written, and_from (is_byte x) (list_all is_byte u) (lt-ltb x 256 escape.byte) spelled.1)
 
-escape_first : (b c d : ℕ) (after v : List ℕ) → is_plain b ≡ false → ((u : List ℕ) → value_of after ≡ Some u → SpellsValue after u) → value_of (b ∷ c ∷ d ∷ after) ≡ Some v → SpellsValue (b ∷ c ∷ d ∷ after) v
+escape_first : (b c d : ℕ) (after v : List ℕ) → is_plain b ≡ false
+    → ((u : List ℕ) → value_of after ≡ Some u → SpellsValue after u) → value_of (b ∷ c ∷ d ∷ after) ≡ Some v
+    → SpellsValue (b ∷ c ∷ d ∷ after) v
 escape_first b c d after v plain rest e =
     let mark = passed_test (eqb b percent) (option_and_then (λ (x : ℕ). with_first_byte x (value_of after)) (escaped_byte c d)) v (rw plain at e) in
     let x = and_then_some (λ (x : ℕ). with_first_byte x (value_of after)) (escaped_byte c d) v mark.1 in

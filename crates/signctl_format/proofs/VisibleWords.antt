@@ -8,21 +8,24 @@ use Rattle.std.proofs.lemmas.Fmt.{decimal_by_steps}
 use Rattle.signctl_format.specs.Bytes.{zero_digit, nine_digit, is_visible, is_digit}
 
 -- bytes that all pass a test are none of those that it rules out
-pub none_of : (p q : ℕ → Bool) → ((b : ℕ) → p b ≡ true → q b ≡ false) → (bytes : List ℕ) → list_all p bytes ≡ true → list_any q bytes ≡ false
+pub none_of : (p q : ℕ → Bool) → ((b : ℕ) → p b ≡ true → q b ≡ false) → (bytes : List ℕ)
+    → list_all p bytes ≡ true → list_any q bytes ≡ false
 none_of p q out [] all = refl
 none_of p q out (b ∷ bytes) all =
     let parts = and_parts (p b) (list_all p bytes) all in
     or_from (q b) (list_any q bytes) (out b parts.0) (none_of p q out bytes parts.1)
 
 -- bytes that all pass a test all pass a wider one
-pub all_wider : (p q : ℕ → Bool) → ((b : ℕ) → p b ≡ true → q b ≡ true) → (bytes : List ℕ) → list_all p bytes ≡ true → list_all q bytes ≡ true
+pub all_wider : (p q : ℕ → Bool) → ((b : ℕ) → p b ≡ true → q b ≡ true) → (bytes : List ℕ)
+    → list_all p bytes ≡ true → list_all q bytes ≡ true
 all_wider p q wider [] all = refl
 all_wider p q wider (b ∷ bytes) all =
     let parts = and_parts (p b) (list_all p bytes) all in
     and_from (q b) (list_all q bytes) (wider b parts.0) (all_wider p q wider bytes parts.1)
 
 -- two runs of bytes that pass pass together
-pub all_both : (p : ℕ → Bool) (front back : List ℕ) → list_all p front ≡ true → list_all p back ≡ true → list_all p (front ++ back) ≡ true
+pub all_both : (p : ℕ → Bool) (front back : List ℕ) → list_all p front ≡ true → list_all p back ≡ true
+    → list_all p (front ++ back) ≡ true
 all_both p front back first second = list_all-append p front back ∙ and_from (list_all p front) (list_all p back) first second
 
 -- ---- digits

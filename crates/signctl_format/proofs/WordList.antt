@@ -10,14 +10,17 @@ use Rattle.signctl_format.specs.Readers.{words_after}
 abbrev SplitsAt : List ℕ → ℕ → Type 0
 SplitsAt text n = words text ≡ take n text ∷ words_after (drop n text)
 
-one_more : (b : ℕ) (text : List ℕ) (s : Bool) → is_space b ≡ s → SplitsAt text (position_or_len is_space text) → SplitsAt (b ∷ text) (position_or_len is_space (b ∷ text))
+one_more : (b : ℕ) (text : List ℕ) (s : Bool) → is_space b ≡ s → SplitsAt text (position_or_len is_space text)
+    → SplitsAt (b ∷ text) (position_or_len is_space (b ∷ text))
 one_more b text true parts ih = rw parts refl
 one_more b text false parts ih =
     let k : 1 + position_or_len is_space text ≡ suc (position_or_len is_space text) = omega arith in
     rw (parts, k, ih) refl
 
 -- the first word of a text ends at its first space
-pub words_split : (text : List ℕ) → words text ≡ take (position_or_len is_space text) text ∷ words_after (drop (position_or_len is_space text) text)
+pub words_split : (text : List ℕ)
+    → words text
+    ≡ take (position_or_len is_space text) text ∷ words_after (drop (position_or_len is_space text) text)
 words_split [] = refl
 words_split (b ∷ text) = one_more b text (is_space b) refl (words_split text)
 
@@ -25,7 +28,8 @@ words_split (b ∷ text) = one_more b text (is_space b) refl (words_split text)
 pub place_within : (p : ℕ → Bool) (xs : List ℕ) → position_or_len p xs ≤ length xs
 place_within p xs = prefix_len-le-length (λ x. not (p x)) xs
 
-fails_everywhere : (p : ℕ → Bool) (xs : List ℕ) (b : Bool) → ltb (position_or_len p xs) (length xs) ≡ b → cond b (Some (position_or_len p xs)) None ≡ None → length xs ≡ position_or_len p xs
+fails_everywhere : (p : ℕ → Bool) (xs : List ℕ) (b : Bool) → ltb (position_or_len p xs) (length xs) ≡ b
+    → cond b (Some (position_or_len p xs)) None ≡ None → length xs ≡ position_or_len p xs
 fails_everywhere p xs true test e = absurd cc
 fails_everywhere p xs false test e =
     let beyond = ltb-false (position_or_len p xs) (length xs) test in
@@ -36,13 +40,16 @@ pub no_place : (p : ℕ → Bool) (xs : List ℕ) → position p xs ≡ None →
 no_place p xs e = fails_everywhere p xs (ltb (position_or_len p xs) (length xs)) refl e
 
 -- words after a first one, each after a space, are a space and their line
-spaced_line : (ws : List (List ℕ)) (word : List ℕ) (rest : List (List ℕ)) → ws ≡ word ∷ rest → spaced_words ws ≡ space ∷ line_of ws
+spaced_line : (ws : List (List ℕ)) (word : List ℕ) (rest : List (List ℕ)) → ws ≡ word ∷ rest
+    → spaced_words ws ≡ space ∷ line_of ws
 spaced_line ws word rest e = rw e refl
 
-first_longer : (b : ℕ) (ws : List (List ℕ)) (word : List ℕ) (rest : List (List ℕ)) → ws ≡ word ∷ rest → line_of (onto_first b ws) ≡ b ∷ line_of ws
+first_longer : (b : ℕ) (ws : List (List ℕ)) (word : List ℕ) (rest : List (List ℕ)) → ws ≡ word ∷ rest
+    → line_of (onto_first b ws) ≡ b ∷ line_of ws
 first_longer b ws word rest e = rw e refl
 
-more_line : (b : ℕ) (text : List ℕ) (s : Bool) → is_space b ≡ s → line_of (words text) ≡ text → line_of (words (b ∷ text)) ≡ b ∷ text
+more_line : (b : ℕ) (text : List ℕ) (s : Bool) → is_space b ≡ s → line_of (words text) ≡ text
+    → line_of (words (b ∷ text)) ≡ b ∷ text
 more_line b text true parts ih =
     let split = spaced_line (words text) _ _ (words_split text) in
     let here : b ≡ space = eqb-true b space parts in

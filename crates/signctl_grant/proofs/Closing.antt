@@ -25,7 +25,8 @@ unfolding final_lines_of
 finals-none items = refl
 
 -- one final line more
-pub finals-more : (items : List GrantItem) (n : ℕ) → final_lines_of items (suc n) ≡ final_lines_of items n ++ final_line_of items n
+pub finals-more : (items : List GrantItem) (n : ℕ)
+    → final_lines_of items (suc n) ≡ final_lines_of items n ++ final_line_of items n
 unfolding final_lines_of
 finals-more items n = refl
 
@@ -35,8 +36,10 @@ there (x ∷ rest) zero h = (x, refl)
 there (x ∷ rest) (suc i) h = there rest i (omega arith)
 
 -- what the desk caches is the source
-pub cached-is : (session : GrantSessionState) (items : List GrantItem) → GrantSessionRepresents session items → (i : ℕ) → i < length session.desk.loaders
-    → option_and_then (λ (held : Option ScriptCredential). held) (slice_get session.desk.caches i) ≡ grant_source (setup_in items) (transcript_of items) i
+pub cached-is : (session : GrantSessionState) (items : List GrantItem) → GrantSessionRepresents session items
+    → (i : ℕ) → i < length session.desk.loaders
+    → option_and_then (λ (held : Option ScriptCredential). held) (slice_get session.desk.caches i)
+    ≡ grant_source (setup_in items) (transcript_of items) i
 cached-is session items stands i h =
     let loader = there session.desk.loaders i h in
     let stepped : List (GrantEntry ScriptCredential) = expected_grant_entries script_policy (setup_in items) stands.stepped in

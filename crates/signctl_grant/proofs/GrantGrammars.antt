@@ -28,7 +28,8 @@ use Rattle.signctl_grant.proofs.GrantForms.{begin_form-words, begin_form-some, m
 -- ---- what reads as an item spells it
 
 -- a line spells what its item of a script is to a granter
-shared_spells : (line : List ℕ) (said : ScriptItem) (item : GrantItem) → Spells One line said → as_grant said ≡ Some item → SpellsGrant line item
+shared_spells : (line : List ℕ) (said : ScriptItem) (item : GrantItem) → Spells One line said
+    → as_grant said ≡ Some item → SpellsGrant line item
 shared_spells line Silent item spelled e = subst (SpellsGrant line) {x = Silent} (some_is Silent item e) (Silent, spelled, refl)
 shared_spells line (Cache loader) item spelled e = subst (SpellsGrant line) {x = Cache loader} (some_is (Cache loader) item e) (Cache loader, spelled, refl)
 shared_spells line (Handle cache rule) item spelled e = subst (SpellsGrant line) {x = Handle cache rule} (some_is (Handle cache rule) item e) (Handle cache rule, spelled, refl)
@@ -44,10 +45,12 @@ shared_form-some line item e =
     shared_spells line said.0 item (script_grammar.item_of-some One line said.0 said.1) said.2
 
 -- a line that begins with this word has it for its name
-named : (line name other : List ℕ) (ws : List (List ℕ)) → Has line name ws → bytes_eq name other ≡ true → Has line other ws
+named : (line name other : List ℕ) (ws : List (List ℕ)) → Has line name ws → bytes_eq name other ≡ true
+    → Has line other ws
 named line name other ws has e = has ∙ ap (λ (w : List ℕ). w ∷ ws) (same_word name other e)
 
-grant_form-some : (line name : List ℕ) (ws : List (List ℕ)) (item : GrantItem) → Has line name ws → grant_form line name ws ≡ Some item → SpellsGrant line item
+grant_form-some : (line name : List ℕ) (ws : List (List ℕ)) (item : GrantItem) → Has line name ws
+    → grant_form line name ws ≡ Some item → SpellsGrant line item
 unfolding grant_form
 grant_form-some line name ws item has e = elim (chosen (bytes_eq name (codes "begin")) (begin_form ws) _ (Some item) e) [
   | inl a ↦ begin_form-some line ws item (named line name (codes "begin") ws has a.0) a.1
@@ -60,7 +63,8 @@ grant_form-some line name ws item has e = elim (chosen (bytes_eq name (codes "be
   ]
 ]
 
-words_say-some : (line : List ℕ) (ws : List (List ℕ)) (item : GrantItem) → words line ≡ ws → grant_words_say line ws ≡ Some item → SpellsGrant line item
+words_say-some : (line : List ℕ) (ws : List (List ℕ)) (item : GrantItem) → words line ≡ ws
+    → grant_words_say line ws ≡ Some item → SpellsGrant line item
 unfolding grant_words_say
 words_say-some line [] item parted e = absurd cc
 words_say-some line (name ∷ ws) item parted e = grant_form-some line name ws item parted e
@@ -72,28 +76,33 @@ item_of-some line item e = words_say-some line (words line) item refl e
 
 -- ---- what spells an item reads as it
 
-named_line : (line name : List ℕ) (ws : List (List ℕ)) (item : GrantItem) → Has line name ws → grant_form line name ws ≡ Some item → grant_item_of line ≡ Some item
+named_line : (line name : List ℕ) (ws : List (List ℕ)) (item : GrantItem) → Has line name ws
+    → grant_form line name ws ≡ Some item → grant_item_of line ≡ Some item
 unfolding grant_item_of grant_words_say
 named_line line name ws item has e = rw has e
 
 -- a line that a script spells as this item says so
-says : (line : List ℕ) (said : ScriptItem) (item : GrantItem) → Spells One line said → as_grant said ≡ Some item → shared_form line ≡ Some item
+says : (line : List ℕ) (said : ScriptItem) (item : GrantItem) → Spells One line said
+    → as_grant said ≡ Some item → shared_form line ≡ Some item
 says line said item spelled e = rw (script_grammar.item_of-spelled One line said spelled) e
 
 -- the first word of a silent line is no name
-no_name : (line name other : List ℕ) (ws : List (List ℕ)) → Has line name ws → is_silent line ≡ true → is_silent other ≡ false → bytes_eq name other ≡ false
+no_name : (line name other : List ℕ) (ws : List (List ℕ)) → Has line name ws → is_silent line ≡ true
+    → is_silent other ≡ false → bytes_eq name other ≡ false
 no_name line name other ws has silent loud = elim (cases_Bool (bytes_eq name other)) [
   | inl same ↦ absurd (false≢true (sym (script_grammar.named_silent line other ws (is_silent line) (named line name other ws has same) loud refl) ∙ silent))
   | inr differs ↦ differs
 ]
 
-silent_line : (line : List ℕ) (item : GrantItem) → is_silent line ≡ true → shared_form line ≡ Some item → grant_item_of line ≡ Some item
+silent_line : (line : List ℕ) (item : GrantItem) → is_silent line ≡ true → shared_form line ≡ Some item
+    → grant_item_of line ≡ Some item
 unfolding grant_form
 silent_line line item silent e =
     let parted = words_split line in
     named_line line _ _ item parted (rw (no_name line _ (codes "begin") _ parted silent refl, no_name line _ (codes "made") _ parted silent refl, no_name line _ (codes "fail") _ parted silent refl) e)
 
-shared_line : (line : List ℕ) (said : ScriptItem) (item : GrantItem) → Spells One line said → as_grant said ≡ Some item → grant_item_of line ≡ Some item
+shared_line : (line : List ℕ) (said : ScriptItem) (item : GrantItem) → Spells One line said
+    → as_grant said ≡ Some item → grant_item_of line ≡ Some item
 unfolding grant_form
 shared_line line Silent item spelled e = silent_line line item spelled (says line Silent item spelled e)
 shared_line line (Cache Single) item spelled e = named_line line (codes "cache") _ item spelled.1 (says line (Cache Single) item spelled e)
@@ -108,7 +117,8 @@ shared_line line (Event (signs.Signed call verdict)) item spelled e = absurd cc
 shared_line line (Event (signs.Cancel call)) item spelled e = named_line line (codes "cancel") _ item spelled.1 (says line (Event (signs.Cancel call)) item spelled e)
 
 -- a line that spells an item reads as it
-pub item_of-spelled : (line : List ℕ) (item : GrantItem) → SpellsGrant line item → grant_item_of line ≡ Some item
+pub item_of-spelled : (line : List ℕ) (item : GrantItem) → SpellsGrant line item
+    → grant_item_of line ≡ Some item
 unfolding grant_form
 item_of-spelled line Silent spelled = shared_line line spelled.0 Silent spelled.1 spelled.2
 item_of-spelled line (Cache loader) spelled = shared_line line spelled.0 (Cache loader) spelled.1 spelled.2
@@ -124,7 +134,8 @@ item_of-spelled line (Event (Cancel call)) spelled = shared_line line spelled.0 
 
 -- ---- a line of a script that is none of a granter's
 
-no_bind : {A B C : Type 0} (o : Option A) (f : A → Option B) (g : B → Option C) → ((x : A) → (f x >>= g) ≡ None) → ((o >>= f) >>= g) ≡ None
+no_bind : {A B C : Type 0} (o : Option A) (f : A → Option B) (g : B → Option C)
+    → ((x : A) → (f x >>= g) ≡ None) → ((o >>= f) >>= g) ≡ None
 no_bind None f g none = refl
 no_bind (Some x) f g none = none x
 
@@ -133,7 +144,8 @@ unfolding accept_form
 no_candidate ws = no_bind (call_at ws) _ as_grant (λ call. no_bind (head_in call.1) _ as_grant (λ head. refl))
 
 -- a line of `accept` spells nothing
-pub no_accept : (line name : List ℕ) (ws : List (List ℕ)) → Has line name ws → bytes_eq name (codes "accept") ≡ true → grant_item_of line ≡ None
+pub no_accept : (line name : List ℕ) (ws : List (List ℕ)) → Has line name ws
+    → bytes_eq name (codes "accept") ≡ true → grant_item_of line ≡ None
 unfolding grant_item_of grant_words_say grant_form item_of words_say item_form
 no_accept line name ws has e =
     let accept = named line name (codes "accept") ws has e in
@@ -171,14 +183,16 @@ only_script (Event (signs.Cancel call)) item e = ap as_script (some_is (Event (C
 
 -- lines that a script spells as the same item are the same
 shared_once : (item : GrantItem) (a b : List ℕ) → as_script item ≢ Silent
-    → ((said : ScriptItem) × Spells One a said × (as_grant said ≡ Some item)) → ((said : ScriptItem) × Spells One b said × (as_grant said ≡ Some item)) → a ≡ b
+    → ((said : ScriptItem) × Spells One a said × (as_grant said ≡ Some item))
+    → ((said : ScriptItem) × Spells One b said × (as_grant said ≡ Some item)) → a ≡ b
 shared_once item a b loud first second =
     script_grammar.one_spelling One (as_script item) a b loud
     (subst (Spells One a) (only_script first.0 item first.2) first.1)
     (subst (Spells One b) (only_script second.0 item second.2) second.1)
 
 -- an item has at most one spelling, but for those that say nothing
-pub one_spelling : (item : GrantItem) (a b : List ℕ) → item ≢ Silent → SpellsGrant a item → SpellsGrant b item → a ≡ b
+pub one_spelling : (item : GrantItem) (a b : List ℕ) → item ≢ Silent → SpellsGrant a item → SpellsGrant b item
+    → a ≡ b
 one_spelling Silent a b loud first second = absurd (loud refl)
 one_spelling (Cache loader) a b loud first second = shared_once (Cache loader) a b (λ e. absurd cc) first second
 one_spelling (Handle cache rule) a b loud first second = shared_once (Handle cache rule) a b (λ e. absurd cc) first second

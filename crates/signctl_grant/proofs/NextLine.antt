@@ -33,7 +33,8 @@ use Rattle.signctl_format.proofs.SetupIn.{setup_in-silent, setup_in-cache, setup
 use Rattle.signctl_grant.proofs.PlainGrants.{plain-reply}
 
 -- a session that is seen so represents what it is seen as
-pub as_seen : (inside session : GrantSessionState) (items : List GrantItem) → inside ≡ session → GrantSessionRepresents session items → GrantSessionRepresents inside items
+pub as_seen : (inside session : GrantSessionState) (items : List GrantItem) → inside ≡ session
+    → GrantSessionRepresents session items → GrantSessionRepresents inside items
 as_seen inside session items seen stands = let P : GrantSessionState → Type 0 = λ s. GrantSessionRepresents s items in subst P (sym seen) stands
 
 -- a session with this desk and this note
@@ -41,7 +42,8 @@ abbrev with_desk : GrantState ScriptCredential ScriptRule → Bool → GrantSess
 with_desk desk had_event session = record session { desk = desk; had_event = had_event }
 
 -- nothing came before the first event
-stepped-none : (stepped events : List (GrantEvent ScriptCredential)) → map plain_grant_event stepped ≡ events → is_empty events ≡ true → stepped ≡ []
+stepped-none : (stepped events : List (GrantEvent ScriptCredential)) → map plain_grant_event stepped ≡ events
+    → is_empty events ≡ true → stepped ≡ []
 stepped-none [] events e h = refl
 stepped-none (x ∷ rest) [] e h = absurd (cc)
 stepped-none (x ∷ rest) (y ∷ more) e h = absurd (cc)
@@ -52,7 +54,8 @@ module _ (session : GrantSessionState) (items : List GrantItem) (stands : GrantS
   no_steps h = stepped-none stands.stepped (events_in items) stands.events h
 
   -- so it represents the empty transcript
-  no_transcript : is_empty (events_in items) ≡ true → expected_grant_entries script_policy (setup_in items) stands.stepped ≡ []
+  no_transcript : is_empty (events_in items) ≡ true
+      → expected_grant_entries script_policy (setup_in items) stands.stepped ≡ []
   unfolding expected_grant_entries
   no_transcript h = ap (λ (v : List (GrantEvent ScriptCredential)). expected_grant_entries script_policy (setup_in items) v) (no_steps h)
 
@@ -76,8 +79,10 @@ module _ (session : GrantSessionState) (items : List GrantItem) (stands : GrantS
   }
 
   -- a desk that is set up further, before the first event
-  next-setup : (new : GrantState ScriptCredential ScriptRule) (x : GrantItem) → is_empty (events_in items) ≡ true → events_in (items ++ x ∷ []) ≡ events_in items
-      → setup_of new ≡ setup_in (items ++ x ∷ []) → GrantRepresents script_policy new [] → GrantSessionRepresents (with_desk new session.had_event session) (items ++ x ∷ [])
+  next-setup : (new : GrantState ScriptCredential ScriptRule) (x : GrantItem)
+      → is_empty (events_in items) ≡ true → events_in (items ++ x ∷ []) ≡ events_in items
+      → setup_of new ≡ setup_in (items ++ x ∷ []) → GrantRepresents script_policy new []
+      → GrantSessionRepresents (with_desk new session.had_event session) (items ++ x ∷ [])
   unfolding expected_grant_entries
   next-setup new x none same setup fresh = record {
     setup = setup;
@@ -88,8 +93,10 @@ module _ (session : GrantSessionState) (items : List GrantItem) (stands : GrantS
   }
 
   -- one cache more
-  pub next-cache : (new : GrantState ScriptCredential ScriptRule) (loader : Loader) → item_error items (item.Cache loader) ≡ None → new ≡ with_source loader session.desk
-      → GrantRepresents script_policy new [] → GrantSessionRepresents (with_desk new session.had_event session) (items ++ item.Cache loader ∷ [])
+  pub next-cache : (new : GrantState ScriptCredential ScriptRule) (loader : Loader)
+      → item_error items (item.Cache loader) ≡ None → new ≡ with_source loader session.desk
+      → GrantRepresents script_policy new []
+      → GrantSessionRepresents (with_desk new session.had_event session) (items ++ item.Cache loader ∷ [])
   next-cache new loader good added fresh =
       next-setup new (item.Cache loader) (cache-no_event items loader good)
       (events_in-more items (item.Cache loader) ∙ append-nil (events_in items))
@@ -99,8 +106,11 @@ module _ (session : GrantSessionState) (items : List GrantItem) (stands : GrantS
       fresh
 
   -- one handle more
-  pub next-handle : (new : GrantState ScriptCredential ScriptRule) (cache : ℕ) (rule : ScriptRule) → item_error items (item.Handle cache rule) ≡ None → new ≡ with_handle cache (place_of_rule rule) session.desk
-      → GrantRepresents script_policy new [] → GrantSessionRepresents (with_desk new session.had_event session) (items ++ item.Handle cache rule ∷ [])
+  pub next-handle : (new : GrantState ScriptCredential ScriptRule) (cache : ℕ) (rule : ScriptRule)
+      → item_error items (item.Handle cache rule) ≡ None
+      → new ≡ with_handle cache (place_of_rule rule) session.desk → GrantRepresents script_policy new []
+      → GrantSessionRepresents (with_desk new session.had_event session)
+      (items ++ item.Handle cache rule ∷ [])
   next-handle new cache rule good added fresh =
       next-setup new (item.Handle cache rule) (handle-no_event items cache rule good)
       (events_in-more items (item.Handle cache rule) ∙ append-nil (events_in items))
@@ -109,11 +119,17 @@ module _ (session : GrantSessionState) (items : List GrantItem) (stands : GrantS
       ∙ sym (setup_in-handle items cache rule))
       fresh
 
-  -- all entries are committed, so the legal reply other than out of memory is the expected one, also to the event as the
+  -- all entries are committed, so the legal reply other than out of memory is the expected one, also to the
+  -- event as the
   -- line has it
   pub reply-expected : (event : GrantEvent ScriptCredential) (reply : GrantReply ScriptCredential)
-      → IsLegalGrantEntry script_policy (setup_of session.desk) (committed_grants (expected_grant_entries script_policy (setup_in items) stands.stepped)) (record { event = event; reply = reply })
-      → (reply ≡ OutOfMemory → ⊥) → reply ≡ expected_grant_reply script_policy (setup_in items) (expected_grant_entries script_policy (setup_in items) stands.stepped) event
+      → IsLegalGrantEntry script_policy (setup_of session.desk)
+      (committed_grants (expected_grant_entries script_policy (setup_in items) stands.stepped))
+      (record { event = event; reply = reply })
+      → (reply ≡ OutOfMemory → ⊥)
+      → reply
+      ≡ expected_grant_reply script_policy (setup_in items)
+      (expected_grant_entries script_policy (setup_in items) stands.stepped) event
   reply-expected event reply (inl expected) in_memory =
       expected
       ∙ ap (λ (s : Setup ScriptRule). expected_grant_reply script_policy s (committed_grants (expected_grant_entries script_policy (setup_in items) stands.stepped)) event) stands.setup
@@ -121,17 +137,25 @@ module _ (session : GrantSessionState) (items : List GrantItem) (stands : GrantS
   reply-expected event reply (inr lost) in_memory = absurd (in_memory lost.0)
 
   -- the expected reply to an event as the line has it
-  pub reply-plain : (event : GrantEvent ScriptCredential) → expected_grant_reply script_policy (setup_in items) (expected_grant_entries script_policy (setup_in items) stands.stepped) event
+  pub reply-plain : (event : GrantEvent ScriptCredential)
+      → expected_grant_reply script_policy (setup_in items)
+      (expected_grant_entries script_policy (setup_in items) stands.stepped) event
       ≡ expected_grant_reply script_policy (setup_in items) (transcript_of items) (plain_grant_event event)
   reply-plain event =
       sym (plain-reply (setup_in items) stands.stepped event)
       ∙ ap (λ (v : List (GrantEvent ScriptCredential)). expected_grant_reply script_policy (setup_in items) (expected_grant_entries script_policy (setup_in items) v) (plain_grant_event event)) stands.events
 
   -- one event more
-  pub next-event : (new : GrantState ScriptCredential ScriptRule) (event : GrantEvent ScriptCredential) (reply : GrantReply ScriptCredential) → setup_of new ≡ setup_of session.desk
-      → GrantRepresents script_policy new (expected_grant_entries script_policy (setup_in items) stands.stepped ++ record { event = event; reply = reply } ∷ [])
-      → reply ≡ expected_grant_reply script_policy (setup_in items) (expected_grant_entries script_policy (setup_in items) stands.stepped) event
-      → GrantSessionRepresents (with_desk new true session) (items ++ item.Event (plain_grant_event event) ∷ [])
+  pub next-event : (new : GrantState ScriptCredential ScriptRule) (event : GrantEvent ScriptCredential)
+      (reply : GrantReply ScriptCredential) → setup_of new ≡ setup_of session.desk
+      → GrantRepresents script_policy new
+      (expected_grant_entries script_policy (setup_in items) stands.stepped
+      ++ record { event = event; reply = reply } ∷ [])
+      → reply
+      ≡ expected_grant_reply script_policy (setup_in items)
+      (expected_grant_entries script_policy (setup_in items) stands.stepped) event
+      → GrantSessionRepresents (with_desk new true session)
+      (items ++ item.Event (plain_grant_event event) ∷ [])
   next-event new event reply setup represents expected = record {
     setup = setup ∙ stands.setup ∙ sym (setup_in-event items (plain_grant_event event));
     stepped = stands.stepped ++ event ∷ [];
@@ -161,45 +185,68 @@ module _ (session : GrantSessionState) (items : List GrantItem) (stands : GrantS
   handles-fit few = omega (arith, few, handles-few items, ap (λ (v : List Handle). length v) handles-same)
 
   -- the one refusal of a new cache is out of memory, and its number counts those before it
-  cache-answer : (loader : Loader) → item_error items (item.Cache loader) ≡ None → (answer : Result ℕ AddError)
-      → AddAnswer (late_refusal session.desk) (length session.desk.loaders) answer → AddAnswer None (length session.desk.loaders) answer
+  cache-answer : (loader : Loader) → item_error items (item.Cache loader) ≡ None
+      → (answer : Result ℕ AddError)
+      → AddAnswer (late_refusal session.desk) (length session.desk.loaders) answer
+      → AddAnswer None (length session.desk.loaders) answer
   cache-answer loader good answer h = cache-allowed session.desk _ answer (not_started (cache-no_event items loader good)) h
 
-  pub cache-out_of_memory : (loader : Loader) (e : AddError) → item_error items (item.Cache loader) ≡ None → AddAnswer (late_refusal session.desk) (length session.desk.loaders) (Err e) → e ≡ AddError.OutOfMemory
+  pub cache-out_of_memory : (loader : Loader) (e : AddError) → item_error items (item.Cache loader) ≡ None
+      → AddAnswer (late_refusal session.desk) (length session.desk.loaders) (Err e) → e ≡ AddError.OutOfMemory
   cache-out_of_memory loader e good h = cache-answer loader good (Err e) h
 
-  pub cache-number : (loader : Loader) (n : ℕ) → item_error items (item.Cache loader) ≡ None → AddAnswer (late_refusal session.desk) (length session.desk.loaders) (Ok n) → n ≡ length (setup_in items).loaders
+  pub cache-number : (loader : Loader) (n : ℕ) → item_error items (item.Cache loader) ≡ None
+      → AddAnswer (late_refusal session.desk) (length session.desk.loaders) (Ok n)
+      → n ≡ length (setup_in items).loaders
   cache-number loader n good h = cache-answer loader good (Ok n) h ∙ ap (λ (v : List Loader). length v) loaders-same
 
   -- so it is with a new handle, whose cache and whose rule are there
-  handle-answer : (cache : ℕ) (rule : ScriptRule) → item_error items (item.Handle cache rule) ≡ None → (answer : Result ℕ AddError)
-      → AddAnswer (handle_refusal session.desk cache (place_of_rule rule)) (length session.desk.handles) answer → AddAnswer None (length session.desk.handles) answer
+  handle-answer : (cache : ℕ) (rule : ScriptRule) → item_error items (item.Handle cache rule) ≡ None
+      → (answer : Result ℕ AddError)
+      → AddAnswer (handle_refusal session.desk cache (place_of_rule rule)) (length session.desk.handles)
+      answer
+      → AddAnswer None (length session.desk.handles) answer
   handle-answer cache rule good answer h =
       handle-allowed session.desk _ answer cache (place_of_rule rule) (not_started (handle-no_event items cache rule good))
       (ap (λ (v : List Loader). nat_lt cache (length v)) loaders-same ∙ handle-cache items cache rule good)
       (ap (λ (s : Setup ScriptRule). nat_lt (place_of_rule rule) (length s.rules)) stands.setup ∙ rule-placed items rule)
       h
 
-  pub handle-out_of_memory : (cache : ℕ) (rule : ScriptRule) (e : AddError) → item_error items (item.Handle cache rule) ≡ None → AddAnswer (handle_refusal session.desk cache (place_of_rule rule)) (length session.desk.handles) (Err e) → e ≡ AddError.OutOfMemory
+  pub handle-out_of_memory : (cache : ℕ) (rule : ScriptRule) (e : AddError)
+      → item_error items (item.Handle cache rule) ≡ None
+      → AddAnswer (handle_refusal session.desk cache (place_of_rule rule)) (length session.desk.handles)
+      (Err e)
+      → e ≡ AddError.OutOfMemory
   handle-out_of_memory cache rule e good h = handle-answer cache rule good (Err e) h
 
-  pub handle-number : (cache : ℕ) (rule : ScriptRule) (n : ℕ) → item_error items (item.Handle cache rule) ≡ None → AddAnswer (handle_refusal session.desk cache (place_of_rule rule)) (length session.desk.handles) (Ok n) → n ≡ length (setup_in items).handles
+  pub handle-number : (cache : ℕ) (rule : ScriptRule) (n : ℕ)
+      → item_error items (item.Handle cache rule) ≡ None
+      → AddAnswer (handle_refusal session.desk cache (place_of_rule rule)) (length session.desk.handles)
+      (Ok n)
+      → n ≡ length (setup_in items).handles
   handle-number cache rule n good h = handle-answer cache rule good (Ok n) h ∙ ap (λ (v : List Handle). length v) handles-same
 
 -- a line that is added and ended
-pub line-with_newline : (old mid new line : List ℕ) → mid ≡ old ++ line → new ≡ mid ++ newline ∷ [] → new ≡ old ++ with_newline line
+pub line-with_newline : (old mid new line : List ℕ) → mid ≡ old ++ line → new ≡ mid ++ newline ∷ []
+    → new ≡ old ++ with_newline line
 line-with_newline old mid new line added end =
     end ∙ ap (λ (v : List ℕ). v ++ newline ∷ []) added ∙ append_assoc old line (newline ∷ [])
 
-first-line : (session : GrantSessionState) → setup_of session.desk ≡ record { loaders = []; rules = Now ∷ Cred ∷ []; handles = [] } → GrantRepresents script_policy session.desk [] → session.had_event ≡ false → GrantSessionRepresents session []
+first-line : (session : GrantSessionState)
+    → setup_of session.desk ≡ record { loaders = []; rules = Now ∷ Cred ∷ []; handles = [] }
+    → GrantRepresents script_policy session.desk [] → session.had_event ≡ false
+    → GrantSessionRepresents session []
 unfolding setup_in events_in expected_grant_entries
 first-line session setup fresh none = record { setup = setup; stepped = []; events = refl; represents = fresh; note = none }
 
 -- a reply that isn't out of memory
-pub not-out_of_memory : (reply : GrantReply ScriptCredential) → is_out_of_memory (as_reply reply) ≡ false → reply ≡ OutOfMemory → ⊥
+pub not-out_of_memory : (reply : GrantReply ScriptCredential) → is_out_of_memory (as_reply reply) ≡ false
+    → reply ≡ OutOfMemory → ⊥
 not-out_of_memory reply good lost = let e : is_out_of_memory (as_reply reply) ≡ true = ap (λ (r : GrantReply ScriptCredential). is_out_of_memory (as_reply r)) lost in absurd (cc)
 
 -- a session before the first line
-pub first-session : (desk : GrantState ScriptCredential ScriptRule) → setup_of desk ≡ record { loaders = []; rules = Now ∷ Cred ∷ []; handles = [] } → GrantRepresents script_policy desk []
+pub first-session : (desk : GrantState ScriptCredential ScriptRule)
+    → setup_of desk ≡ record { loaders = []; rules = Now ∷ Cred ∷ []; handles = [] }
+    → GrantRepresents script_policy desk []
     → GrantSessionRepresents (record { desk = desk; had_event = false }) []
 first-session desk setup fresh = first-line (record { desk = desk; had_event = false }) setup fresh refl

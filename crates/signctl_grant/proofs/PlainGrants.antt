@@ -31,11 +31,15 @@ plain_event-alike (Granted call now answer) = the_same (Granted call now answer)
 plain_event-alike (Cancel call) = the_same (Cancel call)
 
 -- the expected reply
-pub plain-reply : (setup : Setup ScriptRule) (events : List (GrantEvent ScriptCredential)) (event : GrantEvent ScriptCredential)
-    → expected_grant_reply script_policy setup (expected_grant_entries script_policy setup (map plain_grant_event events)) (plain_grant_event event) ≡ expected_grant_reply script_policy setup (expected_grant_entries script_policy setup events) event
+pub plain-reply : (setup : Setup ScriptRule) (events : List (GrantEvent ScriptCredential))
+    (event : GrantEvent ScriptCredential)
+    → expected_grant_reply script_policy setup
+    (expected_grant_entries script_policy setup (map plain_grant_event events)) (plain_grant_event event)
+    ≡ expected_grant_reply script_policy setup (expected_grant_entries script_policy setup events) event
 plain-reply setup events event = expected_grant_reply-map script_policy setup plain_grant_event plain_event-alike events event
 
 -- the sources
 pub plain-source : (setup : Setup ScriptRule) (events : List (GrantEvent ScriptCredential)) (i : ℕ)
-    → grant_source setup (expected_grant_entries script_policy setup (map plain_grant_event events)) i ≡ grant_source setup (expected_grant_entries script_policy setup events) i
+    → grant_source setup (expected_grant_entries script_policy setup (map plain_grant_event events)) i
+    ≡ grant_source setup (expected_grant_entries script_policy setup events) i
 plain-source setup events i = grant_source-map script_policy setup plain_grant_event plain_event-alike events i

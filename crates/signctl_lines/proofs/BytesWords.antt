@@ -37,7 +37,8 @@ some_from (Some n) e = (n, refl)
 some_from None e = absurd cc
 
 -- a lower-case digit stands in the table at the place that it reads as
-place_of : (c v : ℕ) → is_lower_hex c ≡ true → hex_digit_value c ≡ Some v → (v < 16) × (c ≡ slice_index lower_digits v)
+place_of : (c v : ℕ) → is_lower_hex c ≡ true → hex_digit_value c ≡ Some v
+    → (v < 16) × (c ≡ slice_index lower_digits v)
 place_of c v lower e =
     let n = some_from (hex_digit lower_a c) lower in
     let digit = hex_digit-some false c n.0 n.1 in
@@ -57,7 +58,8 @@ each_byte (b ∷ bytes) all (suc i) =
     each_byte bytes parts.1 i
 
 -- each byte's digits pass a test that all digits pass
-digits_pass : (p : ℕ → Bool) → ((d : ℕ) → d < 16 → p (slice_index lower_digits d) ≡ true) → (bytes : List ℕ) → list_all is_byte bytes ≡ true → list_all p (encode_lower bytes) ≡ true
+digits_pass : (p : ℕ → Bool) → ((d : ℕ) → d < 16 → p (slice_index lower_digits d) ≡ true) → (bytes : List ℕ)
+    → list_all is_byte bytes ≡ true → list_all p (encode_lower bytes) ≡ true
 unfolding encode_with
 digits_pass p each [] all = refl
 digits_pass p each (b ∷ bytes) all =
@@ -69,7 +71,8 @@ digit_read : (c i : ℕ) (o : Option ℕ) (v : ℕ) → digit_or_error c i o ≡
 digit_read c i (Some w) v e = cc
 digit_read c i None v e = absurd cc
 
-bind_ok : {A B : Type 0} (r : Result A FromHexError) (f : A → Result B FromHexError) (y : B) → (r >>= f) ≡ Ok y → (x : A) × (r ≡ Ok x) × (f x ≡ Ok y)
+bind_ok : {A B : Type 0} (r : Result A FromHexError) (f : A → Result B FromHexError) (y : B)
+    → (r >>= f) ≡ Ok y → (x : A) × (r ≡ Ok x) × (f x ≡ Ok y)
 bind_ok (Ok x) f y e = (x, refl, e)
 bind_ok (Err why) f y e = absurd cc
 
@@ -77,7 +80,8 @@ bind_ok (Err why) f y e = absurd cc
 abbrev IsPair : ℕ → ℕ → ℕ → Type 0
 IsPair high low b = (is_byte b ≡ true) × (high ≡ slice_index lower_digits (b / 16)) × (low ≡ slice_index lower_digits (b % 16))
 
-pair_read : (high low i b : ℕ) → is_lower_hex high ≡ true → is_lower_hex low ≡ true → pair_value high low i ≡ Ok b → IsPair high low b
+pair_read : (high low i b : ℕ) → is_lower_hex high ≡ true → is_lower_hex low ≡ true
+    → pair_value high low i ≡ Ok b → IsPair high low b
 pair_read high low i b first second e =
     let h = bind_ok (value_at high i) (λ (h : ℕ). value_at low (i + 1) >>= λ (l : ℕ). Ok (h * 16 + l)) b e in
     let l = bind_ok (value_at low (i + 1)) (λ (l : ℕ). Ok (h.0 * 16 + l)) b h.2 in
@@ -92,11 +96,13 @@ pair_read high low i b first second e =
 abbrev AreDigits : List ℕ → List ℕ → Type 0
 AreDigits digits bytes = (digits ≡ encode_lower bytes) × (list_all is_byte bytes ≡ true)
 
-pair_first : (high low b : ℕ) (digits bytes : List ℕ) → IsPair high low b → AreDigits digits bytes → AreDigits (high ∷ low ∷ digits) (b ∷ bytes)
+pair_first : (high low b : ℕ) (digits bytes : List ℕ) → IsPair high low b → AreDigits digits bytes
+    → AreDigits (high ∷ low ∷ digits) (b ∷ bytes)
 unfolding encode_with
 pair_first high low b digits bytes pair rest = (cc (pair.1, pair.2, rest.0), and_from (is_byte b) (list_all is_byte bytes) pair.0 rest.1)
 
-digits_read : (i : ℕ) (digits bytes : List ℕ) → list_all is_lower_hex digits ≡ true → decode_pairs i digits ≡ Ok bytes → AreDigits digits bytes
+digits_read : (i : ℕ) (digits bytes : List ℕ) → list_all is_lower_hex digits ≡ true
+    → decode_pairs i digits ≡ Ok bytes → AreDigits digits bytes
 unfolding decode_pairs encode_with
 digits_read i [] bytes lower e =
     let none : [] ≡ bytes = cc in
@@ -130,7 +136,8 @@ whole_word [] some = absurd (omega arith)
 whole_word (b ∷ digits) some = refl
 
 -- the word of a visible text is visible
-pub visible_text : (text : List ℕ) → list_all is_visible text ≡ true → list_all is_visible (text_word text) ≡ true
+pub visible_text : (text : List ℕ) → list_all is_visible text ≡ true
+    → list_all is_visible (text_word text) ≡ true
 visible_text [] all = refl
 visible_text (b ∷ text) all = all
 
@@ -144,7 +151,8 @@ bytes_of-word (b ∷ bytes) all =
     rw (other_word (encode_lower (b ∷ bytes)) dash_word (λ same. absurd cc), lt-ltb 0 (length (encode_lower (b ∷ bytes))) (omega arith), digits, read) refl
 
 -- a word that reads as bytes is their word
-pub bytes_of-some : (word bytes : List ℕ) → bytes_of word ≡ Some bytes → (word ≡ hex_word bytes) × (list_all is_byte bytes ≡ true)
+pub bytes_of-some : (word bytes : List ℕ) → bytes_of word ≡ Some bytes
+    → (word ≡ hex_word bytes) × (list_all is_byte bytes ≡ true)
 unfolding bytes_of encode_with
 bytes_of-some word bytes e = elim (chosen (bytes_eq word dash_word) (Some []) _ (Some bytes) e) [
   | inl here ↦ subst (λ (o : List ℕ). (word ≡ hex_word o) × (list_all is_byte o ≡ true)) (some_is [] bytes here.1) (same_word word dash_word here.0, refl)
@@ -158,17 +166,20 @@ bytes_of-some word bytes e = elim (chosen (bytes_eq word dash_word) (Some []) _ 
 ]
 
 -- a word of bytes is visible
-pub visible_bytes : (bytes : List ℕ) → list_all is_byte bytes ≡ true → list_all is_visible (hex_word bytes) ≡ true
+pub visible_bytes : (bytes : List ℕ) → list_all is_byte bytes ≡ true
+    → list_all is_visible (hex_word bytes) ≡ true
 visible_bytes bytes all = visible_text (encode_lower bytes) (digits_pass is_visible visible_at bytes all)
 
 -- the word of a visible text reads as it
-pub text_of-word : (text : List ℕ) → list_all is_visible text ≡ true → text ≢ dash_word → text_of (text_word text) ≡ Some text
+pub text_of-word : (text : List ℕ) → list_all is_visible text ≡ true → text ≢ dash_word
+    → text_of (text_word text) ≡ Some text
 unfolding text_of
 text_of-word [] all other = refl
 text_of-word (b ∷ text) all other = rw (other_word (b ∷ text) dash_word other, lt-ltb 0 (length (b ∷ text)) (omega arith), all) refl
 
 -- a word that reads as a text is its word
-pub text_of-some : (word text : List ℕ) → text_of word ≡ Some text → (word ≡ text_word text) × (list_all is_visible text ≡ true) × (text ≢ dash_word)
+pub text_of-some : (word text : List ℕ) → text_of word ≡ Some text
+    → (word ≡ text_word text) × (list_all is_visible text ≡ true) × (text ≢ dash_word)
 unfolding text_of
 text_of-some word text e = elim (chosen (bytes_eq word dash_word) (Some []) _ (Some text) e) [
   | inl here ↦ subst (λ (o : List ℕ). (word ≡ text_word o) × (list_all is_visible o ≡ true) × (o ≢ dash_word)) (some_is [] text here.1) (same_word word dash_word here.0, refl, λ same. absurd cc)

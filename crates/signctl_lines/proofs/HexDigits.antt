@@ -13,14 +13,16 @@ use Rattle.signctl_lines.specs.BytesWords.{is_lower_hex}
 pub record Decoded (digits bytes rest : List ℕ) (all : Bool) (i : ℕ) : Type 0 where
   pub left : rest ≡ drop (2 * i) digits
   pub lower : all ≡ list_all is_lower_hex (take (2 * i) digits)
-  pub read : all ≡ true → decode_pairs 0 digits ≡ prepend (take i bytes) (decode_pairs (2 * i) (drop (2 * i) digits))
+  pub read : all ≡ true
+      → decode_pairs 0 digits ≡ prepend (take i bytes) (decode_pairs (2 * i) (drop (2 * i) digits))
 
 -- nothing is decoded yet
 pub decoded_first : (digits bytes : List ℕ) → Decoded digits bytes digits true 0
 decoded_first digits bytes = record { left = refl; lower = refl; read = λ _. decode_start digits bytes }
 
 -- all are decoded
-pub decoded_all : (digits bytes rest : List ℕ) (all : Bool) (i : ℕ) → length bytes ≤ i → length digits ≡ 2 * length bytes → Decoded digits bytes rest all i
+pub decoded_all : (digits bytes rest : List ℕ) (all : Bool) (i : ℕ) → length bytes ≤ i
+    → length digits ≡ 2 * length bytes → Decoded digits bytes rest all i
     → (all ≡ list_all is_lower_hex digits) × (all ≡ true → decode_of digits ≡ Ok bytes)
 decoded_all digits bytes rest all i done twice d = (
   d.lower ∙ ap (list_all is_lower_hex) (take_all (2 * i) digits (omega arith)),
@@ -28,9 +30,11 @@ decoded_all digits bytes rest all i done twice d = (
 )
 
 -- one pair more is decoded
-pub decoded_more : (digits bytes rest after : List ℕ) (all : Bool) (i high low b : ℕ) → i < length bytes → length digits ≡ 2 * length bytes → rest ≡ high ∷ low ∷ after
+pub decoded_more : (digits bytes rest after : List ℕ) (all : Bool) (i high low b : ℕ) → i < length bytes
+    → length digits ≡ 2 * length bytes → rest ≡ high ∷ low ∷ after
     → ((place : ℕ) → is_lower_hex high ≡ true → is_lower_hex low ≡ true → pair_value high low place ≡ Ok b)
-    → Decoded digits bytes rest all i → Decoded digits (slice_set bytes i b) after ((all && is_lower_hex high) && is_lower_hex low) (i + 1)
+    → Decoded digits bytes rest all i
+    → Decoded digits (slice_set bytes i b) after ((all && is_lower_hex high) && is_lower_hex low) (i + 1)
 decoded_more digits bytes rest after all i high low b room twice cut reads d =
     let parts : high ∷ low ∷ after ≡ slice_index digits (2 * i) ∷ slice_index digits (2 * i + 1) ∷ drop (2 * (i + 1)) digits = sym cut ∙ d.left ∙ drop-pair digits i (omega arith) in
     let first : high ≡ slice_index digits (2 * i) = cc parts in

@@ -32,7 +32,9 @@ call_named-word (of.Keyed Base64HmacSha1) = refl
 call_named-word (of.Keyed Base64HmacSha256) = refl
 call_named-word of.Base64Decode = refl
 
-named : (word : List ℕ) (call c : HashCall) (later : Option HashCall) → cond (bytes_eq word (call_word c)) (Some c) later ≡ Some call → (later ≡ Some call → word ≡ call_word call) → word ≡ call_word call
+named : (word : List ℕ) (call c : HashCall) (later : Option HashCall)
+    → cond (bytes_eq word (call_word c)) (Some c) later ≡ Some call
+    → (later ≡ Some call → word ≡ call_word call) → word ≡ call_word call
 named word call c later e rest = elim (chosen (bytes_eq word (call_word c)) (Some c) later (Some call) e) [
   | inl here ↦ same_word word (call_word c) here.0 ∙ ap call_word (some_is c call here.1)
   | inr there ↦ rest there.1
@@ -53,19 +55,22 @@ abbrev pub Names : List ℕ → HashCall → List (List ℕ) → Type 0
 Names line call ws = words line ≡ call_word call ∷ ws
 
 -- the first of some words is of these bytes
-bytes_first : (ws : List (List ℕ)) (p : List ℕ × List (List ℕ)) → first_word bytes_of ws ≡ Some p → (ws ≡ hex_word p.0 ∷ p.1) × AreBytes p.0
+bytes_first : (ws : List (List ℕ)) (p : List ℕ × List (List ℕ)) → first_word bytes_of ws ≡ Some p
+    → (ws ≡ hex_word p.0 ∷ p.1) × AreBytes p.0
 bytes_first ws p e =
     let first = first_word_some bytes_of ws p e in
     let spelled = bytes_of-some first.0 p.0 first.2 in
     (first.1 ∙ ap (λ (w : List ℕ). w ∷ p.1) spelled.0, spelled.1)
 
 -- the words after the name of a call on bytes alone read as it
-pub unkeyed_form-words : (call : UnkeyedCall) (content : List ℕ) → AreBytes content → unkeyed_form call (hex_word content ∷ []) ≡ Some (Unkeyed call content)
+pub unkeyed_form-words : (call : UnkeyedCall) (content : List ℕ) → AreBytes content
+    → unkeyed_form call (hex_word content ∷ []) ≡ Some (Unkeyed call content)
 unfolding unkeyed_form
 unkeyed_form-words call content fits = rw (bytes_of-word content fits) refl
 
 -- a line of this form that reads as an item spells it
-pub unkeyed_form-some : (line : List ℕ) (call : UnkeyedCall) (ws : List (List ℕ)) (item : HmacItem) → Names line (of.Unkeyed call) ws → unkeyed_form call ws ≡ Some item → SpellsHmac line item
+pub unkeyed_form-some : (line : List ℕ) (call : UnkeyedCall) (ws : List (List ℕ)) (item : HmacItem)
+    → Names line (of.Unkeyed call) ws → unkeyed_form call ws ≡ Some item → SpellsHmac line item
 unfolding unkeyed_form
 unkeyed_form-some line call ws item named e =
     let c = bind_some (first_word bytes_of ws) (λ (c : List ℕ × List (List ℕ)). at_end_of_line (Unkeyed call c.0) c.1) item e in
@@ -74,12 +79,14 @@ unkeyed_form-some line call ws item named e =
     subst (λ (i : HmacItem). SpellsHmac line i) {x = Unkeyed call c.0.0} last.0 (content.1, cc (named, content.0, last.1))
 
 -- the words after the name of a call under a key read as it
-pub keyed_form-words : (call : KeyedCall) (key content : List ℕ) → AreBytes key → AreBytes content → keyed_form call (hex_word key ∷ hex_word content ∷ []) ≡ Some (Keyed call key content)
+pub keyed_form-words : (call : KeyedCall) (key content : List ℕ) → AreBytes key → AreBytes content
+    → keyed_form call (hex_word key ∷ hex_word content ∷ []) ≡ Some (Keyed call key content)
 unfolding keyed_form
 keyed_form-words call key content key_fits fits = rw (bytes_of-word key key_fits, bytes_of-word content fits) refl
 
 -- a line of this form that reads as an item spells it
-pub keyed_form-some : (line : List ℕ) (call : KeyedCall) (ws : List (List ℕ)) (item : HmacItem) → Names line (of.Keyed call) ws → keyed_form call ws ≡ Some item → SpellsHmac line item
+pub keyed_form-some : (line : List ℕ) (call : KeyedCall) (ws : List (List ℕ)) (item : HmacItem)
+    → Names line (of.Keyed call) ws → keyed_form call ws ≡ Some item → SpellsHmac line item
 unfolding keyed_form
 keyed_form-some line call ws item named e =
     let k = bind_some (first_word bytes_of ws) (λ (k : List ℕ × List (List ℕ)). first_word bytes_of k.1 >>= λ (c : List ℕ × List (List ℕ)). at_end_of_line (Keyed call k.0 c.0) c.1) item e in
@@ -90,12 +97,14 @@ keyed_form-some line call ws item named e =
     subst (λ (i : HmacItem). SpellsHmac line i) {x = Keyed call k.0.0 c.0.0} last.0 ((key.1, content.1), cc (named, key.0, content.0, last.1))
 
 -- the word after `base64_decode` reads as its text
-pub decode_form-words : (content : List ℕ) → IsHmacItem (Base64Decode content) → decode_form (text_word content ∷ []) ≡ Some (Base64Decode content)
+pub decode_form-words : (content : List ℕ) → IsHmacItem (Base64Decode content)
+    → decode_form (text_word content ∷ []) ≡ Some (Base64Decode content)
 unfolding decode_form
 decode_form-words content fits = rw (text_of-word content fits.0 fits.1) refl
 
 -- a line of `base64_decode` that reads as an item spells it
-pub decode_form-some : (line : List ℕ) (ws : List (List ℕ)) (item : HmacItem) → Names line of.Base64Decode ws → decode_form ws ≡ Some item → SpellsHmac line item
+pub decode_form-some : (line : List ℕ) (ws : List (List ℕ)) (item : HmacItem) → Names line of.Base64Decode ws
+    → decode_form ws ≡ Some item → SpellsHmac line item
 unfolding decode_form
 decode_form-some line ws item named e =
     let c = bind_some (first_word text_of ws) (λ (c : List ℕ × List (List ℕ)). at_end_of_line (Base64Decode c.0) c.1) item e in

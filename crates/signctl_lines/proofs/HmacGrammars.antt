@@ -24,12 +24,14 @@ use Rattle.signctl_lines.proofs.HmacForms.{Names, call_named-word, call_named-so
 
 -- ---- what reads as an item spells it
 
-hmac_form-some : (line : List ℕ) (call : HashCall) (ws : List (List ℕ)) (item : HmacItem) → Names line call ws → hmac_form call ws ≡ Some item → SpellsHmac line item
+hmac_form-some : (line : List ℕ) (call : HashCall) (ws : List (List ℕ)) (item : HmacItem) → Names line call ws
+    → hmac_form call ws ≡ Some item → SpellsHmac line item
 hmac_form-some line (of.Unkeyed call) ws item named e = unkeyed_form-some line call ws item named e
 hmac_form-some line (of.Keyed call) ws item named e = keyed_form-some line call ws item named e
 hmac_form-some line of.Base64Decode ws item named e = decode_form-some line ws item named e
 
-hmac_words_say-some : (line : List ℕ) (item : HmacItem) → hmac_words_say (words line) ≡ Some item → SpellsHmac line item
+hmac_words_say-some : (line : List ℕ) (item : HmacItem) → hmac_words_say (words line) ≡ Some item
+    → SpellsHmac line item
 unfolding hmac_words_say
 hmac_words_say-some line item e =
     let c = bind_some (first_word call_named (words line)) (λ (c : HashCall × List (List ℕ)). hmac_form c.0 c.1) item e in
@@ -50,7 +52,8 @@ named_aloud (of.Keyed Base64HmacSha1) = refl
 named_aloud (of.Keyed Base64HmacSha256) = refl
 named_aloud of.Base64Decode = refl
 
-named_line : (line : List ℕ) (call : HashCall) (ws : List (List ℕ)) (item : HmacItem) → Names line call ws → hmac_form call ws ≡ Some item → hmac_item_of line ≡ Some item
+named_line : (line : List ℕ) (call : HashCall) (ws : List (List ℕ)) (item : HmacItem) → Names line call ws
+    → hmac_form call ws ≡ Some item → hmac_item_of line ≡ Some item
 unfolding hmac_words_say
 named_line line call ws item named read = rw (named, call_named-word call) read
 
@@ -66,11 +69,13 @@ reads : (line : List ℕ) (item : HmacItem) → SpellsHmac line item ↔ (hmac_i
 reads line item = (item_of-spelled line item, hmac_words_say-some line item)
 
 -- the grammar is decided
-pub decided : (before : List (Option HmacItem)) (line : List ℕ) (item : Option HmacItem) → SpellsLine SpellsHmac line item ↔ (hmac_command.read before line ≡ Ok item)
+pub decided : (before : List (Option HmacItem)) (line : List ℕ) (item : Option HmacItem)
+    → SpellsLine SpellsHmac line item ↔ (hmac_command.read before line ≡ Ok item)
 decided before line item = said.decided SpellsHmac hmac_item_of reads line item
 
 -- a line says at most one thing
-pub one_item : (line : List ℕ) (a b : Option HmacItem) → SpellsLine SpellsHmac line a → SpellsLine SpellsHmac line b → a ≡ b
+pub one_item : (line : List ℕ) (a b : Option HmacItem) → SpellsLine SpellsHmac line a
+    → SpellsLine SpellsHmac line b → a ≡ b
 one_item line a b first second = said.one_thing SpellsHmac hmac_item_of reads line a b first second
 
 -- an item has at most one spelling
@@ -104,7 +109,8 @@ says line (Keyed call key content) e = named_silent line _ _ (is_silent line) e 
 says line (Base64Decode content) e = named_silent line _ _ (is_silent line) e (named_aloud of.Base64Decode) refl
 
 -- an item whose parts a line may name is spelled by the line of its words
-pub spelled : (item : HmacItem) → IsHmacItem item → SpellsLine SpellsHmac (line_of (hmac_words item)) (Some item)
+pub spelled : (item : HmacItem) → IsHmacItem item
+    → SpellsLine SpellsHmac (line_of (hmac_words item)) (Some item)
 spelled item fits =
     let parts = parted item fits in
     (ap not (says (line_of (hmac_words item)) item parts), (fits, parts))

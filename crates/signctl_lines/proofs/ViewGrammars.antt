@@ -26,11 +26,13 @@ reads : (line : List ℕ) (head : Head) → SpellsView line head ↔ (head_of_li
 reads line head = (head_of_line-spelled line head, head_of_line-some line head)
 
 -- the grammar is decided
-pub decided : (before : List (Option Head)) (line : List ℕ) (head : Option Head) → SpellsLine SpellsView line head ↔ (view_command.read before line ≡ Ok head)
+pub decided : (before : List (Option Head)) (line : List ℕ) (head : Option Head)
+    → SpellsLine SpellsView line head ↔ (view_command.read before line ≡ Ok head)
 decided before line head = said.decided SpellsView head_of_line reads line head
 
 -- a line says at most one thing
-pub one_item : (line : List ℕ) (a b : Option Head) → SpellsLine SpellsView line a → SpellsLine SpellsView line b → a ≡ b
+pub one_item : (line : List ℕ) (a b : Option Head) → SpellsLine SpellsView line a
+    → SpellsLine SpellsView line b → a ≡ b
 one_item line a b first second = said.one_thing SpellsView head_of_line reads line a b first second
 
 -- a head has at most one spelling

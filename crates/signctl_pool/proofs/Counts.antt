@@ -11,7 +11,8 @@ pub counts_few : {X : Type 0} (p : X → Bool) (xs : List X) (n : ℕ) → count
 counts_few p xs n = grind (arith, common_steps)
 
 -- the items of the lists before one, and its own, are no more than all
-pub lists_before : {X : Type 0} (vectors : List (Vec X)) (i : ℕ) (v : Vec X) → i < length vectors → v ≡ get_or vectors i v
+pub lists_before : {X : Type 0} (vectors : List (Vec X)) (i : ℕ) (v : Vec X) → i < length vectors
+    → v ≡ get_or vectors i v
     → length (joined (lists_of (take i vectors))) + length v.items ≤ length (joined (lists_of vectors))
 lists_before {X} [] i v below is = absurd (omega arith)
 lists_before {X} (w ∷ vectors) zero v below is =

@@ -44,7 +44,8 @@ right_false : (a b : Bool) → (a || b) ≡ false → b ≡ false
 right_false false b h = h
 right_false true b h = absurd (cc)
 
-each_did_not : (served : List Served) → list_any (λ s. s.out_of_memory) served ≡ false → AllByRecursion (λ (s : Served). s.out_of_memory ≡ false) served
+each_did_not : (served : List Served) → list_any (λ s. s.out_of_memory) served ≡ false
+    → AllByRecursion (λ (s : Served). s.out_of_memory ≡ false) served
 each_did_not [] h = tt
 each_did_not (s ∷ rest) h = (
   left_false s.out_of_memory (list_any (λ x. x.out_of_memory) rest) h,
@@ -52,7 +53,8 @@ each_did_not (s ∷ rest) h = (
 )
 
 -- where no worker ran out of memory, each did not
-none_ran_out : (served : List Served) → list_any (λ s. s.out_of_memory) served ≡ false → All (λ s. s.out_of_memory ≡ false) served
+none_ran_out : (served : List Served) → list_any (λ s. s.out_of_memory) served ≡ false
+    → All (λ s. s.out_of_memory ≡ false) served
 none_ran_out served h = All-from_recursion (λ (s : Served). s.out_of_memory ≡ false) served (each_did_not served h)
 
 -- so many lists are few
@@ -63,21 +65,23 @@ few_lists view work workers jobs dealt few =
     omega (arith, len, few)
 
 -- what is known where closing was refused
-pub where_refused : (P : DeskState ScriptCredential ScriptRule → Type 0) (Q : CloseRefused ScriptCredential ScriptRule → List Served → Type 0)
+pub where_refused : (P : DeskState ScriptCredential ScriptRule → Type 0)
+    (Q : CloseRefused ScriptCredential ScriptRule → List Served → Type 0)
     (r : PoolRefused ScriptCredential ScriptRule) (close : CloseRefused ScriptCredential ScriptRule) (served : Vec Served)
     → r ≡ Close close served → MatchPoolRefused r P Q → Q close served.items
 where_refused P Q r close served e h = subst (λ x. MatchPoolRefused x P Q) e h
 
 module _ (gate : GateMeaning ScriptCredential) (workers jobs : ℕ) where
   serves_pool : (work : List (List Job)) (passes : _) (served : List Served) → work ≡ pool_work workers jobs
-      → ServesLists gate 1 work passes served → list_any (λ s. s.out_of_memory) served ≡ false → ServesPool gate workers jobs passes served
+      → ServesLists gate 1 work passes served → list_any (λ s. s.out_of_memory) served ≡ false
+      → ServesPool gate workers jobs passes served
   serves_pool work passes served is serves none =
       (subst (λ w. ServesLists gate 1 w passes served) is serves, none_ran_out served none)
 
   -- a signer of the pool's plan that was closed
-  pub settles : (settled : Settled ScriptCredential ScriptRule) (plan : DeskState ScriptCredential ScriptRule) (work : List (List Job)) (served : List Served)
-      → setup_of plan ≡ pool_setup workers → work ≡ pool_work workers jobs
-      → IsSettled settled.journal.items settled.passes.items
+  pub settles : (settled : Settled ScriptCredential ScriptRule) (plan : DeskState ScriptCredential ScriptRule)
+      (work : List (List Job)) (served : List Served) → setup_of plan ≡ pool_setup workers
+      → work ≡ pool_work workers jobs → IsSettled settled.journal.items settled.passes.items
       → (setup_of settled.desk ≡ setup_of plan) × Represents script_policy settled.desk settled.journal.items
       → ServesLists gate 1 work settled.passes.items served → list_any (λ s. s.out_of_memory) served ≡ false
       → IsSettledPool gate workers jobs settled
@@ -97,7 +101,8 @@ module _ (gate : GateMeaning ScriptCredential) (workers jobs : ℕ) where
       }
 
   -- a signer of the pool's plan that was not closed
-  pub refuses : (refused : CloseRefused ScriptCredential ScriptRule) (plan : DeskState ScriptCredential ScriptRule) (work : List (List Job)) (served : List Served)
+  pub refuses : (refused : CloseRefused ScriptCredential ScriptRule)
+      (plan : DeskState ScriptCredential ScriptRule) (work : List (List Job)) (served : List Served)
       → setup_of plan ≡ pool_setup workers → work ≡ pool_work workers jobs → refused.plan ≡ plan
       → Represents script_policy refused.book.desk refused.book.journal
       → IsCloseCause plan refused.book refused.passes.items refused.why
@@ -139,14 +144,16 @@ module _ (gate : GateMeaning ScriptCredential) (workers jobs : ℕ) where
     no_fault sink (end.Finished finished) h = absurd h
     no_fault sink (end.Uncleared finished why) h = absurd h
 
-    not_usage : (sink : Written D) (ended : PoolEnd) → EndsPool gate workers jobs ended sink → ended ≡ end.Ended status.Usage → ⊥
+    not_usage : (sink : Written D) (ended : PoolEnd) → EndsPool gate workers jobs ended sink
+        → ended ≡ end.Ended status.Usage → ⊥
     not_usage sink ended h e = subst (λ x. EndsPool gate workers jobs x sink) e h
 
     -- a pool that was asked for
     pub pool_ran : (old new : D) (ended : PoolEnd)
         → EndsPool gate workers jobs ended (record { holds = holds; faults = faults; old = old; new = new })
         → CountsFault (is_write_fault (status_of ended)) (faults old) (faults new)
-        → IsThreadsRun gate (Some (Pool workers jobs)) ended (record { holds = holds; faults = faults; old = old; new = new })
+        → IsThreadsRun gate (Some (Pool workers jobs)) ended
+        (record { holds = holds; faults = faults; old = old; new = new })
     pool_ran old new ended h writes =
         let sink : Written D = record { holds = holds; faults = faults; old = old; new = new } in
         record {
@@ -157,8 +164,10 @@ module _ (gate : GateMeaning ScriptCredential) (workers jobs : ℕ) where
         }
 
 -- nothing was asked for
-pub nothing_asked : {D : Type 0} (gate : GateMeaning ScriptCredential) (holds : D → Option (List ℕ)) (faults : D → ℕ) (sink : D)
-    → IsThreadsRun gate None (end.Ended status.Usage) (record { holds = holds; faults = faults; old = sink; new = sink })
+pub nothing_asked : {D : Type 0} (gate : GateMeaning ScriptCredential) (holds : D → Option (List ℕ))
+    (faults : D → ℕ) (sink : D)
+    → IsThreadsRun gate None (end.Ended status.Usage)
+    (record { holds = holds; faults = faults; old = sink; new = sink })
 nothing_asked gate holds faults sink = record {
   usage = (λ _. refl, λ _. refl);
   untouched = λ _. refl;

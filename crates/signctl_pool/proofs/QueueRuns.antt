@@ -11,8 +11,10 @@ use Rattle.signctl_pool.specs.Line.{books_line, queue_line}
 
 module _ (gate : GateMeaning ScriptCredential) (workers jobs : ℕ) where
   -- the line of a finished queue's books
-  pub line_of_books : (finished : Finished ScriptCredential ScriptRule) → IsFinishedQueue gate workers jobs finished
-      → books_line (length (joined (lists_of finished.submitted.items))) (length (joined (lists_of finished.answers.items)))
+  pub line_of_books : (finished : Finished ScriptCredential ScriptRule)
+      → IsFinishedQueue gate workers jobs finished
+      → books_line (length (joined (lists_of finished.submitted.items)))
+      (length (joined (lists_of finished.answers.items)))
       (length finished.left.items) (loads finished.settled.journal.items) ≡ queue_line jobs finished.settled.journal.items
   line_of_books finished h =
       let none : length finished.left.items ≡ 0 = ap length h.none_left in

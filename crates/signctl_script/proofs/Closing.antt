@@ -26,7 +26,8 @@ unfolding final_lines_of
 finals-none lines = refl
 
 -- one final line more
-pub finals-more : (lines : List ScriptLine) (n : ℕ) → final_lines_of lines (suc n) ≡ final_lines_of lines n ++ final_line_of lines n
+pub finals-more : (lines : List ScriptLine) (n : ℕ)
+    → final_lines_of lines (suc n) ≡ final_lines_of lines n ++ final_line_of lines n
 unfolding final_lines_of
 finals-more lines n = refl
 
@@ -36,8 +37,10 @@ there (x ∷ rest) zero h = (x, refl)
 there (x ∷ rest) (suc i) h = there rest i (omega arith)
 
 -- what the desk caches is what the sequential signer does
-pub cached-is : (session : SessionState) (items : List ScriptItem) → RepresentsItems session items → (i : ℕ) → i < length session.desk.loaders
-    → option_and_then (λ (held : Option ScriptCredential). held) (slice_get session.desk.caches i) ≡ sequential_cache script_policy (setup_in items) (transcript_of items) i
+pub cached-is : (session : SessionState) (items : List ScriptItem) → RepresentsItems session items → (i : ℕ)
+    → i < length session.desk.loaders
+    → option_and_then (λ (held : Option ScriptCredential). held) (slice_get session.desk.caches i)
+    ≡ sequential_cache script_policy (setup_in items) (transcript_of items) i
 cached-is session items stands i h =
     let loader = there session.desk.loaders i h in
     let stepped : List (Entry ScriptCredential) = expected_entries script_policy (setup_in items) stands.stepped in

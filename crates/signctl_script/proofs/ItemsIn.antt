@@ -8,12 +8,14 @@ use Rattle.signctl_script.specs.declared.script_line.ScriptLine.{ScriptLine}
 use Rattle.signctl_script.specs.declared.script_line.ScriptLine.TheVariants.{VersionTwo, Says}
 
 -- a line that says something adds its item
-pub items_in-says : (lines : List ScriptLine) (item : ScriptItem) → items_in (lines ++ Says item ∷ []) ≡ items_in lines ++ item ∷ []
+pub items_in-says : (lines : List ScriptLine) (item : ScriptItem)
+    → items_in (lines ++ Says item ∷ []) ≡ items_in lines ++ item ∷ []
 unfolding items_in
 items_in-says lines item = filter_map-append item_in lines (Says item ∷ [])
 
 -- the version of a script is that of its first line
-pub version_after-says : (lines : List ScriptLine) (item : ScriptItem) → version_after (lines ++ Says item ∷ []) ≡ Some (version_in lines)
+pub version_after-says : (lines : List ScriptLine) (item : ScriptItem)
+    → version_after (lines ++ Says item ∷ []) ≡ Some (version_in lines)
 version_after-says [] item = refl
 version_after-says (VersionTwo ∷ rest) item = refl
 version_after-says (Says first ∷ rest) item = refl

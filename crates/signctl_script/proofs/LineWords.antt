@@ -6,7 +6,9 @@ use Rattle.signctl_format.specs.Bytes.{space}
 use Rattle.signctl_format.specs.Words.{spaced_words, line_of}
 
 -- some more words
-pub more-words : (old text new word : List ℕ) (before more : List (List ℕ)) → text ≡ old ++ line_of (word ∷ before) → new ≡ text ++ spaced_words more → new ≡ old ++ line_of (word ∷ (before ++ more))
+pub more-words : (old text new word : List ℕ) (before more : List (List ℕ))
+    → text ≡ old ++ line_of (word ∷ before) → new ≡ text ++ spaced_words more
+    → new ≡ old ++ line_of (word ∷ (before ++ more))
 more-words old text new word before more so_far end =
     end
     ∙ ap (λ (v : List ℕ). v ++ spaced_words more) so_far

@@ -22,7 +22,8 @@ one-counted false n m h e = omega arith
 
 module _ (entries : List (Entry ScriptCredential)) (entry : Entry ScriptCredential) (room : length (entries ++ entry ∷ []) < 2 ^ 64) where
   -- a kind of reply, with one more
-  kind-more : (kind : Reply ScriptCredential → Bool) → count_of kind (entries ++ entry ∷ []) ≡ counted (kind entry.reply) (count_of kind entries)
+  kind-more : (kind : Reply ScriptCredential → Bool)
+      → count_of kind (entries ++ entry ∷ []) ≡ counted (kind entry.reply) (count_of kind entries)
   kind-more kind =
       let of : Entry ScriptCredential → Bool = λ e. kind e.reply in
       let few : count_by of entries < 2 ^ 64 - 1 = omega (arith, count_by-le-length of entries, length-append entries (entry ∷ []), room) in
@@ -45,7 +46,8 @@ module _ (entries : List (Entry ScriptCredential)) (entry : Entry ScriptCredenti
       ) refl
 
 -- one more reply
-pub counts-more : (counts : Counts) (entries : List (Entry ScriptCredential)) (entry : Entry ScriptCredential) → AreCounts counts entries → AreCounts (with_reply entry.reply counts) (entries ++ entry ∷ [])
+pub counts-more : (counts : Counts) (entries : List (Entry ScriptCredential)) (entry : Entry ScriptCredential)
+    → AreCounts counts entries → AreCounts (with_reply entry.reply counts) (entries ++ entry ∷ [])
 counts-more counts entries entry are = λ room.
     let less : length entries < 2 ^ 64 = omega (arith, length-append entries (entry ∷ []), room) in
     ap (λ (c : Counts). with_reply entry.reply c) (are less) ∙ sym (all-more entries entry room)

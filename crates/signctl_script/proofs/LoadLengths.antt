@@ -12,7 +12,8 @@ use Rattle.signctl_format.specs.declared.credential.ScriptCredential.{ScriptCred
 use Rattle.signctl_script.specs.LoadRound.{load_call, calls_in_round, begin_event, poll_event, accepted_event, find_events, take_over_events, cancel_events, refresh_events, asking_events, accepting_events}
 use Rattle.signctl_script.specs.Load.{load_entry, entries_after, signed_calls, entries_in_round, transcript_of_rounds, load_transcript}
 
-length-entries_after : (before : List (Entry ScriptCredential)) (events : List (Event ScriptCredential)) → length (entries_after before events) ≡ length events
+length-entries_after : (before : List (Entry ScriptCredential)) (events : List (Event ScriptCredential))
+    → length (entries_after before events) ≡ length events
 unfolding entries_after
 length-entries_after before [] = refl
 length-entries_after before (event ∷ rest) = ap suc (length-entries_after (before ++ load_entry before event ∷ []) rest)
@@ -32,7 +33,9 @@ cancel-few round (first ∷ others) = omega (arith, take_over-few round others)
 refresh-few : (round : ℕ) (calls : List CallId) → length (refresh_events round calls) ≤ length calls + 1
 refresh-few round calls = by_tests (round % 4 == 0) (round % 4 == 2)
   where
-    by_tests : (a b : Bool) → length (if a then find_events round calls else (if b then cancel_events round calls else [])) ≤ length calls + 1
+    by_tests : (a b : Bool)
+        → length (if a then find_events round calls else (if b then cancel_events round calls else []))
+        ≤ length calls + 1
     by_tests true b = omega (arith, find-few round calls)
     by_tests false true = cancel-few round calls
     by_tests false false = omega arith
@@ -53,7 +56,8 @@ accepting-few signed calls =
     let p : CallId → Bool = λ call. is_among call signed in
     omega (arith, length-map (filter p calls) accepted_event, length-filter p calls, count_by-le-length p calls)
 
-round-few : (before : List (Entry ScriptCredential)) (round : ℕ) (calls : List CallId) → length (entries_in_round before round calls) ≤ 4 * length calls + 1
+round-few : (before : List (Entry ScriptCredential)) (round : ℕ) (calls : List CallId)
+    → length (entries_in_round before round calls) ≤ 4 * length calls + 1
 round-few before round calls =
     let asked = entries_after before (asking_events round calls) in
     let accepting = accepting_events (signed_calls asked) calls in

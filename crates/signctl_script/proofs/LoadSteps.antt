@@ -28,13 +28,15 @@ unfolding entries_after
 entries_after-none before = refl
 
 -- one event
-pub entries_after-one : (before : List (Entry ScriptCredential)) (event : Event ScriptCredential) → entries_after before (event ∷ []) ≡ load_entry before event ∷ []
+pub entries_after-one : (before : List (Entry ScriptCredential)) (event : Event ScriptCredential)
+    → entries_after before (event ∷ []) ≡ load_entry before event ∷ []
 unfolding entries_after
 entries_after-one before event = refl
 
 -- some events, and others after them
 pub entries_after-append : (before : List (Entry ScriptCredential)) (xs ys : List (Event ScriptCredential))
-    → entries_after before (xs ++ ys) ≡ entries_after before xs ++ entries_after (before ++ entries_after before xs) ys
+    → entries_after before (xs ++ ys)
+    ≡ entries_after before xs ++ entries_after (before ++ entries_after before xs) ys
 unfolding entries_after
 entries_after-append before [] ys = ap (λ (v : List (Entry ScriptCredential)). entries_after v ys) (sym (append-nil before))
 entries_after-append before (x ∷ xs) ys =
@@ -43,7 +45,8 @@ entries_after-append before (x ∷ xs) ys =
     ∙ ap (λ (v : List (Entry ScriptCredential)). e ∷ (entries_after (before ++ e ∷ []) xs ++ entries_after v ys)) (append_assoc before (e ∷ []) (entries_after (before ++ e ∷ []) xs))
 
 -- the calls that were signed in some entries, and in those that follow
-pub signed_calls-append : (xs ys : List (Entry ScriptCredential)) → signed_calls (xs ++ ys) ≡ signed_calls xs ++ signed_calls ys
+pub signed_calls-append : (xs ys : List (Entry ScriptCredential))
+    → signed_calls (xs ++ ys) ≡ signed_calls xs ++ signed_calls ys
 unfolding signed_calls
 signed_calls-append xs ys = filter_map-append signed_call xs ys
 
@@ -52,7 +55,8 @@ unfolding signed_calls
 signed_calls-none = refl
 
 -- the call of one entry, where it was answered `Sign`
-pub signed_calls-one : (e : Entry ScriptCredential) → is_sign e.reply ≡ true → signed_calls (e ∷ []) ≡ call_of e.event ∷ []
+pub signed_calls-one : (e : Entry ScriptCredential) → is_sign e.reply ≡ true
+    → signed_calls (e ∷ []) ≡ call_of e.event ∷ []
 unfolding signed_calls
 signed_calls-one e h = rw h refl
 
@@ -61,18 +65,20 @@ unfolding signed_calls
 signed_calls-other e h = rw h refl
 
 -- rounds that represent a transcript represent it however it is spelled
-pub as_spelled : (rounds : Rounds) (a b : List (Entry ScriptCredential)) → a ≡ b → RoundsRepresent rounds a → RoundsRepresent rounds b
+pub as_spelled : (rounds : Rounds) (a b : List (Entry ScriptCredential)) → a ≡ b → RoundsRepresent rounds a
+    → RoundsRepresent rounds b
 as_spelled rounds a b e r = subst (λ (t : List (Entry ScriptCredential)). RoundsRepresent rounds t) e r
 
 -- after a step that did not run out of memory
-pub next-entry : (old new : Rounds) (entries : List (Entry ScriptCredential)) (event : Event ScriptCredential) (reply : Reply ScriptCredential)
-    → RoundsRepresent old entries
-    → is_out_of_memory reply ≡ false
-    → IsLegalEntry script_policy (setup_of old.desk) (committed_entries entries) (record { event = event; reply = reply })
+pub next-entry : (old new : Rounds) (entries : List (Entry ScriptCredential)) (event : Event ScriptCredential)
+    (reply : Reply ScriptCredential) → RoundsRepresent old entries → is_out_of_memory reply ≡ false
+    → IsLegalEntry script_policy (setup_of old.desk) (committed_entries entries)
+    (record { event = event; reply = reply })
     → Represents script_policy new.desk (entries ++ record { event = event; reply = reply } ∷ [])
     → setup_of new.desk ≡ setup_of old.desk
     → AreCounts new.counts (entries ++ record { event = event; reply = reply } ∷ [])
-    → (record { event = event; reply = reply } ≡ load_entry entries event) × RoundsRepresent new (entries ++ load_entry entries event ∷ [])
+    → (record { event = event; reply = reply } ≡ load_entry entries event)
+    × RoundsRepresent new (entries ++ load_entry entries event ∷ [])
 next-entry old new entries event reply r good (inr lost) represents setup counts =
     let bad : is_out_of_memory reply ≡ true = ap (λ (x : Reply ScriptCredential). is_out_of_memory x) lost.0 in absurd (cc)
 next-entry old new entries event reply r good (inl expected) represents setup counts =
@@ -92,7 +98,8 @@ next-entry old new entries event reply r good (inl expected) represents setup co
     )
 
 -- before the first round
-pub first-round : (rounds : Rounds) → setup_of rounds.desk ≡ load_setup → Represents script_policy rounds.desk [] → AreCounts rounds.counts [] → RoundsRepresent rounds []
+pub first-round : (rounds : Rounds) → setup_of rounds.desk ≡ load_setup
+    → Represents script_policy rounds.desk [] → AreCounts rounds.counts [] → RoundsRepresent rounds []
 first-round rounds setup represents counts = record { setup = setup; represents = represents; committed = committed_entries-none; counts = counts }
 
 -- no rounds
@@ -101,12 +108,16 @@ unfolding transcript_of_rounds
 transcript-none n = refl
 
 -- one round more
-pub transcript-more : (n round : ℕ) → transcript_of_rounds n (round + 1) ≡ transcript_of_rounds n round ++ entries_in_round (transcript_of_rounds n round) round (calls_in_round n round)
+pub transcript-more : (n round : ℕ)
+    → transcript_of_rounds n (round + 1)
+    ≡ transcript_of_rounds n round
+    ++ entries_in_round (transcript_of_rounds n round) round (calls_in_round n round)
 unfolding transcript_of_rounds
 transcript-more n round = ap (λ (k : ℕ). transcript_of_rounds n k) (add-one round)
 
 -- rounds with the same desk and the same counts represent the same entries
-pub alike : (a b : Rounds) (entries : List (Entry ScriptCredential)) → b.desk ≡ a.desk → b.counts ≡ a.counts → RoundsRepresent a entries → RoundsRepresent b entries
+pub alike : (a b : Rounds) (entries : List (Entry ScriptCredential)) → b.desk ≡ a.desk → b.counts ≡ a.counts
+    → RoundsRepresent a entries → RoundsRepresent b entries
 alike a b entries desk counts r = record {
   setup = ap (λ (d : _). setup_of d) desk ∙ r.setup;
   represents = subst (λ (d : _). Represents script_policy d entries) (sym desk) r.represents;
@@ -115,10 +126,13 @@ alike a b entries desk counts r = record {
 }
 
 -- a round that was asked and accepted
-pub round-played : (rounds : Rounds) (entries : List (Entry ScriptCredential)) (round : ℕ) (calls signed : List CallId) (accepting : List (Event ScriptCredential))
+pub round-played : (rounds : Rounds) (entries : List (Entry ScriptCredential)) (round : ℕ)
+    (calls signed : List CallId) (accepting : List (Event ScriptCredential))
     → signed ≡ signed_calls (entries_after entries (asking_events round calls))
     → accepting ≡ accepting_events signed calls
-    → RoundsRepresent rounds ((entries ++ entries_after entries (asking_events round calls)) ++ entries_after (entries ++ entries_after entries (asking_events round calls)) accepting)
+    → RoundsRepresent rounds
+    ((entries ++ entries_after entries (asking_events round calls))
+    ++ entries_after (entries ++ entries_after entries (asking_events round calls)) accepting)
     → RoundsRepresent rounds (entries ++ entries_in_round entries round calls)
 round-played rounds entries round calls signed accepting signs accepts r =
     let first = entries_after entries (asking_events round calls) in

@@ -39,7 +39,8 @@ use Rattle.signctl_script.proofs.PlainEvents.{plain-reply}
 use Rattle.signctl_script.proofs.ItemsIn.{items_in-says, version_after-says}
 
 -- a session that is seen so represents what it is seen as
-pub as_seen : (inside session : SessionState) (items : List ScriptItem) → inside ≡ session → RepresentsItems session items → RepresentsItems inside items
+pub as_seen : (inside session : SessionState) (items : List ScriptItem) → inside ≡ session
+    → RepresentsItems session items → RepresentsItems inside items
 as_seen inside session items seen stands = let P : SessionState → Type 0 = λ s. RepresentsItems s items in subst P (sym seen) stands
 
 -- a session with this desk and this note
@@ -47,7 +48,8 @@ abbrev with_desk : DeskState ScriptCredential ScriptRule → Bool → SessionSta
 with_desk desk had_event session = record session { desk = desk; had_event = had_event }
 
 -- nothing came before the first event
-stepped-none : (stepped events : List (Event ScriptCredential)) → map plain_event stepped ≡ events → is_empty events ≡ true → stepped ≡ []
+stepped-none : (stepped events : List (Event ScriptCredential)) → map plain_event stepped ≡ events
+    → is_empty events ≡ true → stepped ≡ []
 stepped-none [] events e h = refl
 stepped-none (x ∷ rest) [] e h = absurd (cc)
 stepped-none (x ∷ rest) (y ∷ more) e h = absurd (cc)
@@ -58,7 +60,8 @@ module _ (session : SessionState) (items : List ScriptItem) (stands : Represents
   no_steps h = stepped-none stands.stepped (events_in items) stands.events h
 
   -- so it represents the empty transcript
-  no_transcript : is_empty (events_in items) ≡ true → expected_entries script_policy (setup_in items) stands.stepped ≡ []
+  no_transcript : is_empty (events_in items) ≡ true
+      → expected_entries script_policy (setup_in items) stands.stepped ≡ []
   unfolding expected_entries
   no_transcript h = ap (λ (v : List (Event ScriptCredential)). expected_entries script_policy (setup_in items) v) (no_steps h)
 
@@ -82,8 +85,10 @@ module _ (session : SessionState) (items : List ScriptItem) (stands : Represents
   }
 
   -- a desk that is set up further, before the first event
-  next-setup : (new : DeskState ScriptCredential ScriptRule) (x : ScriptItem) → is_empty (events_in items) ≡ true → events_in (items ++ x ∷ []) ≡ events_in items
-      → setup_of new ≡ setup_in (items ++ x ∷ []) → Represents script_policy new [] → RepresentsItems (with_desk new session.had_event session) (items ++ x ∷ [])
+  next-setup : (new : DeskState ScriptCredential ScriptRule) (x : ScriptItem)
+      → is_empty (events_in items) ≡ true → events_in (items ++ x ∷ []) ≡ events_in items
+      → setup_of new ≡ setup_in (items ++ x ∷ []) → Represents script_policy new []
+      → RepresentsItems (with_desk new session.had_event session) (items ++ x ∷ [])
   unfolding expected_entries
   next-setup new x none same setup fresh = record {
     setup = setup;
@@ -94,8 +99,10 @@ module _ (session : SessionState) (items : List ScriptItem) (stands : Represents
   }
 
   -- one cache more
-  pub next-cache : (new : DeskState ScriptCredential ScriptRule) (loader : Loader) → item_error items (item.Cache loader) ≡ None → new ≡ with_cache loader session.desk
-      → Represents script_policy new [] → RepresentsItems (with_desk new session.had_event session) (items ++ item.Cache loader ∷ [])
+  pub next-cache : (new : DeskState ScriptCredential ScriptRule) (loader : Loader)
+      → item_error items (item.Cache loader) ≡ None → new ≡ with_cache loader session.desk
+      → Represents script_policy new []
+      → RepresentsItems (with_desk new session.had_event session) (items ++ item.Cache loader ∷ [])
   next-cache new loader good added fresh =
       next-setup new (item.Cache loader) (cache-no_event items loader good)
       (events_in-more items (item.Cache loader) ∙ append-nil (events_in items))
@@ -105,8 +112,10 @@ module _ (session : SessionState) (items : List ScriptItem) (stands : Represents
       fresh
 
   -- one handle more
-  pub next-handle : (new : DeskState ScriptCredential ScriptRule) (cache : ℕ) (rule : ScriptRule) → item_error items (item.Handle cache rule) ≡ None → new ≡ with_handle cache (place_of_rule rule) session.desk
-      → Represents script_policy new [] → RepresentsItems (with_desk new session.had_event session) (items ++ item.Handle cache rule ∷ [])
+  pub next-handle : (new : DeskState ScriptCredential ScriptRule) (cache : ℕ) (rule : ScriptRule)
+      → item_error items (item.Handle cache rule) ≡ None
+      → new ≡ with_handle cache (place_of_rule rule) session.desk → Represents script_policy new []
+      → RepresentsItems (with_desk new session.had_event session) (items ++ item.Handle cache rule ∷ [])
   next-handle new cache rule good added fresh =
       next-setup new (item.Handle cache rule) (handle-no_event items cache rule good)
       (events_in-more items (item.Handle cache rule) ∙ append-nil (events_in items))
@@ -115,11 +124,17 @@ module _ (session : SessionState) (items : List ScriptItem) (stands : Represents
       ∙ sym (setup_in-handle items cache rule))
       fresh
 
-  -- all entries are committed, so the legal reply other than out of memory is the expected one, also to the event as the
+  -- all entries are committed, so the legal reply other than out of memory is the expected one, also to the
+  -- event as the
   -- line has it
   pub reply-expected : (event : Event ScriptCredential) (reply : Reply ScriptCredential)
-      → IsLegalEntry script_policy (setup_of session.desk) (committed_entries (expected_entries script_policy (setup_in items) stands.stepped)) (record { event = event; reply = reply })
-      → (reply ≡ OutOfMemory → ⊥) → reply ≡ expected_reply script_policy (setup_in items) (expected_entries script_policy (setup_in items) stands.stepped) event
+      → IsLegalEntry script_policy (setup_of session.desk)
+      (committed_entries (expected_entries script_policy (setup_in items) stands.stepped))
+      (record { event = event; reply = reply })
+      → (reply ≡ OutOfMemory → ⊥)
+      → reply
+      ≡ expected_reply script_policy (setup_in items)
+      (expected_entries script_policy (setup_in items) stands.stepped) event
   reply-expected event reply (inl expected) in_memory =
       expected
       ∙ ap (λ (s : Setup ScriptRule). expected_reply script_policy s (committed_entries (expected_entries script_policy (setup_in items) stands.stepped)) event) stands.setup
@@ -127,16 +142,23 @@ module _ (session : SessionState) (items : List ScriptItem) (stands : Represents
   reply-expected event reply (inr lost) in_memory = absurd (in_memory lost.0)
 
   -- the expected reply to an event as the line has it
-  pub reply-plain : (event : Event ScriptCredential) → expected_reply script_policy (setup_in items) (expected_entries script_policy (setup_in items) stands.stepped) event
+  pub reply-plain : (event : Event ScriptCredential)
+      → expected_reply script_policy (setup_in items)
+      (expected_entries script_policy (setup_in items) stands.stepped) event
       ≡ expected_reply script_policy (setup_in items) (transcript_of items) (plain_event event)
   reply-plain event =
       sym (plain-reply (setup_in items) stands.stepped event)
       ∙ ap (λ (v : List (Event ScriptCredential)). expected_reply script_policy (setup_in items) (expected_entries script_policy (setup_in items) v) (plain_event event)) stands.events
 
   -- one event more
-  pub next-event : (new : DeskState ScriptCredential ScriptRule) (event : Event ScriptCredential) (reply : Reply ScriptCredential) → setup_of new ≡ setup_of session.desk
-      → Represents script_policy new (expected_entries script_policy (setup_in items) stands.stepped ++ record { event = event; reply = reply } ∷ [])
-      → reply ≡ expected_reply script_policy (setup_in items) (expected_entries script_policy (setup_in items) stands.stepped) event
+  pub next-event : (new : DeskState ScriptCredential ScriptRule) (event : Event ScriptCredential)
+      (reply : Reply ScriptCredential) → setup_of new ≡ setup_of session.desk
+      → Represents script_policy new
+      (expected_entries script_policy (setup_in items) stands.stepped
+      ++ record { event = event; reply = reply } ∷ [])
+      → reply
+      ≡ expected_reply script_policy (setup_in items)
+      (expected_entries script_policy (setup_in items) stands.stepped) event
       → RepresentsItems (with_desk new true session) (items ++ item.Event (plain_event event) ∷ [])
   next-event new event reply setup represents expected = record {
     setup = setup ∙ stands.setup ∙ sym (setup_in-event items (plain_event event));
@@ -167,57 +189,81 @@ module _ (session : SessionState) (items : List ScriptItem) (stands : Represents
   handles-fit few = omega (arith, few, handles-few items, ap (λ (v : List Handle). length v) handles-same)
 
   -- the one refusal of a new cache is out of memory, and its number counts those before it
-  cache-answer : (loader : Loader) → item_error items (item.Cache loader) ≡ None → (answer : Result ℕ AddError)
-      → AddAnswer (late_refusal session.desk) (length session.desk.loaders) answer → AddAnswer None (length session.desk.loaders) answer
+  cache-answer : (loader : Loader) → item_error items (item.Cache loader) ≡ None
+      → (answer : Result ℕ AddError)
+      → AddAnswer (late_refusal session.desk) (length session.desk.loaders) answer
+      → AddAnswer None (length session.desk.loaders) answer
   cache-answer loader good answer h = cache-allowed session.desk _ answer (not_started (cache-no_event items loader good)) h
 
-  pub cache-out_of_memory : (loader : Loader) (e : AddError) → item_error items (item.Cache loader) ≡ None → AddAnswer (late_refusal session.desk) (length session.desk.loaders) (Err e) → e ≡ AddError.OutOfMemory
+  pub cache-out_of_memory : (loader : Loader) (e : AddError) → item_error items (item.Cache loader) ≡ None
+      → AddAnswer (late_refusal session.desk) (length session.desk.loaders) (Err e) → e ≡ AddError.OutOfMemory
   cache-out_of_memory loader e good h = cache-answer loader good (Err e) h
 
-  pub cache-number : (loader : Loader) (n : ℕ) → item_error items (item.Cache loader) ≡ None → AddAnswer (late_refusal session.desk) (length session.desk.loaders) (Ok n) → n ≡ length (setup_in items).loaders
+  pub cache-number : (loader : Loader) (n : ℕ) → item_error items (item.Cache loader) ≡ None
+      → AddAnswer (late_refusal session.desk) (length session.desk.loaders) (Ok n)
+      → n ≡ length (setup_in items).loaders
   cache-number loader n good h = cache-answer loader good (Ok n) h ∙ ap (λ (v : List Loader). length v) loaders-same
 
   -- so it is with a new handle, whose cache and whose rule are there
-  handle-answer : (cache : ℕ) (rule : ScriptRule) → item_error items (item.Handle cache rule) ≡ None → (answer : Result ℕ AddError)
-      → AddAnswer (handle_refusal session.desk cache (place_of_rule rule)) (length session.desk.handles) answer → AddAnswer None (length session.desk.handles) answer
+  handle-answer : (cache : ℕ) (rule : ScriptRule) → item_error items (item.Handle cache rule) ≡ None
+      → (answer : Result ℕ AddError)
+      → AddAnswer (handle_refusal session.desk cache (place_of_rule rule)) (length session.desk.handles)
+      answer
+      → AddAnswer None (length session.desk.handles) answer
   handle-answer cache rule good answer h =
       handle-allowed session.desk _ answer cache (place_of_rule rule) (not_started (handle-no_event items cache rule good))
       (ap (λ (v : List Loader). nat_lt cache (length v)) loaders-same ∙ handle-cache items cache rule good)
       (ap (λ (s : Setup ScriptRule). nat_lt (place_of_rule rule) (length s.rules)) stands.setup ∙ rule-placed items rule)
       h
 
-  pub handle-out_of_memory : (cache : ℕ) (rule : ScriptRule) (e : AddError) → item_error items (item.Handle cache rule) ≡ None → AddAnswer (handle_refusal session.desk cache (place_of_rule rule)) (length session.desk.handles) (Err e) → e ≡ AddError.OutOfMemory
+  pub handle-out_of_memory : (cache : ℕ) (rule : ScriptRule) (e : AddError)
+      → item_error items (item.Handle cache rule) ≡ None
+      → AddAnswer (handle_refusal session.desk cache (place_of_rule rule)) (length session.desk.handles)
+      (Err e)
+      → e ≡ AddError.OutOfMemory
   handle-out_of_memory cache rule e good h = handle-answer cache rule good (Err e) h
 
-  pub handle-number : (cache : ℕ) (rule : ScriptRule) (n : ℕ) → item_error items (item.Handle cache rule) ≡ None → AddAnswer (handle_refusal session.desk cache (place_of_rule rule)) (length session.desk.handles) (Ok n) → n ≡ length (setup_in items).handles
+  pub handle-number : (cache : ℕ) (rule : ScriptRule) (n : ℕ)
+      → item_error items (item.Handle cache rule) ≡ None
+      → AddAnswer (handle_refusal session.desk cache (place_of_rule rule)) (length session.desk.handles)
+      (Ok n)
+      → n ≡ length (setup_in items).handles
   handle-number cache rule n good h = handle-answer cache rule good (Ok n) h ∙ ap (λ (v : List Handle). length v) handles-same
 
 -- a line that is added and ended
-pub line-with_newline : (old mid new line : List ℕ) → mid ≡ old ++ line → new ≡ mid ++ newline ∷ [] → new ≡ old ++ with_newline line
+pub line-with_newline : (old mid new line : List ℕ) → mid ≡ old ++ line → new ≡ mid ++ newline ∷ []
+    → new ≡ old ++ with_newline line
 line-with_newline old mid new line added end =
     end ∙ ap (λ (v : List ℕ). v ++ newline ∷ []) added ∙ append_assoc old line (newline ∷ [])
 
 -- a desk with the two rules alone stands before the first line
-pub first-line : (session : SessionState) → setup_of session.desk ≡ record { loaders = []; rules = Now ∷ Cred ∷ []; handles = [] } → Represents script_policy session.desk [] → session.had_event ≡ false → RepresentsItems session []
+pub first-line : (session : SessionState)
+    → setup_of session.desk ≡ record { loaders = []; rules = Now ∷ Cred ∷ []; handles = [] }
+    → Represents script_policy session.desk [] → session.had_event ≡ false → RepresentsItems session []
 unfolding setup_in events_in expected_entries
 first-line session setup fresh none = record { setup = setup; stepped = []; events = refl; represents = fresh; note = none }
 
 -- a reply that isn't out of memory
-pub not-out_of_memory : (reply : Reply ScriptCredential) → is_out_of_memory reply ≡ false → reply ≡ OutOfMemory → ⊥
+pub not-out_of_memory : (reply : Reply ScriptCredential) → is_out_of_memory reply ≡ false
+    → reply ≡ OutOfMemory → ⊥
 not-out_of_memory reply good lost = let e : is_out_of_memory reply ≡ true = ap (λ (r : Reply ScriptCredential). is_out_of_memory r) lost in absurd (cc)
 
 -- the note of a version leaves what a session represents
-noted : (session : SessionState) (items : List ScriptItem) (version : Option ScriptVersion) → RepresentsItems session items → RepresentsItems (record session { version = version }) items
+noted : (session : SessionState) (items : List ScriptItem) (version : Option ScriptVersion)
+    → RepresentsItems session items → RepresentsItems (record session { version = version }) items
 noted session items version r = record { setup = r.setup; stepped = r.stepped; events = r.events; represents = r.represents; note = r.note }
 
 -- after the version line
-pub next-version : (inside session : SessionState) → inside ≡ session → SessionRepresents session [] → SessionRepresents (record inside { version = Some Two }) (VersionTwo ∷ [])
+pub next-version : (inside session : SessionState) → inside ≡ session → SessionRepresents session []
+    → SessionRepresents (record inside { version = Some Two }) (VersionTwo ∷ [])
 unfolding items_in
 next-version inside session seen r = record { items = noted inside [] (Some Two) (as_seen inside session [] seen r.items); version = refl }
 
 -- after a line that says something
-pub next-says : (inside session : SessionState) (lines : List ScriptLine) (item : ScriptItem) (version : ScriptVersion) → inside ≡ session → RepresentsItems session (items_in lines ++ item ∷ [])
-    → Some version ≡ Some (version_in lines) → SessionRepresents (record inside { version = Some version }) (lines ++ Says item ∷ [])
+pub next-says : (inside session : SessionState) (lines : List ScriptLine) (item : ScriptItem)
+    (version : ScriptVersion) → inside ≡ session → RepresentsItems session (items_in lines ++ item ∷ [])
+    → Some version ≡ Some (version_in lines)
+    → SessionRepresents (record inside { version = Some version }) (lines ++ Says item ∷ [])
 next-says inside session lines item version seen r v =
     let P : List ScriptItem → Type 0 = λ items. RepresentsItems (record inside { version = Some version }) items in record {
       items = subst P (sym (items_in-says lines item)) (noted inside _ (Some version) (as_seen inside session _ seen r));
@@ -225,7 +271,9 @@ next-says inside session lines item version seen r v =
     }
 
 -- a session before the first line
-pub first-session : (desk : DeskState ScriptCredential ScriptRule) → setup_of desk ≡ record { loaders = []; rules = Now ∷ Cred ∷ []; handles = [] } → Represents script_policy desk []
+pub first-session : (desk : DeskState ScriptCredential ScriptRule)
+    → setup_of desk ≡ record { loaders = []; rules = Now ∷ Cred ∷ []; handles = [] }
+    → Represents script_policy desk []
     → SessionRepresents (record { desk = desk; had_event = false; version = None }) []
 unfolding items_in
 first-session desk setup fresh = record { items = first-line (record { desk = desk; had_event = false; version = None }) setup fresh refl; version = refl }

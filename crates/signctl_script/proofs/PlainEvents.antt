@@ -31,11 +31,15 @@ plain_event-alike (Signed call answer) = equal (Signed call answer)
 plain_event-alike (Cancel call) = equal (Cancel call)
 
 -- the expected reply
-pub plain-reply : (setup : Setup ScriptRule) (events : List (Event ScriptCredential)) (event : Event ScriptCredential)
-    → expected_reply script_policy setup (expected_entries script_policy setup (map plain_event events)) (plain_event event) ≡ expected_reply script_policy setup (expected_entries script_policy setup events) event
+pub plain-reply : (setup : Setup ScriptRule) (events : List (Event ScriptCredential))
+    (event : Event ScriptCredential)
+    → expected_reply script_policy setup (expected_entries script_policy setup (map plain_event events))
+    (plain_event event)
+    ≡ expected_reply script_policy setup (expected_entries script_policy setup events) event
 plain-reply setup events event = expected_reply-map script_policy setup plain_event plain_event-alike events event
 
 -- the caches
 pub plain-cache : (setup : Setup ScriptRule) (events : List (Event ScriptCredential)) (i : ℕ)
-    → sequential_cache script_policy setup (expected_entries script_policy setup (map plain_event events)) i ≡ sequential_cache script_policy setup (expected_entries script_policy setup events) i
+    → sequential_cache script_policy setup (expected_entries script_policy setup (map plain_event events)) i
+    ≡ sequential_cache script_policy setup (expected_entries script_policy setup events) i
 plain-cache setup events i = sequential_cache-map script_policy setup plain_event plain_event-alike events i

@@ -21,11 +21,12 @@ plays_none rounds = λ entries r.
     )
 
 -- one event, by its entry
-pub plays-one : (old new : Rounds) (entries : List (Entry ScriptCredential)) (event : Event ScriptCredential) (entry : Entry ScriptCredential)
-    → entry ≡ load_entry entries event
+pub plays-one : (old new : Rounds) (entries : List (Entry ScriptCredential)) (event : Event ScriptCredential)
+    (entry : Entry ScriptCredential) → entry ≡ load_entry entries event
     → RoundsRepresent new (entries ++ load_entry entries event ∷ [])
     → new.signed.items ≡ old.signed.items ++ signed_calls (entry ∷ [])
-    → RoundsRepresent new (entries ++ entries_after entries (event ∷ [])) × (new.signed.items ≡ old.signed.items ++ signed_calls (entries_after entries (event ∷ [])))
+    → RoundsRepresent new (entries ++ entries_after entries (event ∷ []))
+    × (new.signed.items ≡ old.signed.items ++ signed_calls (entries_after entries (event ∷ [])))
 plays-one old new entries event entry is r noted =
     let one = entries_after-one entries event in (
       as_spelled new _ _ (ap (λ (v : List (Entry ScriptCredential)). entries ++ v) (sym one)) r,
@@ -35,7 +36,8 @@ plays-one old new entries event entry is r noted =
     )
 
 -- some events, and others after them
-pub plays_append : (xs ys : List (Event ScriptCredential)) (a b c : Rounds) → Plays xs a b → Plays ys b c → Plays (xs ++ ys) a c
+pub plays_append : (xs ys : List (Event ScriptCredential)) (a b c : Rounds) → Plays xs a b → Plays ys b c
+    → Plays (xs ++ ys) a c
 plays_append xs ys a b c first second = λ entries r.
     let asked = entries_after entries xs in
     let later = entries_after (entries ++ asked) ys in
@@ -50,12 +52,14 @@ plays_append xs ys a b c first second = λ entries r.
     )
 
 -- one event, and others after it
-pub plays_first : (x : Event ScriptCredential) (ys : List (Event ScriptCredential)) (a b c : Rounds) → Plays (x ∷ []) a b → Plays ys b c → Plays (x ∷ ys) a c
+pub plays_first : (x : Event ScriptCredential) (ys : List (Event ScriptCredential)) (a b c : Rounds)
+    → Plays (x ∷ []) a b → Plays ys b c → Plays (x ∷ ys) a c
 plays_first x ys a b c first second = plays_append (x ∷ []) ys a b c first second
 
 -- the events of some calls, and that of the next call
-pub plays_next : (f : CallId → Event ScriptCredential) (calls : List CallId) (i : ℕ) (d : CallId) (event : Event ScriptCredential) (a b c : Rounds)
-    → i < length calls → event ≡ f (get_or calls i d) → Plays (map f (take i calls)) a b → Plays (event ∷ []) b c → Plays (map f (take (i + 1) calls)) a c
+pub plays_next : (f : CallId → Event ScriptCredential) (calls : List CallId) (i : ℕ) (d : CallId)
+    (event : Event ScriptCredential) (a b c : Rounds) → i < length calls → event ≡ f (get_or calls i d)
+    → Plays (map f (take i calls)) a b → Plays (event ∷ []) b c → Plays (map f (take (i + 1) calls)) a c
 plays_next f calls i d event a b c within made so_far one =
     let call = get_or calls i d in
     let more : map f (take (i + 1) calls) ≡ map f (take i calls) ++ f call ∷ [] =
@@ -69,7 +73,8 @@ find-none round [] none = refl
 find-none round (first ∷ others) none = absurd (omega arith)
 
 pub find-more : (round : ℕ) (calls : List CallId) (d : CallId) → 1 ≤ length calls
-    → find_events round calls ≡ found_event round (get_or calls 0 d) ∷ map (poll_event round 2) (take (length calls - 1) (drop 1 calls))
+    → find_events round calls
+    ≡ found_event round (get_or calls 0 d) ∷ map (poll_event round 2) (take (length calls - 1) (drop 1 calls))
 find-more round [] d some = absurd (omega arith)
 find-more round (first ∷ others) d some =
     ap (λ (v : List CallId). found_event round first ∷ map (poll_event round 2) v) (sym (take_all (length (first ∷ others) - 1) others (omega arith)))
@@ -88,17 +93,20 @@ cancel-none round [] none = refl
 cancel-none round (first ∷ others) none = absurd (omega arith)
 
 pub cancel-more : (round : ℕ) (calls : List CallId) (d : CallId) → 1 ≤ length calls
-    → cancel_events round calls ≡ Cancel (get_or calls 0 d) ∷ take_over_events round (take (length calls - 1) (drop 1 calls))
+    → cancel_events round calls
+    ≡ Cancel (get_or calls 0 d) ∷ take_over_events round (take (length calls - 1) (drop 1 calls))
 cancel-more round [] d some = absurd (omega arith)
 cancel-more round (first ∷ others) d some =
     ap (λ (v : List CallId). Cancel first ∷ take_over_events round v) (sym (take_all (length (first ∷ others) - 1) others (omega arith)))
 
 -- events that are known to be these
-pub plays-these : (events these : List (Event ScriptCredential)) (a b : Rounds) → these ≡ events → Plays events a b → Plays these a b
+pub plays-these : (events these : List (Event ScriptCredential)) (a b : Rounds) → these ≡ events
+    → Plays events a b → Plays these a b
 plays-these events these a b are played = subst (λ (v : List (Event ScriptCredential)). Plays v a b) (sym are) played
 
 -- an event that is known to be this one, and others after it
-pub plays-made : (event made : Event ScriptCredential) (later these : List (Event ScriptCredential)) (a b c : Rounds)
-    → event ≡ made → these ≡ made ∷ later → Plays (event ∷ []) a b → Plays later b c → Plays these a c
+pub plays-made : (event made : Event ScriptCredential) (later these : List (Event ScriptCredential))
+    (a b c : Rounds) → event ≡ made → these ≡ made ∷ later → Plays (event ∷ []) a b → Plays later b c
+    → Plays these a c
 plays-made event made later these a b c is are first second =
     plays-these (made ∷ later) these a c are (plays_first made later a b c (subst (λ (v : Event ScriptCredential). Plays (v ∷ []) a b) is first) second)

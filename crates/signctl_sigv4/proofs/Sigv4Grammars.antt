@@ -32,7 +32,8 @@ item_with credential scope moment asked head = record { credential = credential;
 
 -- ---- what reads as an item spells it
 
-item_form-some : (f : Form) (line : List ℕ) (ws : List (List ℕ)) (item : Sigv4Item) → words line ≡ form_name f ∷ ws → item_form f ws ≡ Some item → SpellsSigv4 line item
+item_form-some : (f : Form) (line : List ℕ) (ws : List (List ℕ)) (item : Sigv4Item)
+    → words line ≡ form_name f ∷ ws → item_form f ws ≡ Some item → SpellsSigv4 line item
 unfolding item_form
 item_form-some f line ws item named e =
     let Read : Type 0 = Asked × List (List ℕ) in
@@ -51,7 +52,8 @@ item_form-some f line ws item named e =
     subst (λ (i : Sigv4Item). SpellsSigv4 line i) {x = item_with c.0.0 s.0.0 t.0.0 a.0.0 h.0} (some_is (item_with c.0.0 s.0.0 t.0.0 a.0.0 h.0) item h.2)
     (record { credential = credential.1; scope = scope.1; moment = now.1; asked = asked.1; head = head.1 }, parted)
 
-words_say-some : (line : List ℕ) (ws : List (List ℕ)) (item : Sigv4Item) → words line ≡ ws → sigv4_words_say ws ≡ Some item → SpellsSigv4 line item
+words_say-some : (line : List ℕ) (ws : List (List ℕ)) (item : Sigv4Item) → words line ≡ ws
+    → sigv4_words_say ws ≡ Some item → SpellsSigv4 line item
 unfolding sigv4_words_say
 words_say-some line [] item parted e = absurd cc
 words_say-some line (name ∷ ws) item parted e =
@@ -81,11 +83,13 @@ reads : (line : List ℕ) (item : Sigv4Item) → SpellsSigv4 line item ↔ (sigv
 reads line item = (item_of-spelled line item, item_of-some line item)
 
 -- the grammar is decided
-pub decided : (before : List (Option Sigv4Item)) (line : List ℕ) (item : Option Sigv4Item) → SpellsLine SpellsSigv4 line item ↔ (sigv4_command.read before line ≡ Ok item)
+pub decided : (before : List (Option Sigv4Item)) (line : List ℕ) (item : Option Sigv4Item)
+    → SpellsLine SpellsSigv4 line item ↔ (sigv4_command.read before line ≡ Ok item)
 decided before line item = said.decided SpellsSigv4 sigv4_item_of reads line item
 
 -- a line says at most one thing
-pub one_item : (line : List ℕ) (a b : Option Sigv4Item) → SpellsLine SpellsSigv4 line a → SpellsLine SpellsSigv4 line b → a ≡ b
+pub one_item : (line : List ℕ) (a b : Option Sigv4Item) → SpellsLine SpellsSigv4 line a
+    → SpellsLine SpellsSigv4 line b → a ≡ b
 one_item line a b first second = said.one_thing SpellsSigv4 sigv4_item_of reads line a b first second
 
 -- an item has at most one spelling
@@ -105,7 +109,8 @@ parted item fits =
     words_of_line (one_word (visible_asked_name item.asked) (one_word (visible_access item.credential.access item.credential.secret fits.credential.accepted) (one_word (visible_secret item.credential.secret fits.credential.bytes) (one_word places.0 (one_word places.1 (one_word (visible_moment One item.moment fits.moment) (visible_asked item.asked (head_words item.head) fits.asked (visible_head item.head fits.head))))))))
 
 -- an item whose parts a line may name is spelled by the line of its words
-pub spelled : (item : Sigv4Item) → IsSigv4Item item → SpellsLine SpellsSigv4 (line_of (sigv4_words item)) (Some item)
+pub spelled : (item : Sigv4Item) → IsSigv4Item item
+    → SpellsLine SpellsSigv4 (line_of (sigv4_words item)) (Some item)
 spelled item fits =
     let parts = parted item fits in
     (said.loud_line (line_of (sigv4_words item)) (asked_name item.asked) _ parts (loud_name item.asked), (fits, parts))

@@ -28,7 +28,8 @@ use Rattle.signctl_sigv4.specs.Sigv4Reading.{as_word, credential_of, credential_
 -- ---- credentials
 
 -- the words of a credential read as it, with the words after it
-pub credential_at-words : (c : Credential) (rest : List (List ℕ)) → IsLineKey c → credential_at (c.access ∷ value_word c.secret ∷ rest) ≡ Some (c, rest)
+pub credential_at-words : (c : Credential) (rest : List (List ℕ)) → IsLineKey c
+    → credential_at (c.access ∷ value_word c.secret ∷ rest) ≡ Some (c, rest)
 unfolding credential_at
 credential_at-words c rest fits =
     let read = value_of-word c.secret fits.bytes in
@@ -40,7 +41,8 @@ abbrev pub SpellsKey : List (List ℕ) → Credential → List (List ℕ) → Ty
 SpellsKey ws c rest = (ws ≡ c.access ∷ value_word c.secret ∷ rest) × IsLineKey c
 
 -- words that read as a credential and others begin with its words
-pub credential_at-some : (ws : List (List ℕ)) (p : Credential × List (List ℕ)) → credential_at ws ≡ Some p → SpellsKey ws p.0 p.1
+pub credential_at-some : (ws : List (List ℕ)) (p : Credential × List (List ℕ)) → credential_at ws ≡ Some p
+    → SpellsKey ws p.0 p.1
 unfolding credential_at
 credential_at-some ws p e =
     let a = bind_some (first_word as_word ws) (λ (a : List ℕ × List (List ℕ)). first_word value_of a.1 >>= λ (s : List ℕ × List (List ℕ)). credential_of a.0 s.0 >>= λ (c : Credential). Some (c, s.1)) p e in
@@ -58,7 +60,8 @@ credential_at-some ws p e =
     subst (λ (q : Credential × List (List ℕ)). SpellsKey ws q.0 q.1) whole spelled
 
 -- an access key is visible
-pub visible_access : (access secret : List ℕ) → is_credential access secret ≡ true → is_visible_word access ≡ true
+pub visible_access : (access secret : List ℕ) → is_credential access secret ≡ true
+    → is_visible_word access ≡ true
 visible_access access secret accepted =
     let parts = and_parts (nat_lt 0 (length access)) _ accepted in
     (and_parts (list_all is_ascii_graphic access) _ parts.1).0
@@ -67,13 +70,15 @@ plain_visible : (b : ℕ) → is_plain b ≡ true → is_visible b ≡ true
 plain_visible b plain = (and_parts (is_visible b) _ plain).0
 
 -- and so is the word of a secret
-pub visible_secret : (secret : List ℕ) → list_all is_byte secret ≡ true → is_visible_word (value_word secret) ≡ true
+pub visible_secret : (secret : List ℕ) → list_all is_byte secret ≡ true
+    → is_visible_word (value_word secret) ≡ true
 visible_secret secret fits = visible_escapes is_plain plain_visible secret fits
 
 -- ---- scopes
 
 -- the words of a scope read as it, with the words after it
-pub scope_at-words : (s : Scope) (rest : List (List ℕ)) → is_scope s.region s.service ≡ true → scope_at (s.region ∷ s.service ∷ rest) ≡ Some (s, rest)
+pub scope_at-words : (s : Scope) (rest : List (List ℕ)) → is_scope s.region s.service ≡ true
+    → scope_at (s.region ∷ s.service ∷ rest) ≡ Some (s, rest)
 unfolding scope_at
 scope_at-words s rest fits = rw fits refl
 
@@ -82,7 +87,8 @@ abbrev pub SpellsScope : List (List ℕ) → Scope → List (List ℕ) → Type 
 SpellsScope ws s rest = (ws ≡ s.region ∷ s.service ∷ rest) × (is_scope s.region s.service ≡ true)
 
 -- words that read as a scope and others begin with its words
-pub scope_at-some : (ws : List (List ℕ)) (p : Scope × List (List ℕ)) → scope_at ws ≡ Some p → SpellsScope ws p.0 p.1
+pub scope_at-some : (ws : List (List ℕ)) (p : Scope × List (List ℕ)) → scope_at ws ≡ Some p
+    → SpellsScope ws p.0 p.1
 unfolding scope_at
 scope_at-some ws p e =
     let r = bind_some (first_word as_word ws) (λ (r : List ℕ × List (List ℕ)). first_word as_word r.1 >>= λ (s : List ℕ × List (List ℕ)). scope_of r.0 s.0 >>= λ (c : Scope). Some (c, s.1)) p e in
@@ -99,7 +105,8 @@ scope_at-some ws p e =
     subst (λ (q : Scope × List (List ℕ)). SpellsScope ws q.0 q.1) whole (parted, test.0)
 
 -- a byte between two visible ones is visible
-within : (low high b : ℕ) → leb 0x21 low ≡ true → leb high 0x7e ≡ true → (leb low b ≡ true) × (leb b high ≡ true) → is_visible b ≡ true
+within : (low high b : ℕ) → leb 0x21 low ≡ true → leb high 0x7e ≡ true
+    → (leb low b ≡ true) × (leb b high ≡ true) → is_visible b ≡ true
 within low high b first last range =
     let bottom = leb-true 0x21 low first in
     let top = leb-true high 0x7e last in
@@ -122,7 +129,8 @@ visible_name name fits =
     all_wider is_scope_byte is_visible visible_scope_byte name parts.1
 
 -- a region and a service are visible
-pub visible_scope : (region service : List ℕ) → is_scope region service ≡ true → (is_visible_word region ≡ true) × (is_visible_word service ≡ true)
+pub visible_scope : (region service : List ℕ) → is_scope region service ≡ true
+    → (is_visible_word region ≡ true) × (is_visible_word service ≡ true)
 visible_scope region service fits =
     let parts = and_parts (is_scope_name region) (is_scope_name service) fits in
     (visible_name region parts.0, visible_name service parts.1)
@@ -179,7 +187,8 @@ asked_name-form (Presign seconds) = refl
 asked_name-form Verify = refl
 
 -- the words of what is asked read as it, with the words after it
-pub asked_at-words : (asked : Asked) (rest : List (List ℕ)) → IsLineAsked asked → asked_at (form_of asked) (asked_words asked ++ rest) ≡ Some (asked, rest)
+pub asked_at-words : (asked : Asked) (rest : List (List ℕ)) → IsLineAsked asked
+    → asked_at (form_of asked) (asked_words asked ++ rest) ≡ Some (asked, rest)
 unfolding asked_at
 asked_at-words (Sign payload) rest fits = rw fits refl
 asked_at-words (Presign seconds) rest fits = rw (number_at-decimal greatest_u32 seconds rest fits (omega arith)) refl
@@ -190,7 +199,8 @@ abbrev pub SpellsAsked : Form → List (List ℕ) → Asked → List (List ℕ) 
 SpellsAsked f ws asked rest = (ws ≡ asked_words asked ++ rest) × IsLineAsked asked × (asked_name asked ≡ form_name f)
 
 -- words that read as what is asked and others begin with its words
-pub asked_at-some : (f : Form) (ws : List (List ℕ)) (p : Asked × List (List ℕ)) → asked_at f ws ≡ Some p → SpellsAsked f ws p.0 p.1
+pub asked_at-some : (f : Form) (ws : List (List ℕ)) (p : Asked × List (List ℕ)) → asked_at f ws ≡ Some p
+    → SpellsAsked f ws p.0 p.1
 unfolding asked_at
 asked_at-some form.Sign ws p e =
     let b = bind_some (first_word payload_of ws) (λ (w : List ℕ × List (List ℕ)). Some (Sign w.0, w.1)) p e in
@@ -211,7 +221,8 @@ visible_seconds : (n : ℕ) → n ≤ greatest_u32 → is_visible_word (decimal 
 visible_seconds n fits = all_wider is_digit is_visible digit_visible (decimal n) (decimal_of_digits n (omega (arith, fits)))
 
 -- the words of what is asked are visible, and those after them
-pub visible_asked : (asked : Asked) (rest : List (List ℕ)) → IsLineAsked asked → AreVisibleWords rest → AreVisibleWords (asked_words asked ++ rest)
+pub visible_asked : (asked : Asked) (rest : List (List ℕ)) → IsLineAsked asked → AreVisibleWords rest
+    → AreVisibleWords (asked_words asked ++ rest)
 visible_asked (Sign payload) rest fits visible = one_word (visible_payload payload fits) visible
 visible_asked (Presign seconds) rest fits visible = one_word (visible_seconds seconds fits) visible
 visible_asked Verify rest fits visible = visible

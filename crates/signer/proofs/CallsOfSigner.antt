@@ -24,7 +24,8 @@ written (z ∷ zs) zero x y e = cc
 written (z ∷ zs) (suc i) x y e = written zs i x y e
 
 -- an item of a list with one more stands in the list, or is that one
-appended : {A : Type 0} (xs : List A) (x y : A) (k : ℕ) → slice_get (xs ++ x ∷ []) k ≡ Some y → (slice_get xs k ≡ Some y) ⊎ ((k ≡ length xs) × (x ≡ y))
+appended : {A : Type 0} (xs : List A) (x y : A) (k : ℕ) → slice_get (xs ++ x ∷ []) k ≡ Some y
+    → (slice_get xs k ≡ Some y) ⊎ ((k ≡ length xs) × (x ≡ y))
 appended [] x y zero e = inr (refl, cc)
 appended [] x y (suc k) e = absurd (cc)
 appended (z ∷ zs) x y zero e = inl e
@@ -39,14 +40,18 @@ module _ {P S K C L W : Type 0} (m : Meanings P S K C L W) where
   }
 
   -- `sign` begins the next one
-  pub calls-begun : (policy : Policy K S) (old new : SignerState P S K C) (parts : Parts) (calls : List (Option (Sign P S K C L C W K))) (sign : Sign P S K C L C W K)
-      → AreCallsOf m old calls → Begins m policy (record { old = old; new = new }) parts sign → AreCallsOf m new (calls ++ Some sign ∷ [])
+  pub calls-begun : (policy : Policy K S) (old new : SignerState P S K C) (parts : Parts)
+      (calls : List (Option (Sign P S K C L C W K))) (sign : Sign P S K C L C W K) → AreCallsOf m old calls
+      → Begins m policy (record { old = old; new = new }) parts sign
+      → AreCallsOf m new (calls ++ Some sign ∷ [])
   calls-begun policy old new parts calls sign all b = record {
     begun = length-append calls (Some sign ∷ []) ∙ ap (λ n. n + 1) all.begun ∙ sym (ap (λ (s : SignerState P S K C). s.begun) b.next);
     at = λ n other is. by_place n other (appended calls (Some sign) (Some other) n is);
   }
     where
-      by_place : (n : ℕ) (other : Sign P S K C L C W K) → (slice_get calls n ≡ Some (Some other)) ⊎ ((n ≡ length calls) × ((let x : Option (Sign P S K C L C W K) = Some sign in x) ≡ Some other))
+      by_place : (n : ℕ) (other : Sign P S K C L C W K)
+          → (slice_get calls n ≡ Some (Some other))
+          ⊎ ((n ≡ length calls) × ((let x : Option (Sign P S K C L C W K) = Some sign in x) ≡ Some other))
           → (other.begun.id.number ≡ n) × IsIssuedBy m new other
       by_place n other (inl h) =
           let was = all.at n other h in
@@ -61,10 +66,12 @@ module _ {P S K C L W : Type 0} (m : Meanings P S K C L W) where
           subst (λ (x : Sign P S K C L C W K). (x.begun.id.number ≡ n) × IsIssuedBy m new x) same (b.number ∙ sym all.begun ∙ sym h.0, b.issued)
 
   -- what is done with one call leaves the others where they are, and at its place its state or none
-  changed : (old new : SignerState P S K C) (calls next : List (Option (Sign P S K C L C W K))) (n : ℕ) (sign : Sign P S K C L C W K) → AreCallsOf m old calls
-      → slice_get calls n ≡ Some (Some sign) → new ≡ record old { desk = new.desk } → KeepsOthers m sign.begun.id (record { old = old; new = new }) → length next ≡ length calls
-      → ((k : ℕ) → (n ≡ k → ⊥) → slice_get next k ≡ slice_get calls k)
-      → ((left : Sign P S K C L C W K) → slice_get next n ≡ Some (Some left) → (left.begun.id ≡ sign.begun.id) × IsIssuedBy m new left)
+  changed : (old new : SignerState P S K C) (calls next : List (Option (Sign P S K C L C W K))) (n : ℕ)
+      (sign : Sign P S K C L C W K) → AreCallsOf m old calls → slice_get calls n ≡ Some (Some sign)
+      → new ≡ record old { desk = new.desk } → KeepsOthers m sign.begun.id (record { old = old; new = new })
+      → length next ≡ length calls → ((k : ℕ) → (n ≡ k → ⊥) → slice_get next k ≡ slice_get calls k)
+      → ((left : Sign P S K C L C W K) → slice_get next n ≡ Some (Some left)
+      → (left.begun.id ≡ sign.begun.id) × IsIssuedBy m new left)
       → AreCallsOf m new next
   changed old new calls next n sign all is same keeps len apart here = record {
     begun = len ∙ all.begun ∙ sym (ap (λ (s : SignerState P S K C). s.begun) same);
@@ -74,7 +81,8 @@ module _ {P S K C L W : Type 0} (m : Meanings P S K C L W) where
       number : sign.begun.id.number ≡ n
       number = (all.at n sign is).0
 
-      by_place : (k : ℕ) (left : Sign P S K C L C W K) → slice_get next k ≡ Some (Some left) → ((eqb n k ≡ true) × (n ≡ k)) ⊎ ((eqb n k ≡ false) × (n ≢ k))
+      by_place : (k : ℕ) (left : Sign P S K C L C W K) → slice_get next k ≡ Some (Some left)
+          → ((eqb n k ≡ true) × (n ≡ k)) ⊎ ((eqb n k ≡ false) × (n ≢ k))
           → (left.begun.id.number ≡ k) × IsIssuedBy m new left
       by_place k left there (inl h) =
           let own = here left (ap (λ j. slice_get next j) h.1 ∙ there) in
@@ -84,13 +92,16 @@ module _ {P S K C L W : Type 0} (m : Meanings P S K C L W) where
           (was.0, keeps left (λ own. h.1 (sym number ∙ sym (ap (λ (c : CallId). c.number) own) ∙ was.0)) was.1)
 
   -- a call that is over, or is not kept
-  pub calls-without : (signer : SignerState P S K C) (calls : List (Option (Sign P S K C L C W K))) (n : ℕ) → AreCallsOf m signer calls → AreCallsOf m signer (slice_set calls n None)
+  pub calls-without : (signer : SignerState P S K C) (calls : List (Option (Sign P S K C L C W K))) (n : ℕ)
+      → AreCallsOf m signer calls → AreCallsOf m signer (slice_set calls n None)
   calls-without signer calls n all = record {
     begun = length-set calls n None ∙ all.begun;
     at = λ k sign is. by_place k sign is (eqb_tells n k);
   }
     where
-      by_place : (k : ℕ) (sign : Sign P S K C L C W K) → slice_get (slice_set calls n None) k ≡ Some (Some sign) → ((eqb n k ≡ true) × (n ≡ k)) ⊎ ((eqb n k ≡ false) × (n ≢ k))
+      by_place : (k : ℕ) (sign : Sign P S K C L C W K)
+          → slice_get (slice_set calls n None) k ≡ Some (Some sign)
+          → ((eqb n k ≡ true) × (n ≡ k)) ⊎ ((eqb n k ≡ false) × (n ≢ k))
           → (sign.begun.id.number ≡ k) × IsIssuedBy m signer sign
       by_place k sign is (inl h) =
           let e : (let x : Option (Sign P S K C L C W K) = None in x) ≡ Some sign = written calls n None (Some sign) (ap (λ j. slice_get (slice_set calls n None) j) h.1 ∙ is) in
@@ -98,8 +109,10 @@ module _ {P S K C L W : Type 0} (m : Meanings P S K C L W) where
       by_place k sign is (inr h) = all.at k sign (sym (slice_get-set_other calls n k None h.1) ∙ is)
 
   -- `cancel` ends one of them
-  pub calls-cancelled : (old new : SignerState P S K C) (calls : List (Option (Sign P S K C L C W K))) (n : ℕ) (sign : Sign P S K C L C W K) → AreCallsOf m old calls
-      → slice_get calls n ≡ Some (Some sign) → new ≡ record old { desk = new.desk } → KeepsOthers m sign.begun.id (record { old = old; new = new }) → AreCallsOf m new (slice_set calls n None)
+  pub calls-cancelled : (old new : SignerState P S K C) (calls : List (Option (Sign P S K C L C W K))) (n : ℕ)
+      (sign : Sign P S K C L C W K) → AreCallsOf m old calls → slice_get calls n ≡ Some (Some sign)
+      → new ≡ record old { desk = new.desk } → KeepsOthers m sign.begun.id (record { old = old; new = new })
+      → AreCallsOf m new (slice_set calls n None)
   calls-cancelled old new calls n sign all is same keeps =
       changed old new calls (slice_set calls n None) n sign all is same keeps (length-set calls n None)
       (λ k apart. slice_get-set_other calls n k None apart)
@@ -107,8 +120,9 @@ module _ {P S K C L W : Type 0} (m : Meanings P S K C L W) where
       let e : (let x : Option (Sign P S K C L C W K) = None in x) ≡ Some left = written calls n None (Some left) there in
       absurd (cc))
 
-  handed_back : (signer : SignerState P S K C) (call : CallId) (a : SignAnswer P S K C L C W K) → IsAnswerIssuedBy m signer call a
-      → (sign : Sign P S K C L C W K) → state_back a ≡ Some sign → (sign.begun.id ≡ call) × IsIssuedBy m signer sign
+  handed_back : (signer : SignerState P S K C) (call : CallId) (a : SignAnswer P S K C L C W K)
+      → IsAnswerIssuedBy m signer call a → (sign : Sign P S K C L C W K) → state_back a ≡ Some sign
+      → (sign.begun.id ≡ call) × IsIssuedBy m signer sign
   handed_back signer call (answer.Pending back) issued sign is =
       let same : back ≡ sign = cc in
       subst (λ (x : Sign P S K C L C W K). (x.begun.id ≡ call) × IsIssuedBy m signer x) same issued
@@ -119,8 +133,10 @@ module _ {P S K C L W : Type 0} (m : Meanings P S K C L W) where
   handed_back signer call (answer.Refused why) issued sign is = absurd (cc)
 
   -- `poll` of one of them leaves the state that it hands back
-  pub calls-polled : (old new : SignerState P S K C) (calls : List (Option (Sign P S K C L C W K))) (n : ℕ) (sign : Sign P S K C L C W K) (a : SignAnswer P S K C L C W K) → AreCallsOf m old calls
-      → slice_get calls n ≡ Some (Some sign) → new ≡ record old { desk = new.desk } → KeepsOthers m sign.begun.id (record { old = old; new = new }) → IsAnswerIssuedBy m new sign.begun.id a
+  pub calls-polled : (old new : SignerState P S K C) (calls : List (Option (Sign P S K C L C W K))) (n : ℕ)
+      (sign : Sign P S K C L C W K) (a : SignAnswer P S K C L C W K) → AreCallsOf m old calls
+      → slice_get calls n ≡ Some (Some sign) → new ≡ record old { desk = new.desk }
+      → KeepsOthers m sign.begun.id (record { old = old; new = new }) → IsAnswerIssuedBy m new sign.begun.id a
       → AreCallsOf m new (slice_set calls n (state_back a))
   calls-polled old new calls n sign a all is same keeps issued =
       changed old new calls (slice_set calls n (state_back a)) n sign all is same keeps (length-set calls n (state_back a))

@@ -25,7 +25,8 @@ module _ {K D : Type 0} where
   pub leaves-self : (call : CallId) (desk : DeskState K D) → LeavesOthers call desk desk
   leaves-self call desk = record { loaders = refl; rules = refl; handles = refl; greatest = refl; other_calls = λ other d. refl }
 
-  pub leaves-trans : {call : CallId} {old mid new : DeskState K D} → LeavesOthers call old mid → LeavesOthers call mid new → LeavesOthers call old new
+  pub leaves-trans : {call : CallId} {old mid new : DeskState K D} → LeavesOthers call old mid
+      → LeavesOthers call mid new → LeavesOthers call old new
   leaves-trans a b = record {
     loaders = b.loaders ∙ a.loaders;
     rules = b.rules ∙ a.rules;
@@ -41,8 +42,9 @@ module _ {K : Type 0} where
 
 module _ {K D L W : Type 0} (v : PolledCall K D L W) where
   -- a desk that represents a transcript represents it with the events of the course after it
-  pub course-represents : (state : SignState K L W) (old new : DeskState K D) (run : PollRun K L W) → IsCourse v state old run new
-      → (entries : List (Entry K)) → Represents v.policy old entries → Represents v.policy new (entries ++ run.entries)
+  pub course-represents : (state : SignState K L W) (old new : DeskState K D) (run : PollRun K L W)
+      → IsCourse v state old run new → (entries : List (Entry K)) → Represents v.policy old entries
+      → Represents v.policy new (entries ++ run.entries)
   course-represents state old new run (stops s desk end stop) entries stood = subst (Represents v.policy desk) (sym (append-nil entries)) stood
   course-represents state old new run (ends s o n event answered end given step memory by) entries stood = step.represents entries stood
   course-represents state old new run (goes_on s next o between n event answered rest given step after course) entries stood =
@@ -51,8 +53,10 @@ module _ {K D L W : Type 0} (v : PolledCall K D L W) where
       subst (Represents v.policy new) (append_assoc entries (e ∷ []) rest.entries) more
 
   -- a step that makes no event
-  pub ends-without : (state : SignState K L W) (desk : DeskState K D) (change : StepChange K D) (end : StepEnd K L W) (by : PollEnd K L W) → change.old ≡ desk → change.new ≡ desk
-      → StopsAt v.meaning state by → IsStepEnd end change.before change.after by → IsEndIssued v desk end → Ends v state change None end
+  pub ends-without : (state : SignState K L W) (desk : DeskState K D) (change : StepChange K D)
+      (end : StepEnd K L W) (by : PollEnd K L W) → change.old ≡ desk → change.new ≡ desk
+      → StopsAt v.meaning state by → IsStepEnd end change.before change.after by → IsEndIssued v desk end
+      → Ends v state change None end
   ends-without state desk change end by was is stop ended issued = record {
     run = record { entries = []; end = by };
     course = subst (λ d. IsCourse v state d (record { entries = []; end = by }) change.new) (sym was) (subst (λ d. IsCourse v state desk (record { entries = []; end = by }) d) (sym is) (stops state desk by stop));
@@ -69,10 +73,13 @@ module _ {K D L W : Type 0} (v : PolledCall K D L W) where
       names-nobody (Signing credential w) = refl
 
   -- a step whose event ends the poll
-  pub ends-by : (state : SignState K L W) (change : StepChange K D) (event : Event K) (answered : Reply K) (wake : Option CallId) (end : StepEnd K L W) (by : PollEnd K L W)
-      → IsGiven v state event → IsStep v.policy event change.old answered change.new → (ClonesAreFree v.clones_freely → RunsOutAtHeads event answered)
-      → EndsBy v.meaning state event answered by → wake ≡ wake_in answered
-      → NamesNobody state wake → IsStepEnd end change.before change.after by → IsEndIssued v change.new end → LeavesOthers v.begun.id change.old change.new → Ends v state change wake end
+  pub ends-by : (state : SignState K L W) (change : StepChange K D) (event : Event K) (answered : Reply K)
+      (wake : Option CallId) (end : StepEnd K L W) (by : PollEnd K L W) → IsGiven v state event
+      → IsStep v.policy event change.old answered change.new
+      → (ClonesAreFree v.clones_freely → RunsOutAtHeads event answered)
+      → EndsBy v.meaning state event answered by → wake ≡ wake_in answered → NamesNobody state wake
+      → IsStepEnd end change.before change.after by → IsEndIssued v change.new end
+      → LeavesOthers v.begun.id change.old change.new → Ends v state change wake end
   ends-by state change event answered wake end by given step memory ends_so named quiet ended issued others = record {
     run = record { entries = record { event = event; reply = answered } ∷ []; end = by };
     course = ends state change.old change.new event answered by given step memory ends_so;
@@ -96,7 +103,8 @@ NamedBefore (Signing credential w) (Some call) = Unit {0}
 NamedBefore state (Some call) = ⊥
 
 module _ {K L W : Type 0} where
-  named-first : (state : SignState K L W) (before after : Option CallId) → NamedBefore state before → NamesNobody state after
+  named-first : (state : SignState K L W) (before after : Option CallId) → NamedBefore state before
+      → NamesNobody state after
       → option_to_list before ++ option_to_list after ≡ option_to_list (option_or before after)
   named-first state None after b n = refl
   named-first (Signing credential w) (Some call) after b n = subst (λ (u : Option CallId). option_to_list (Some call) ++ option_to_list u ≡ option_to_list (option_or (Some call) u)) (sym n) refl
@@ -104,25 +112,29 @@ module _ {K L W : Type 0} where
   named-first (Loading candidate provider l) (Some call) after b n = absurd b
 
   -- a call that goes on has named nobody yet
-  unnamed : (state next : SignState K L W) (before : Option CallId) → ComesLater state next → NamedBefore state before → before ≡ None
+  unnamed : (state next : SignState K L W) (before : Option CallId) → ComesLater state next
+      → NamedBefore state before → before ≡ None
   unnamed state next None later b = refl
   unnamed (Waiting candidate) next (Some call) later b = absurd b
   unnamed (Loading candidate provider l) next (Some call) later b = absurd b
   unnamed (Signing credential w) next (Some call) later b = absurd later
 
-  may-name : (state next : SignState K L W) (wake : Option CallId) → ComesLater state next → NamesNobody state wake
+  may-name : (state next : SignState K L W) (wake : Option CallId) → ComesLater state next
+      → NamesNobody state wake
   may-name (Waiting candidate) next wake later = tt
   may-name (Loading candidate provider l) next wake later = tt
   may-name (Signing credential w) next wake later = absurd later
 
   -- a call is named by a reply by which the call signs
-  named-by : (candidate : Head) (answered : Reply K) (next : SignState K L W) → state_after candidate answered ≡ Some next → NamedBefore next (wake_in answered)
+  named-by : (candidate : Head) (answered : Reply K) (next : SignState K L W)
+      → state_after candidate answered ≡ Some next → NamedBefore next (wake_in answered)
   named-by candidate (reply.Ask provider) next after = tt
   named-by candidate (reply.Sign credential wake) next after =
       let signs : Signing credential (work.Unstarted candidate) ≡ next = cc in
       subst (λ n. NamedBefore n wake) signs (by_wake wake)
     where
-      by_wake : (wake : Option CallId) → NamedBefore (let s : SignState K L W = Signing credential (work.Unstarted candidate) in s) wake
+      by_wake : (wake : Option CallId)
+          → NamedBefore (let s : SignState K L W = Signing credential (work.Unstarted candidate) in s) wake
       by_wake None = tt
       by_wake (Some call) = tt
   named-by candidate reply.Pending next after = absurd (cc)
@@ -138,12 +150,15 @@ module _ {K D L W : Type 0} (v : PolledCall K D L W) where
   pub record Reached (start : SignState K L W) (old : DeskState K D) (place : PollPlace K D L W) : Type 0 where
     pub entries : List (Entry K)
     pub named : wakes_in entries ≡ option_to_list place.wake
-    pub leads : (run : PollRun K L W) (new : DeskState K D) → IsCourse v place.state place.desk run new → IsCourse v start old (record { entries = entries ++ run.entries; end = run.end }) new
+    pub leads : (run : PollRun K L W) (new : DeskState K D) → IsCourse v place.state place.desk run new
+        → IsCourse v start old (record { entries = entries ++ run.entries; end = run.end }) new
     pub before : NamedBefore place.state place.wake
     pub others : LeavesOthers v.begun.id old place.desk
     pub issued : IsStateIssued v.meaning v.begun place.desk place.state
 
-  pub reached-start : (start : SignState K L W) (old : DeskState K D) → IsStateIssued v.meaning v.begun old start → Reached start old (record { state = start; desk = old; wake = None })
+  pub reached-start : (start : SignState K L W) (old : DeskState K D)
+      → IsStateIssued v.meaning v.begun old start
+      → Reached start old (record { state = start; desk = old; wake = None })
   reached-start start old issued = record {
     entries = [];
     named = refl;
@@ -153,7 +168,8 @@ module _ {K D L W : Type 0} (v : PolledCall K D L W) where
     issued = issued;
   }
 
-  pub reached-on : (start : SignState K L W) (old : DeskState K D) (place : PollPlace K D L W) → Reached start old place → (change : StepChange K D) → change.old ≡ place.desk
+  pub reached-on : (start : SignState K L W) (old : DeskState K D) (place : PollPlace K D L W)
+      → Reached start old place → (change : StepChange K D) → change.old ≡ place.desk
       → (wake : Option CallId) (next : SignState K L W) → GoesOn v place.state change wake next
       → Reached start old (record { state = next; desk = change.new; wake = option_or place.wake wake })
   reached-on start old place r change from wake next g =
@@ -183,7 +199,8 @@ module _ {K D L W : Type 0} (v : PolledCall K D L W) where
     pub issued : IsEndIssued v change.new end
     pub others : LeavesOthers v.begun.id change.old change.new
 
-  pub reached-end : (start : SignState K L W) (old : DeskState K D) (place : PollPlace K D L W) → Reached start old place → (change : StepChange K D) → change.old ≡ place.desk
+  pub reached-end : (start : SignState K L W) (old : DeskState K D) (place : PollPlace K D L W)
+      → Reached start old place → (change : StepChange K D) → change.old ≡ place.desk
       → (wake : Option CallId) (end : StepEnd K L W) → Ends v place.state change wake end
       → CourseEnds start (record change { old = old }) (option_or place.wake wake) end
   reached-end start old place r change from wake end e = record {

@@ -80,57 +80,74 @@ module _ {K : Type 0} where
   chain-look : (n : ℕ) (cache : Option K) → IsLook (Chain n) (next_of_chain n cache 0)
   chain-look n cache = by_test (nat_lt 0 n) refl
     where
-      by_test : (b : Bool) → nat_lt 0 n ≡ b → IsLook (Chain n) (cond b (let p : Progress K = Asking 0 in p) (Over (Refuse why.Missing) cache))
+      by_test : (b : Bool) → nat_lt 0 n ≡ b
+          → IsLook (Chain n) (cond b (let p : Progress K = Asking 0 in p) (Over (Refuse why.Missing) cache))
       by_test true e = (refl, grind (arith, nat_tests, e))
       by_test false e = refl
 
-  after-look : (loader : Loader) (o : Option (Outcome K)) (cache : Option K) (p : Progress K) → ((cause : Why) → o ≡ Some (Refuse cause) → IsTrue (is_of_look cause)) → IsLook loader p → IsLook loader (after_lookup o cache p)
+  after-look : (loader : Loader) (o : Option (Outcome K)) (cache : Option K) (p : Progress K)
+      → ((cause : Why) → o ≡ Some (Refuse cause) → IsTrue (is_of_look cause)) → IsLook loader p
+      → IsLook loader (after_lookup o cache p)
   after-look loader None cache p h q = q
   after-look loader (Some (HandOut c)) cache p h q = tt
   after-look loader (Some (Refuse cause)) cache p h q = h cause refl
 
-  load-look : (check : K → ℤ → Outcome K) (loader : Loader) (cache : Option K) → IsLook loader (load_progress check loader cache 0 None)
+  load-look : (check : K → ℤ → Outcome K) (loader : Loader) (cache : Option K)
+      → IsLook loader (load_progress check loader cache 0 None)
   load-look check Single cache = (refl, omega arith)
   load-look check (Chain n) cache = chain-look n cache
 
 module _ {K D : Type 0} where
   -- a look refuses for no other cause than a deadline out of range
-  lookup-refuses : (policy : Policy K D) (cache : Option K) (rule : D) (duration : Option ℕ) (now : ℤ) (cause : Why) → cache_lookup policy cache rule duration now ≡ Some (Refuse cause) → IsTrue (is_of_look cause)
+  lookup-refuses : (policy : Policy K D) (cache : Option K) (rule : D) (duration : Option ℕ) (now : ℤ)
+      (cause : Why) → cache_lookup policy cache rule duration now ≡ Some (Refuse cause)
+      → IsTrue (is_of_look cause)
   lookup-refuses policy None rule duration now cause e = absurd (cc)
   lookup-refuses policy (Some c) rule duration now cause e = by_valid (policy.valid c now) (policy.deadline rule c duration now) e
     where
-      by_lasts : (deadline : ℤ) (b : Bool) → cond b (Some (let o : Outcome K = HandOut c in o)) None ≡ Some (Refuse cause) → IsTrue (is_of_look cause)
+      by_lasts : (deadline : ℤ) (b : Bool)
+          → cond b (Some (let o : Outcome K = HandOut c in o)) None ≡ Some (Refuse cause)
+          → IsTrue (is_of_look cause)
       by_lasts deadline true e = absurd (cc)
       by_lasts deadline false e = absurd (cc)
 
-      by_deadline : (d : Option ℤ) → lookup_by policy c now d ≡ Some (Refuse cause) → IsTrue (is_of_look cause)
+      by_deadline : (d : Option ℤ) → lookup_by policy c now d ≡ Some (Refuse cause)
+          → IsTrue (is_of_look cause)
       by_deadline None e = let same : why.Range ≡ cause = cc in subst (λ w. IsTrue (is_of_look w)) same refl
       by_deadline (Some deadline) e = by_lasts deadline (policy.valid_at c deadline now) e
 
-      by_valid : (b : Bool) (d : Option ℤ) → cond b (lookup_by policy c now d) None ≡ Some (Refuse cause) → IsTrue (is_of_look cause)
+      by_valid : (b : Bool) (d : Option ℤ) → cond b (lookup_by policy c now d) None ≡ Some (Refuse cause)
+          → IsTrue (is_of_look cause)
       by_valid true d e = by_deadline d e
       by_valid false d e = absurd (cc)
 
-  look-is : (policy : Policy K D) (cached : Option K) (loader : Loader) (view : LiveCallView) (now : ℤ) (rule : D) → IsLook loader (sequential_call policy cached loader (desk_look_input view now rule))
+  look-is : (policy : Policy K D) (cached : Option K) (loader : Loader) (view : LiveCallView) (now : ℤ)
+      (rule : D) → IsLook loader (sequential_call policy cached loader (desk_look_input view now rule))
   look-is policy cached loader view now rule =
       let input : HoldInput K D = desk_look_input view now rule in
       after-look loader (cache_lookup policy cached rule input.duration now) cached (load_progress (check_refreshed policy rule input.duration) loader cached 0 None)
       (lookup-refuses policy cached rule input.duration now) (load-look (check_refreshed policy rule input.duration) loader cached)
 
-  check-found : (policy : Policy K D) (c : K) (now : ℤ) (d : Option ℤ) → IsFoundLoad (found_progress (check_by policy c now d) None)
+  check-found : (policy : Policy K D) (c : K) (now : ℤ) (d : Option ℤ)
+      → IsFoundLoad (found_progress (check_by policy c now d) None)
   check-found policy c now None = refl
   check-found policy c now (Some deadline) = by_lasts (policy.valid_at c deadline now)
     where
-      by_lasts : (b : Bool) → IsFoundLoad (found_progress (cond b (let o : Outcome K = HandOut c in o) (Refuse (why.Short deadline))) None)
+      by_lasts : (b : Bool)
+          → IsFoundLoad
+          (found_progress (cond b (let o : Outcome K = HandOut c in o) (Refuse (why.Short deadline))) None)
       by_lasts true = tt
       by_lasts false = refl
 
 module _ (K : Type 0) where
-  next-other : (loader : Loader) (count : ℕ) (cause : Why) → IfSome (next_load {K = K} (Some loader) count cause) (IsOtherLoad loader count cause)
+  next-other : (loader : Loader) (count : ℕ) (cause : Why)
+      → IfSome (next_load {K = K} (Some loader) count cause) (IsOtherLoad loader count cause)
   next-other Single count cause = inr refl
   next-other (Chain n) count cause = by_test (nat_lt count n) refl
     where
-      by_test : (b : Bool) → nat_lt count n ≡ b → IsOtherLoad (Chain n) count cause (cond b (let p : Progress K = Asking count in p) (Over (Refuse why.Missing) None))
+      by_test : (b : Bool) → nat_lt count n ≡ b
+          → IsOtherLoad (Chain n) count cause
+          (cond b (let p : Progress K = Asking count in p) (Over (Refuse why.Missing) None))
       by_test true e = (refl, grind (arith, nat_tests, e))
       by_test false e = inl refl
 
@@ -140,7 +157,8 @@ pub record DeskStep {K D : Type 0} (call : CallId) (old new : DeskState K D) (Af
   pub others : LeavesOthers call old new
 
 module _ {K D : Type 0} (old new : DeskState K D) (reply : Reply K) (begun : BegunCall) where
-  leaves : (base : DeskState K D) → SameCalls old base → (live : Option CallRecord) → ChangesOnlyCall base begun.id live new → LeavesOthers begun.id old new
+  leaves : (base : DeskState K D) → SameCalls old base → (live : Option CallRecord)
+      → ChangesOnlyCall base begun.id live new → LeavesOthers begun.id old new
   leaves base s live m = record {
     loaders = m.loaders ∙ s.loaders;
     rules = m.rules ∙ s.rules;
@@ -158,14 +176,17 @@ module _ {K D : Type 0} (old new : DeskState K D) (reply : Reply K) (begun : Beg
     other_calls = λ other d. ap (λ (x : DeskState K D). find_call other x.calls) e;
   }
 
-  provides : LeavesOthers begun.id old new → (handle provider : ℕ) → HasProvider old handle provider → HasProvider new handle provider
+  provides : LeavesOthers begun.id old new → (handle provider : ℕ) → HasProvider old handle provider
+      → HasProvider new handle provider
   provides l handle provider h =
       subst (λ ls. IsSomeAnd (option_and_then (λ (x : Handle). slice_get ls x.cache) (slice_get new.handles handle)) (λ loader. provider < provider_count loader)) (sym l.loaders)
       (subst (λ hs. IsSomeAnd (option_and_then (λ (x : Handle). slice_get old.loaders x.cache) (slice_get hs handle)) (λ loader. provider < provider_count loader)) (sym l.handles) h)
 
   -- the call after an effect that leaves it live
-  at : (base : DeskState K D) → SameCalls old base → (s : Stage) (n : ℕ) → IsAt begun s n old → (v : LiveCallView) → v.call ≡ begun.id
-      → ChangesOnlyCall base begun.id (option_map (as_viewed v) (find_call v.call base.calls)) new → IsAt begun v.stage v.answers new
+  at : (base : DeskState K D) → SameCalls old base → (s : Stage) (n : ℕ) → IsAt begun s n old
+      → (v : LiveCallView) → v.call ≡ begun.id
+      → ChangesOnlyCall base begun.id (option_map (as_viewed v) (find_call v.call base.calls)) new
+      → IsAt begun v.stage v.answers new
   at base same s n found v named m =
       m.this_call
       ∙ ap (λ c. option_map (as_viewed v) (find_call c base.calls)) named
@@ -176,15 +197,19 @@ module _ {K D : Type 0} (old new : DeskState K D) (reply : Reply K) (begun : Beg
     has : (provider : ℕ) → provider < provider_count loader → HasProvider old begun.id.handle provider
     has provider b = rw (under, loads) b
 
-    asks : (base : DeskState K D) → SameCalls old base → (s : Stage) (n : ℕ) → IsAt begun s n old → (v : LiveCallView) → v.call ≡ begun.id → v.stage ≡ stage.Loading
-        → ChangesOnlyCall base begun.id (option_map (as_viewed v) (find_call v.call base.calls)) new → v.answers < provider_count loader → IsAsking begun v.answers new
+    asks : (base : DeskState K D) → SameCalls old base → (s : Stage) (n : ℕ) → IsAt begun s n old
+        → (v : LiveCallView) → v.call ≡ begun.id → v.stage ≡ stage.Loading
+        → ChangesOnlyCall base begun.id (option_map (as_viewed v) (find_call v.call base.calls)) new
+        → v.answers < provider_count loader → IsAsking begun v.answers new
     asks base same s n found v named loading m few = (
       subst (λ z. IsAt begun z v.answers new) loading (at base same s n found v named m),
       provides (leaves base same (option_map (as_viewed v) (find_call v.call base.calls)) m) begun.id.handle v.answers (has v.answers few),
     )
 
-    poll-hold : (hold : Hold K D) → HoldsCalls old hold → (s : Stage) → IsAt begun s 0 old → IsWaiting begun old → (v : LiveCallView) → v.call ≡ begun.id → v.answers ≡ 0
-        → (p : Progress K) → IsLook loader p → Performs (hold_action hold v (Some p)) begun.id old reply new → DeskStep begun.id old new (AfterPoll begun reply new)
+    poll-hold : (hold : Hold K D) → HoldsCalls old hold → (s : Stage) → IsAt begun s 0 old
+        → IsWaiting begun old → (v : LiveCallView) → v.call ≡ begun.id → v.answers ≡ 0 → (p : Progress K)
+        → IsLook loader p → Performs (hold_action hold v (Some p)) begun.id old reply new
+        → DeskStep begun.id old new (AfterPoll begun reply new)
     poll-hold hold same s found waiting v named none (Asking provider) look m =
         let few : v.answers < provider_count loader = subst (λ n. n < provider_count loader) (sym none) look.1 in
         let asking : IsAsking begun v.answers new = asks hold.asking_desk same.asking_desk s 0 found (record v { stage = stage.Loading }) named refl m.1 few in
@@ -206,8 +231,10 @@ module _ {K D : Type 0} (old new : DeskState K D) (reply : Reply K) (begun : Beg
       others = leaves hold.ended_desk same.ended_desk None m.1;
     }
 
-    found-hold : (hold : Hold K D) → HoldsCalls old hold → (provider : ℕ) → IsAsking begun provider old → (v : LiveCallView) → v.call ≡ begun.id
-        → (p : Progress K) → IsFoundLoad p → Performs (hold_action hold v (Some p)) begun.id old reply new → DeskStep begun.id old new (AfterFound begun provider reply new)
+    found-hold : (hold : Hold K D) → HoldsCalls old hold → (provider : ℕ) → IsAsking begun provider old
+        → (v : LiveCallView) → v.call ≡ begun.id → (p : Progress K) → IsFoundLoad p
+        → Performs (hold_action hold v (Some p)) begun.id old reply new
+        → DeskStep begun.id old new (AfterFound begun provider reply new)
     found-hold hold same provider asking v named (Asking k) load m = absurd load
     found-hold hold same provider asking v named (Over (HandOut c) cache) load (inl m) = record {
       after = subst (λ r. AfterFound begun provider r new) (sym m.0) (v.answers, at (hold.signing_desk c) (same.signing_desk c) stage.Loading provider asking.0 (record v { stage = stage.Signing }) named m.1);
@@ -222,7 +249,9 @@ module _ {K D : Type 0} (old new : DeskState K D) (reply : Reply K) (begun : Beg
       others = leaves hold.ended_desk same.ended_desk None m.1;
     }
 
-    refuses-none : (provider : ℕ) (cause other : Why) (wake : Option CallId) → (other ≡ why.Missing) ⊎ (other ≡ cause) → AfterNone begun provider cause (let r : Reply K = Refused other wake in r) new
+    refuses-none : (provider : ℕ) (cause other : Why) (wake : Option CallId)
+        → (other ≡ why.Missing) ⊎ (other ≡ cause)
+        → AfterNone begun provider cause (let r : Reply K = Refused other wake in r) new
     refuses-none provider cause why.Missing wake e = tt
     refuses-none provider cause (why.Short d) wake (inl e) = absurd (cc)
     refuses-none provider cause (why.Short d) wake (inr e) = e
@@ -233,8 +262,11 @@ module _ {K D : Type 0} (old new : DeskState K D) (reply : Reply K) (begun : Beg
     refuses-none provider cause (why.Service n) wake (inl e) = absurd (cc)
     refuses-none provider cause (why.Service n) wake (inr e) = e
 
-    none-hold : (hold : Hold K D) → HoldsCalls old hold → (provider : ℕ) → IsAsking begun provider old → (cause : Why) → (v : LiveCallView) → v.call ≡ begun.id → v.answers ≡ provider + 1
-        → (o : Option (Progress K)) → is_some o ≡ true → IfSome o (IsOtherLoad loader (provider + 1) cause) → Performs (hold_action hold v o) begun.id old reply new → DeskStep begun.id old new (AfterNone begun provider cause reply new)
+    none-hold : (hold : Hold K D) → HoldsCalls old hold → (provider : ℕ) → IsAsking begun provider old
+        → (cause : Why) → (v : LiveCallView) → v.call ≡ begun.id → v.answers ≡ provider + 1
+        → (o : Option (Progress K)) → is_some o ≡ true → IfSome o (IsOtherLoad loader (provider + 1) cause)
+        → Performs (hold_action hold v o) begun.id old reply new
+        → DeskStep begun.id old new (AfterNone begun provider cause reply new)
     none-hold hold same provider asking cause v named more None s load m = absurd (cc)
     none-hold hold same provider asking cause v named more (Some (Asking next)) s load m =
         let few : v.answers < provider_count loader = subst (λ n. n < provider_count loader) (sym more) load.1 in
@@ -257,28 +289,33 @@ same-first old view = record {
   ended_desk = record { loaders = refl; rules = refl; handles = refl; greatest = refl; calls = refl };
 }
 
-same-waited : {K D : Type 0} (old : DeskState K D) (view : LiveCallView) → HoldsCalls old (waited_hold old view)
+same-waited : {K D : Type 0} (old : DeskState K D) (view : LiveCallView)
+    → HoldsCalls old (waited_hold old view)
 same-waited old view = record {
   asking_desk = same-self old;
   signing_desk = λ c. record { loaders = refl; rules = refl; handles = refl; greatest = refl; calls = refl };
   ended_desk = record { loaders = refl; rules = refl; handles = refl; greatest = refl; calls = refl };
 }
 
-same-loading : {K D : Type 0} (old : DeskState K D) (view : LiveCallView) → HoldsCalls old (loading_hold old view)
+same-loading : {K D : Type 0} (old : DeskState K D) (view : LiveCallView)
+    → HoldsCalls old (loading_hold old view)
 same-loading old view = record {
   asking_desk = same-self old;
   signing_desk = λ c. record { loaders = refl; rules = refl; handles = refl; greatest = refl; calls = refl };
   ended_desk = record { loaders = refl; rules = refl; handles = refl; greatest = refl; calls = refl };
 }
 
-some_load : (K : Type 0) (loader : Loader) (count : ℕ) (cause : Why) → is_some (next_load {K = K} (Some loader) count cause) ≡ true
+some_load : (K : Type 0) (loader : Loader) (count : ℕ) (cause : Why)
+    → is_some (next_load {K = K} (Some loader) count cause) ≡ true
 some_load K Single count cause = refl
 some_load K (Chain n) count cause = refl
 
 module _ {K D : Type 0} (policy : Policy K D) (old new : DeskState K D) (reply : Reply K) (begun : BegunCall) (sound : StepPrecondition old) (there : IsSome (slice_get old.handles begun.id.handle)) where
   -- what a transition does at the live call
-  at_live : (action : LiveCallView → Action K D) (h : Handle) → slice_get old.handles begun.id.handle ≡ Some h → (s : Stage) (n : ℕ) → IsAt begun s n old
-      → Performs (live_action action (find_view old begun.id)) begun.id old reply new → Performs (action (stored_view begun.id h (record_of begun s n))) begun.id old reply new
+  at_live : (action : LiveCallView → Action K D) (h : Handle) → slice_get old.handles begun.id.handle ≡ Some h
+      → (s : Stage) (n : ℕ) → IsAt begun s n old
+      → Performs (live_action action (find_view old begun.id)) begun.id old reply new
+      → Performs (action (stored_view begun.id h (record_of begun s n))) begun.id old reply new
   at_live action h under s n found m = subst (λ o. Performs (live_action action o) begun.id old reply new) (find_view-is old begun.id h (record_of begun s n) under found) m
 
   module _ (now : ℤ) (h : Handle) (under : slice_get old.handles begun.id.handle ≡ Some h) (loader : Loader) (loads : slice_get old.loaders h.cache ≡ Some loader)
@@ -286,16 +323,24 @@ module _ {K D : Type 0} (policy : Policy K D) (old new : DeskState K D) (reply :
     abbrev view : Stage → ℕ → LiveCallView
     view s n = stored_view begun.id h (record_of begun s n)
 
-    looks : (s : Stage) → desk_lookup policy old now (view s 0) ≡ Some (sequential_call policy cached loader (desk_look_input (view s 0) now rule))
+    looks : (s : Stage)
+        → desk_lookup policy old now (view s 0)
+        ≡ Some (sequential_call policy cached loader (desk_look_input (view s 0) now rule))
     looks s = rw (loads, caches, ruled) refl
 
-    polled : (s : Stage) (hold : Hold K D) → HoldsCalls old hold → IsAt begun s 0 old → IsWaiting begun old → Performs (hold_action hold (view s 0) (desk_lookup policy old now (view s 0))) begun.id old reply new
+    polled : (s : Stage) (hold : Hold K D) → HoldsCalls old hold → IsAt begun s 0 old → IsWaiting begun old
+        → Performs (hold_action hold (view s 0) (desk_lookup policy old now (view s 0))) begun.id old reply
+        new
         → DeskStep begun.id old new (AfterPoll begun reply new)
     polled s hold same found waiting m =
         poll-hold old new reply begun h under loader loads hold same s found waiting (view s 0) refl refl (sequential_call policy cached loader (desk_look_input (view s 0) now rule)) (look-is policy cached loader (view s 0) now rule)
         (subst (λ o. Performs (hold_action hold (view s 0) o) begun.id old reply new) (looks s) m)
 
-    first_polled : (held : Bool) → IsAt begun stage.Unpolled 0 old → Performs (first_poll_action old (view stage.Unpolled 0) held (desk_lookup policy old now (view stage.Unpolled 0))) begun.id old reply new
+    first_polled : (held : Bool) → IsAt begun stage.Unpolled 0 old
+        → Performs
+        (first_poll_action old (view stage.Unpolled 0) held
+        (desk_lookup policy old now (view stage.Unpolled 0)))
+        begun.id old reply new
         → DeskStep begun.id old new (AfterPoll begun reply new)
     first_polled true found m =
         let waits : IsAt begun stage.Queued 0 new = at old new reply begun (first_hold old (view stage.Unpolled 0)).asking_desk (same-first old (view stage.Unpolled 0)).asking_desk stage.Unpolled 0 found (record (view stage.Unpolled 0) { stage = stage.Queued }) refl m.1 in
@@ -305,21 +350,30 @@ module _ {K D : Type 0} (policy : Policy K D) (old new : DeskState K D) (reply :
         }
     first_polled false found m = polled stage.Unpolled (first_hold old (view stage.Unpolled 0)) (same-first old (view stage.Unpolled 0)) found (inl found) m
 
-    later_polled : (held : Bool) → IsAt begun stage.Queued 0 old → Performs (later_poll_action old (view stage.Queued 0) held (desk_lookup policy old now (view stage.Queued 0))) begun.id old reply new
+    later_polled : (held : Bool) → IsAt begun stage.Queued 0 old
+        → Performs
+        (later_poll_action old (view stage.Queued 0) held (desk_lookup policy old now (view stage.Queued 0)))
+        begun.id old reply new
         → DeskStep begun.id old new (AfterPoll begun reply new)
     later_polled true found m = polled stage.Queued (waited_hold old (view stage.Queued 0)) (same-waited old (view stage.Queued 0)) found (inr found) m
     later_polled false found m =
         let found-new : IsAt begun stage.Queued 0 new = ap (λ (d : DeskState K D). find_call begun.id d.calls) m.1 ∙ found in
         record { after = subst (λ r. AfterPoll begun r new) (sym m.0) (inr found-new); others = leaves-self old new reply begun m.1 }
 
-    by_waiting : IsWaiting begun old → Transition policy (Poll begun.id now) old reply new → DeskStep begun.id old new (AfterPoll begun reply new)
+    by_waiting : IsWaiting begun old → Transition policy (Poll begun.id now) old reply new
+        → DeskStep begun.id old new (AfterPoll begun reply new)
     by_waiting (inl found) m = first_polled (is_held_line (line_at h.cache old.queues)) found (at_live (λ v. poll_action policy old now v v.stage) h under stage.Unpolled 0 found m)
     by_waiting (inr found) m = later_polled (is_first begun.id (line_at h.cache old.queues)) found (at_live (λ v. poll_action policy old now v v.stage) h under stage.Queued 0 found m)
 
-    checks : (n : ℕ) (c : K) → desk_load policy old now (view stage.Loading n) (Found c) ≡ Some (found_progress (check_refreshed policy rule (option_map as_nanos begun.expires_in) c now) None)
+    checks : (n : ℕ) (c : K)
+        → desk_load policy old now (view stage.Loading n) (Found c)
+        ≡ Some
+        (found_progress (check_refreshed policy rule (option_map as_nanos begun.expires_in) c now) None)
     checks n c = rw ruled refl
 
-    by_found : (provider : ℕ) (c : K) → IsAsking begun provider old → Transition policy (Provided begun.id now (Found c)) old reply new → DeskStep begun.id old new (AfterFound begun provider reply new)
+    by_found : (provider : ℕ) (c : K) → IsAsking begun provider old
+        → Transition policy (Provided begun.id now (Found c)) old reply new
+        → DeskStep begun.id old new (AfterFound begun provider reply new)
     by_found provider c asking m =
         let action = λ (v : LiveCallView). provided_action (load_action policy old now (Found c) v) v.stage in
         let done = at_live action h under stage.Loading provider asking.0 m in
@@ -328,67 +382,96 @@ module _ {K D : Type 0} (policy : Policy K D) (old new : DeskState K D) (reply :
         (subst (λ o. Performs (hold_action (loading_hold old (view stage.Loading provider)) (with_answer (view stage.Loading provider)) o) begun.id old reply new) (checks provider c) done)
 
     by_none : (provider : ℕ) (cause : Why) → IsAsking begun provider old
-        → Performs (hold_action (loading_hold old (view stage.Loading provider)) (with_answer (view stage.Loading provider)) (next_load (slice_get old.loaders h.cache) (provider + 1) cause)) begun.id old reply new
+        → Performs
+        (hold_action (loading_hold old (view stage.Loading provider))
+        (with_answer (view stage.Loading provider))
+        (next_load (slice_get old.loaders h.cache) (provider + 1) cause))
+        begun.id old reply new
         → DeskStep begun.id old new (AfterNone begun provider cause reply new)
     by_none provider cause asking m =
         none-hold old new reply begun h under loader loads (loading_hold old (view stage.Loading provider)) (same-loading old (view stage.Loading provider)) provider asking cause (with_answer (view stage.Loading provider)) refl refl
         (next_load (Some loader) (provider + 1) cause) (some_load K loader (provider + 1) cause) (next-other K loader (provider + 1) cause)
         (subst (λ o. Performs (hold_action (loading_hold old (view stage.Loading provider)) (with_answer (view stage.Loading provider)) (next_load o (provider + 1) cause)) begun.id old reply new) loads m)
 
-    by_missing : (provider : ℕ) → IsAsking begun provider old → Transition policy (Provided begun.id now Missing) old reply new → DeskStep begun.id old new (AfterNone begun provider why.Missing reply new)
+    by_missing : (provider : ℕ) → IsAsking begun provider old
+        → Transition policy (Provided begun.id now Missing) old reply new
+        → DeskStep begun.id old new (AfterNone begun provider why.Missing reply new)
     by_missing provider asking m =
         let action = λ (v : LiveCallView). provided_action (load_action policy old now Missing v) v.stage in
         by_none provider why.Missing asking (at_live action h under stage.Loading provider asking.0 m)
 
-    by_failed : (provider e : ℕ) → IsAsking begun provider old → Transition policy (Provided begun.id now (Failed e)) old reply new → DeskStep begun.id old new (AfterNone begun provider (why.Loader e) reply new)
+    by_failed : (provider e : ℕ) → IsAsking begun provider old
+        → Transition policy (Provided begun.id now (Failed e)) old reply new
+        → DeskStep begun.id old new (AfterNone begun provider (why.Loader e) reply new)
     by_failed provider e asking m =
         let action = λ (v : LiveCallView). provided_action (load_action policy old now (Failed e) v) v.stage in
         by_none provider (why.Loader e) asking (at_live action h under stage.Loading provider asking.0 m)
 
   -- the places of the call
-  by_places : (C : Type 0) → ((h : Handle) → slice_get old.handles begun.id.handle ≡ Some h → (loader : Loader) → slice_get old.loaders h.cache ≡ Some loader → (cached : Option K) → slice_get old.caches h.cache ≡ Some cached → (rule : D) → slice_get old.rules h.rule ≡ Some rule → C) → C
+  by_places : (C : Type 0)
+      → ((h : Handle) → slice_get old.handles begun.id.handle ≡ Some h → (loader : Loader)
+      → slice_get old.loaders h.cache ≡ Some loader → (cached : Option K)
+      → slice_get old.caches h.cache ≡ Some cached → (rule : D) → slice_get old.rules h.rule ≡ Some rule → C)
+      → C
   by_places C k = by_handle (slice_get old.handles begun.id.handle) refl there (sound.places begun.id.handle)
     where
-      at_handle : (h : Handle) → slice_get old.handles begun.id.handle ≡ Some h → (l : Option Loader) → slice_get old.loaders h.cache ≡ l → is_some l ≡ true → (c : Option (Option K)) → slice_get old.caches h.cache ≡ c → is_some c ≡ true
-          → (r : Option D) → slice_get old.rules h.rule ≡ r → is_some r ≡ true → C
+      at_handle : (h : Handle) → slice_get old.handles begun.id.handle ≡ Some h → (l : Option Loader)
+          → slice_get old.loaders h.cache ≡ l → is_some l ≡ true → (c : Option (Option K))
+          → slice_get old.caches h.cache ≡ c → is_some c ≡ true → (r : Option D)
+          → slice_get old.rules h.rule ≡ r → is_some r ≡ true → C
       at_handle h under None ls li c cs ci r rs ri = absurd (cc)
       at_handle h under (Some l) ls li None cs ci r rs ri = absurd (cc)
       at_handle h under (Some l) ls li (Some c) cs ci None rs ri = absurd (cc)
       at_handle h under (Some l) ls li (Some c) cs ci (Some r) rs ri = k h under l ls c cs r rs
 
-      by_handle : (o : Option Handle) → slice_get old.handles begun.id.handle ≡ o → is_some o ≡ true → IfSome o (λ (x : Handle). HasPlaces old x.cache x.rule) → C
+      by_handle : (o : Option Handle) → slice_get old.handles begun.id.handle ≡ o → is_some o ≡ true
+          → IfSome o (λ (x : Handle). HasPlaces old x.cache x.rule) → C
       by_handle None under t p = absurd (cc)
       by_handle (Some h) under t p =
           at_handle h under (slice_get old.loaders h.cache) refl (place-there old.loaders h.cache p.loader) (slice_get old.caches h.cache) refl (place-there old.caches h.cache p.cached)
           (slice_get old.rules h.rule) refl (place-there old.rules h.rule p.rules)
 
-  pub after-poll : (now : ℤ) → IsWaiting begun old → Transition policy (Poll begun.id now) old reply new → DeskStep begun.id old new (AfterPoll begun reply new)
+  pub after-poll : (now : ℤ) → IsWaiting begun old → Transition policy (Poll begun.id now) old reply new
+      → DeskStep begun.id old new (AfterPoll begun reply new)
   after-poll now waiting m = by_places (DeskStep begun.id old new (AfterPoll begun reply new)) (λ h under l ls c cs r rs. by_waiting now h under l ls c cs r rs waiting m)
 
-  pub after-found : (now : ℤ) (provider : ℕ) (c : K) → IsAsking begun provider old → Transition policy (Provided begun.id now (Found c)) old reply new → DeskStep begun.id old new (AfterFound begun provider reply new)
+  pub after-found : (now : ℤ) (provider : ℕ) (c : K) → IsAsking begun provider old
+      → Transition policy (Provided begun.id now (Found c)) old reply new
+      → DeskStep begun.id old new (AfterFound begun provider reply new)
   after-found now provider c asking m = by_places (DeskStep begun.id old new (AfterFound begun provider reply new)) (λ h under l ls x cs r rs. by_found now h under l ls x cs r rs provider c asking m)
 
-  pub after-missing : (now : ℤ) (provider : ℕ) → IsAsking begun provider old → Transition policy (Provided begun.id now Missing) old reply new → DeskStep begun.id old new (AfterNone begun provider why.Missing reply new)
+  pub after-missing : (now : ℤ) (provider : ℕ) → IsAsking begun provider old
+      → Transition policy (Provided begun.id now Missing) old reply new
+      → DeskStep begun.id old new (AfterNone begun provider why.Missing reply new)
   after-missing now provider asking m = by_places (DeskStep begun.id old new (AfterNone begun provider why.Missing reply new)) (λ h under l ls x cs r rs. by_missing now h under l ls x cs r rs provider asking m)
 
-  pub after-failed : (now : ℤ) (provider e : ℕ) → IsAsking begun provider old → Transition policy (Provided begun.id now (Failed e)) old reply new → DeskStep begun.id old new (AfterNone begun provider (why.Loader e) reply new)
+  pub after-failed : (now : ℤ) (provider e : ℕ) → IsAsking begun provider old
+      → Transition policy (Provided begun.id now (Failed e)) old reply new
+      → DeskStep begun.id old new (AfterNone begun provider (why.Loader e) reply new)
   after-failed now provider e asking m = by_places (DeskStep begun.id old new (AfterNone begun provider (why.Loader e) reply new)) (λ h under l ls x cs r rs. by_failed now h under l ls x cs r rs provider e asking m)
 
-  accepted : (candidate : Head) (answers : ℕ) → IsAt begun stage.Signing answers old → (h : Handle) → slice_get old.handles begun.id.handle ≡ Some h → (o : Option CallRecord) → o ≡ Some (record_of begun stage.Signing answers)
-      → Performs (accept_action old candidate o) begun.id old reply new → DeskStep begun.id old new (AfterAccepted begun reply new)
+  accepted : (candidate : Head) (answers : ℕ) → IsAt begun stage.Signing answers old → (h : Handle)
+      → slice_get old.handles begun.id.handle ≡ Some h → (o : Option CallRecord)
+      → o ≡ Some (record_of begun stage.Signing answers)
+      → Performs (accept_action old candidate o) begun.id old reply new
+      → DeskStep begun.id old new (AfterAccepted begun reply new)
   accepted candidate answers found h under None e m = absurd (cc)
   accepted candidate answers found h under (Some r) e (inl m) = record { after = subst (λ x. AfterAccepted begun x new) (sym m.0) tt; others = leaves old new reply begun old (same-self old) None m.1 }
   accepted candidate answers found h under (Some r) e (inr m) =
       let still : IsAt begun stage.Signing answers new = ap (λ (d : DeskState K D). find_call begun.id d.calls) m.1 ∙ found in
       record { after = subst (λ x. AfterAccepted begun x new) (sym m.0) (answers, still); others = leaves-self old new reply begun m.1 }
 
-  pub after-accepted : (candidate : Head) → IsSigning begun old → Transition policy (Signed begun.id (verdict.Accepted candidate)) old reply new → DeskStep begun.id old new (AfterAccepted begun reply new)
+  pub after-accepted : (candidate : Head) → IsSigning begun old
+      → Transition policy (Signed begun.id (verdict.Accepted candidate)) old reply new
+      → DeskStep begun.id old new (AfterAccepted begun reply new)
   after-accepted candidate signing m =
       let action = λ (v : LiveCallView). signed_action old (verdict.Accepted candidate) v v.stage in
       by_places (DeskStep begun.id old new (AfterAccepted begun reply new))
       (λ h under l ls x cs r rs. accepted candidate signing.0 signing.1 h under (find_call begun.id old.calls) signing.1 (at_live action h under stage.Signing signing.0 signing.1 m))
 
-  pub after-rejected : (e : ℕ) → IsSigning begun old → Transition policy (Signed begun.id (verdict.Failed e)) old reply new → DeskStep begun.id old new (reply ≡ Refused (why.Service e) None)
+  pub after-rejected : (e : ℕ) → IsSigning begun old
+      → Transition policy (Signed begun.id (verdict.Failed e)) old reply new
+      → DeskStep begun.id old new (reply ≡ Refused (why.Service e) None)
   after-rejected e signing m =
       let action = λ (v : LiveCallView). signed_action old (verdict.Failed e) v v.stage in
       by_places (DeskStep begun.id old new (reply ≡ Refused (why.Service e) None))
@@ -396,7 +479,8 @@ module _ {K D : Type 0} (policy : Policy K D) (old new : DeskState K D) (reply :
       let done = at_live action h under stage.Signing signing.0 signing.1 m in
       record { after = done.0; others = leaves old new reply begun old (same-self old) None done.1 })
 
-  cancelled : (s : Stage) (n : ℕ) (h : Handle) → Performs (cancel_action old (stored_view begun.id h (record_of begun s n)) s) begun.id old reply new
+  cancelled : (s : Stage) (n : ℕ) (h : Handle)
+      → Performs (cancel_action old (stored_view begun.id h (record_of begun s n)) s) begun.id old reply new
       → DeskStep begun.id old new ((wake : Option CallId) × (reply ≡ Cancelled wake))
   cancelled stage.Unpolled n h m =
       let v = stored_view begun.id h (record_of begun stage.Unpolled n) in
@@ -409,7 +493,9 @@ module _ {K D : Type 0} (policy : Policy K D) (old new : DeskState K D) (reply :
       record { after = ((waited_hold old v).wake, m.0); others = leaves old new reply begun (waited_hold old v).ended_desk (same-waited old v).ended_desk None m.1 }
   cancelled stage.Signing n h m = record { after = (None, m.0); others = leaves old new reply begun old (same-self old) None m.1 }
 
-  pub after-cancel : (s : Stage) (n : ℕ) → IsAt begun s n old → Transition policy (Cancel begun.id) old reply new → DeskStep begun.id old new ((wake : Option CallId) × (reply ≡ Cancelled wake))
+  pub after-cancel : (s : Stage) (n : ℕ) → IsAt begun s n old
+      → Transition policy (Cancel begun.id) old reply new
+      → DeskStep begun.id old new ((wake : Option CallId) × (reply ≡ Cancelled wake))
   after-cancel s n found m =
       let action = λ (v : LiveCallView). cancel_action old v v.stage in
       by_places (DeskStep begun.id old new ((wake : Option CallId) × (reply ≡ Cancelled wake)))

@@ -22,7 +22,8 @@ use Rattle.desk_parts.proofs.ListPlaces.{place-there}
 use Rattle.signer.proofs.CourseOfSteps.{CourseEnds}
 
 module _ (P S C : Type 0) {K L W : Type 0} (begun : BegunCall) where
-  end-answers : (end : StepEnd K L W) (by : PollEnd K L W) (before after : Parts) → IsStepEnd end before after by → IsEnd (answer_by {P = P} {S = S} {C = C} begun end) before after by
+  end-answers : (end : StepEnd K L W) (by : PollEnd K L W) (before after : Parts)
+      → IsStepEnd end before after by → IsEnd (answer_by {P = P} {S = S} {C = C} begun end) before after by
   end-answers (Pending state) (Pends left) before after h = h
   end-answers (Pending state) (Finishes head) before after h = absurd h
   end-answers (Pending state) (Refuses why) before after h = absurd h
@@ -41,14 +42,17 @@ module _ (P S C : Type 0) {K L W : Type 0} (begun : BegunCall) where
   end-answers (OutOfMemory state) (RunsOut left) before after h = h
 
 module _ (P S C : Type 0) {K D L W : Type 0} (v : PolledCall K D L W) where
-  issued-answers : (end : StepEnd K L W) (desk : DeskState K D) → IsEndIssued v desk end → IsAnswerIssued v.meaning v.begun desk (answer_by {P = P} {S = S} {C = C} v.begun end)
+  issued-answers : (end : StepEnd K L W) (desk : DeskState K D) → IsEndIssued v desk end
+      → IsAnswerIssued v.meaning v.begun desk (answer_by {P = P} {S = S} {C = C} v.begun end)
   issued-answers (Pending state) desk h = (refl, h)
   issued-answers Done desk h = tt
   issued-answers (Refused why) desk h = tt
   issued-answers (OutOfMemory state) desk h = (refl, h)
 
-  pub driven : (start : SignState K L W) (change : StepChange K D) (wake : Option CallId) (end : StepEnd K L W) → CourseEnds v start change wake end
-      → IsDriven v start change.old change.new (record { poll = record { answer = answer_by {P = P} {S = S} {C = C} v.begun end; wake = wake }; before = change.before; after = change.after })
+  pub driven : (start : SignState K L W) (change : StepChange K D) (wake : Option CallId)
+      (end : StepEnd K L W) → CourseEnds v start change wake end
+      → IsDriven v start change.old change.new
+      (record { poll = record { answer = answer_by {P = P} {S = S} {C = C} v.begun end; wake = wake }; before = change.before; after = change.after })
   driven start change wake end e = record {
     run = e.run;
     course = e.course;
@@ -69,7 +73,8 @@ module _ {K D L W : Type 0} (v : PolledCall K D L W) (desk : DeskState K D) (loa
   few provider h = subst (λ o. IsSomeAnd o (λ (l : Loader). provider < provider_count l)) loads h
 
   -- each step leaves fewer
-  pub fewer : (state next : SignState K L W) → IsStateIssued v.meaning v.begun desk next → ComesLater state next → steps_left loader next < steps_left loader state
+  pub fewer : (state next : SignState K L W) → IsStateIssued v.meaning v.begun desk next
+      → ComesLater state next → steps_left loader next < steps_left loader state
   fewer (Waiting candidate) (Waiting copy) new later = absurd later
   fewer (Waiting candidate) (Loading copy provider l) new later = omega arith
   fewer (Waiting candidate) (Signing credential w) new later = omega arith
@@ -81,7 +86,8 @@ module _ {K D L W : Type 0} (v : PolledCall K D L W) (desk : DeskState K D) (loa
   fewer (Signing credential w) next new later = absurd later
 
 -- a provider that the loader counts is there
-pub provider-there : {P : Type 0} (p : Providers P) (number : ℕ) → number < provider_count (loader_for p) → IsSome (provider_at p number)
+pub provider-there : {P : Type 0} (p : Providers P) (number : ℕ) → number < provider_count (loader_for p)
+    → IsSome (provider_at p number)
 provider-there (providers.Single provider) zero h = refl
 provider-there (providers.Single provider) (suc n) h = absurd (omega arith)
 provider-there (providers.Chain chain) number h = place-there chain number h

@@ -29,7 +29,8 @@ pub record SameObjects {K S : Type 0} (handle : ℕ) (old new : DeskState K S) :
   pub service : service_of new handle ≡ service_of old handle
   pub loader : loader_of new handle ≡ loader_of old handle
 
-pub leaves-objects : {K S : Type 0} (old new : DeskState K S) {call : CallId} → LeavesOthers call old new → (handle : ℕ) → SameObjects handle old new
+pub leaves-objects : {K S : Type 0} (old new : DeskState K S) {call : CallId} → LeavesOthers call old new
+    → (handle : ℕ) → SameObjects handle old new
 leaves-objects old new l handle = record {
   service = rw (l.handles, l.rules) refl;
   loader = rw (l.handles, l.loaders) refl;
@@ -38,11 +39,13 @@ leaves-objects old new l handle = record {
 module _ {P S K C L W : Type 0} (d : PollContext P S K C L W) (start : PollStart K S L W) where
   -- the poll has come to this place, and the request is as it was
   pub record PollInvariant (place : PollPlace K S L W) (request : Parts) : Type 0 where
-    pub reached : (service : S) → IsService d start.desk service → Reached (call_with d service) start.state start.desk place
+    pub reached : (service : S) → IsService d start.desk service
+        → Reached (call_with d service) start.state start.desk place
     pub same : request ≡ start.request
     pub objects : SameObjects d.begun.id.handle start.desk place.desk
 
-  pub invariant-start : IsIssuedFor d start.desk start.state → PollInvariant (record { state = start.state; desk = start.desk; wake = None }) start.request
+  pub invariant-start : IsIssuedFor d start.desk start.state
+      → PollInvariant (record { state = start.state; desk = start.desk; wake = None }) start.request
   invariant-start issued = record {
     reached = λ service is. reached-start (call_with d service) start.state start.desk (issued service is);
     same = refl;
@@ -62,7 +65,8 @@ module _ {P S K C L W : Type 0} (d : PollContext P S K C L W) (start : PollStart
 
     module _ (new : DeskState K S) (after : Parts) where
       pub invariant-on : (taken : StepOutcome K L W) (next : SignState K L W) → taken.flow ≡ On next
-          → IsOutcomeWith d place.state (record { old = place.desk; new = new; before = request; after = after }) taken
+          → IsOutcomeWith d place.state
+          (record { old = place.desk; new = new; before = request; after = after }) taken
           → PollInvariant (record { state = next; desk = new; wake = option_or place.wake taken.wake }) after
       invariant-on taken next flow step =
           let change : StepChange K S = record { old = place.desk; new = new; before = request; after = after } in
@@ -78,9 +82,12 @@ module _ {P S K C L W : Type 0} (d : PollContext P S K C L W) (start : PollStart
           })
 
       -- and the poll has fewer steps before it
-      pub invariant-fewer : loader_of start.desk d.begun.id.handle ≡ Some (loader_for d.objects.providers.now) → (taken : StepOutcome K L W) (next : SignState K L W) → taken.flow ≡ On next
-          → IsOutcomeWith d place.state (record { old = place.desk; new = new; before = request; after = after }) taken
-          → steps_left (loader_for d.objects.providers.now) next < steps_left (loader_for d.objects.providers.now) place.state
+      pub invariant-fewer : loader_of start.desk d.begun.id.handle ≡ Some (loader_for d.objects.providers.now)
+          → (taken : StepOutcome K L W) (next : SignState K L W) → taken.flow ≡ On next
+          → IsOutcomeWith d place.state
+          (record { old = place.desk; new = new; before = request; after = after }) taken
+          → steps_left (loader_for d.objects.providers.now) next
+          < steps_left (loader_for d.objects.providers.now) place.state
       invariant-fewer loads taken next flow step =
           let change : StepChange K S = record { old = place.desk; new = new; before = request; after = after } in
           for-service (service_of start.desk d.begun.id.handle) (steps_left (loader_for d.objects.providers.now) next < steps_left (loader_for d.objects.providers.now) place.state) there
@@ -90,8 +97,10 @@ module _ {P S K C L W : Type 0} (d : PollContext P S K C L W) (start : PollStart
           fewer (call_with d service) new (loader_for d.objects.providers.now) (o.loader ∙ u.objects.loader ∙ loads) place.state next goes.issued goes.later)
 
       pub invariant-end : (taken : StepOutcome K L W) (end : StepEnd K L W) → taken.flow ≡ Over end
-          → IsOutcomeWith d place.state (record { old = place.desk; new = new; before = request; after = after }) taken
-          → IsDrivenFrom d start.state start.desk new (record { poll = record { answer = answer_by d.begun end; wake = option_or place.wake taken.wake }; before = start.request; after = after })
+          → IsOutcomeWith d place.state
+          (record { old = place.desk; new = new; before = request; after = after }) taken
+          → IsDrivenFrom d start.state start.desk new
+          (record { poll = record { answer = answer_by d.begun end; wake = option_or place.wake taken.wake }; before = start.request; after = after })
       invariant-end taken end flow step service is =
           let change : StepChange K S = record { old = place.desk; new = new; before = request; after = after } in
           let ends : Ends (call_with d service) place.state change taken.wake end = subst (Goes (call_with d service) place.state change taken.wake) flow (step service (still service is)) in

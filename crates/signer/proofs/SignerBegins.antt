@@ -32,21 +32,27 @@ module _ {P S K C L W : Type 0} (m : Meanings P S K C L W) (old : SignerState P 
   same-objects : (handle : ℕ) → objects_of (record old { desk = desk }) handle ≡ objects_of old handle
   same-objects handle = rw (b.handles, b.rules) refl
 
-  waiting-issued : (candidate : Head) → candidate ≡ begun.head → begun.id.handle < length old.desk.handles → IsIssuedBy m (record old { desk = desk; begun = old.begun + 1 }) (let x : Sign P S K C L C W K = record { begun = begun; state = Waiting candidate } in x)
+  waiting-issued : (candidate : Head) → candidate ≡ begun.head → begun.id.handle < length old.desk.handles
+      → IsIssuedBy m (record old { desk = desk; begun = old.begun + 1 })
+      (let x : Sign P S K C L C W K = record { begun = begun; state = Waiting candidate } in x)
   waiting-issued candidate copied there =
       let found = has-objects-at old s begun.id.handle there in
       subst (λ o. IsSomeAnd o (λ (x : Objects P S C). IsStateIssued (call_meaning m begun x) begun desk (Waiting candidate))) (sym (same-objects begun.id.handle ∙ found.1)) (inl b.at, copied)
 
   -- the signer that has begun the call is one
-  pub signer-begun : begun.id.number ≡ old.begun → IsSigner (record old { desk = desk; begun = old.begun + 1 })
+  pub signer-begun : begun.id.number ≡ old.begun
+      → IsSigner (record old { desk = desk; begun = old.begun + 1 })
   signer-begun number =
       signer-desk old s desk (old.begun + 1) b.loaders b.rules b.handles
       (rw (b.greatest, number) (above-next old.begun old.desk.greatest begun.id.handle s.numbers))
 
   -- what it did is what a signer does that begins a call
-  pub begins : (policy : Policy K S) (candidate : Head) → candidate ≡ begun.head → begun.id.handle < length old.desk.handles → begun.id.number ≡ old.begun → (parts : Parts) → IsHeadOf parts begun.head
+  pub begins : (policy : Policy K S) (candidate : Head) → candidate ≡ begun.head
+      → begun.id.handle < length old.desk.handles → begun.id.number ≡ old.begun → (parts : Parts)
+      → IsHeadOf parts begun.head
       → IsStep policy (Begin begun.id begun.head begun.expires_in) old.desk Begun desk
-      → Begins m policy (record { old = old; new = record old { desk = desk; begun = old.begun + 1 } }) parts (record { begun = begun; state = Waiting candidate })
+      → Begins m policy (record { old = old; new = record old { desk = desk; begun = old.begun + 1 } }) parts
+      (record { begun = begun; state = Waiting candidate })
   begins policy candidate copied there number parts head step = record {
     number = number;
     head = head;

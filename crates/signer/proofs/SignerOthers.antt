@@ -37,7 +37,8 @@ pub record KeepsCall {K D : Type 0} (call : CallId) (old new : DeskState K D) : 
   pub handles : new.handles ≡ old.handles
   pub record_is : find_call call new.calls ≡ find_call call old.calls
 
-pub keeps-other : {K D : Type 0} (call other : CallId) (old new : DeskState K D) → LeavesOthers call old new → (other ≡ call → ⊥) → KeepsCall other old new
+pub keeps-other : {K D : Type 0} (call other : CallId) (old new : DeskState K D) → LeavesOthers call old new
+    → (other ≡ call → ⊥) → KeepsCall other old new
 keeps-other call other old new l apart = record {
   loaders = l.loaders;
   rules = l.rules;
@@ -46,26 +47,31 @@ keeps-other call other old new l apart = record {
 }
 
 module _ {K D : Type 0} (old new : DeskState K D) where
-  keeps-loader : (call : CallId) → KeepsCall call old new → (handle : ℕ) → loader_of new handle ≡ loader_of old handle
+  keeps-loader : (call : CallId) → KeepsCall call old new → (handle : ℕ)
+      → loader_of new handle ≡ loader_of old handle
   keeps-loader call k handle = rw (k.handles, k.loaders) refl
 
-  keeps-provider : (call : CallId) → KeepsCall call old new → (handle provider : ℕ) → HasProvider old handle provider → HasProvider new handle provider
+  keeps-provider : (call : CallId) → KeepsCall call old new → (handle provider : ℕ)
+      → HasProvider old handle provider → HasProvider new handle provider
   keeps-provider call k handle provider h = subst (λ o. IsSomeAnd o (λ (l : Loader). provider < provider_count l)) (sym (keeps-loader call k handle)) h
 
-  keeps-at : (begun : BegunCall) → KeepsCall begun.id old new → (s : Stage) (n : ℕ) → IsAt begun s n old → IsAt begun s n new
+  keeps-at : (begun : BegunCall) → KeepsCall begun.id old new → (s : Stage) (n : ℕ) → IsAt begun s n old
+      → IsAt begun s n new
   keeps-at begun k s n h = k.record_is ∙ h
 
   keeps-waiting : (begun : BegunCall) → KeepsCall begun.id old new → IsWaiting begun old → IsWaiting begun new
   keeps-waiting begun k (inl h) = inl (k.record_is ∙ h)
   keeps-waiting begun k (inr h) = inr (k.record_is ∙ h)
 
-  pub keeps-state : {L W : Type 0} (m : CallMeaning K L W) (begun : BegunCall) → KeepsCall begun.id old new → (state : SignState K L W) → IsStateIssued m begun old state → IsStateIssued m begun new state
+  pub keeps-state : {L W : Type 0} (m : CallMeaning K L W) (begun : BegunCall) → KeepsCall begun.id old new
+      → (state : SignState K L W) → IsStateIssued m begun old state → IsStateIssued m begun new state
   keeps-state m begun k (Waiting candidate) h = (keeps-waiting begun k h.0, h.1)
   keeps-state m begun k (Loading candidate provider l) h = ((k.record_is ∙ h.0.0, keeps-provider begun.id k begun.id.handle provider h.0.1), h.1, h.2)
   keeps-state m begun k (Signing credential w) h = ((h.0.0, k.record_is ∙ h.0.1), h.1)
 
 -- a call whose state was issued is live
-pub issued-live : {K D L W : Type 0} (m : CallMeaning K L W) (begun : BegunCall) (desk : DeskState K D) (state : SignState K L W) → IsStateIssued m begun desk state → IsLive begun desk
+pub issued-live : {K D L W : Type 0} (m : CallMeaning K L W) (begun : BegunCall) (desk : DeskState K D)
+    (state : SignState K L W) → IsStateIssued m begun desk state → IsLive begun desk
 issued-live m begun desk (Waiting candidate) h = waiting-live h.0
   where
     waiting-live : IsWaiting begun desk → IsLive begun desk
@@ -75,22 +81,29 @@ issued-live m begun desk (Loading candidate provider l) h = (stage.Loading, prov
 issued-live m begun desk (Signing credential w) h = (stage.Signing, h.0.0, h.0.1)
 
 module _ {P S K C L W : Type 0} (m : Meanings P S K C L W) where
-  keeps-objects : (old : SignerState P S K C) (desk : DeskState K S) (call : CallId) → KeepsCall call old.desk desk → (handle : ℕ)
+  keeps-objects : (old : SignerState P S K C) (desk : DeskState K S) (call : CallId)
+      → KeepsCall call old.desk desk → (handle : ℕ)
       → objects_of (record old { desk = desk }) handle ≡ objects_of old handle
   keeps-objects old desk call k handle = rw (k.handles, k.rules) refl
 
   -- a state stays issued where the setup and the record of its call stay
-  pub keeps-issued : (old : SignerState P S K C) (desk : DeskState K S) (sign : Sign P S K C L C W K) → KeepsCall sign.begun.id old.desk desk → IsIssuedBy m old sign → IsIssuedBy m (record old { desk = desk }) sign
+  pub keeps-issued : (old : SignerState P S K C) (desk : DeskState K S) (sign : Sign P S K C L C W K)
+      → KeepsCall sign.begun.id old.desk desk → IsIssuedBy m old sign
+      → IsIssuedBy m (record old { desk = desk }) sign
   keeps-issued old desk sign k issued =
       let same = keeps-objects old desk sign.begun.id k sign.begun.id.handle in
       subst (λ o. IsSomeAnd o (λ (x : Objects P S C). IsStateIssued (call_meaning m sign.begun x) sign.begun desk sign.state)) (sym same) (by_objects (objects_of old sign.begun.id.handle) issued)
     where
-      by_objects : (o : Option (Objects P S C)) → IsSomeAnd o (λ x. IsStateIssued (call_meaning m sign.begun x) sign.begun old.desk sign.state) → IsSomeAnd o (λ x. IsStateIssued (call_meaning m sign.begun x) sign.begun desk sign.state)
+      by_objects : (o : Option (Objects P S C))
+          → IsSomeAnd o (λ x. IsStateIssued (call_meaning m sign.begun x) sign.begun old.desk sign.state)
+          → IsSomeAnd o (λ x. IsStateIssued (call_meaning m sign.begun x) sign.begun desk sign.state)
       by_objects None h = h
       by_objects (Some x) h = keeps-state old.desk desk (call_meaning m sign.begun x) sign.begun k sign.state h
 
-  issued-state : (s : SignerState P S K C) (desk : DeskState K S) (begun : BegunCall) (o : Objects P S C) → objects_of (record s { desk = desk }) begun.id.handle ≡ Some o
-      → (sign : Sign P S K C L C W K) → (sign.begun ≡ begun) × IsStateIssued (call_meaning m begun o) begun desk sign.state → (sign.begun.id ≡ begun.id) × IsIssuedBy m (record s { desk = desk }) sign
+  issued-state : (s : SignerState P S K C) (desk : DeskState K S) (begun : BegunCall) (o : Objects P S C)
+      → objects_of (record s { desk = desk }) begun.id.handle ≡ Some o → (sign : Sign P S K C L C W K)
+      → (sign.begun ≡ begun) × IsStateIssued (call_meaning m begun o) begun desk sign.state
+      → (sign.begun.id ≡ begun.id) × IsIssuedBy m (record s { desk = desk }) sign
   issued-state s desk begun o is sign h = (
     ap (λ (b : BegunCall). b.id) h.0,
     subst (λ (b : BegunCall). IsSomeAnd (objects_of (record s { desk = desk }) b.id.handle) (λ (x : Objects P S C). IsStateIssued (call_meaning m b x) b desk sign.state)) (sym h.0)
@@ -98,12 +111,16 @@ module _ {P S K C L W : Type 0} (m : Meanings P S K C L W) where
   )
 
   -- a state that was issued for a call of the signer is one that it issued
-  pub answer-issued : (s : SignerState P S K C) (desk : DeskState K S) (begun : BegunCall) (o : Objects P S C) → LeavesOthers begun.id s.desk desk → objects_of s begun.id.handle ≡ Some o
-      → (a : SignAnswer P S K C L C W K) → IsAnswerIssued (call_meaning m begun o) begun desk a → IsAnswerIssuedBy m (record s { desk = desk }) begun.id a
+  pub answer-issued : (s : SignerState P S K C) (desk : DeskState K S) (begun : BegunCall) (o : Objects P S C)
+      → LeavesOthers begun.id s.desk desk → objects_of s begun.id.handle ≡ Some o
+      → (a : SignAnswer P S K C L C W K) → IsAnswerIssued (call_meaning m begun o) begun desk a
+      → IsAnswerIssuedBy m (record s { desk = desk }) begun.id a
   answer-issued s desk begun o l is (answer.Pending sign) h = issued-state s desk begun o (rw (l.handles, l.rules) is) sign h
   answer-issued s desk begun o l is (answer.OutOfMemory sign) h = issued-state s desk begun o (rw (l.handles, l.rules) is) sign h
   answer-issued s desk begun o l is answer.Done h = tt
   answer-issued s desk begun o l is (answer.Refused refused) h = tt
 
-  pub keeps-others : (call : CallId) (old : SignerState P S K C) (desk : DeskState K S) → LeavesOthers call old.desk desk → KeepsOthers m call (record { old = old; new = record old { desk = desk } })
+  pub keeps-others : (call : CallId) (old : SignerState P S K C) (desk : DeskState K S)
+      → LeavesOthers call old.desk desk
+      → KeepsOthers m call (record { old = old; new = record old { desk = desk } })
   keeps-others call old desk l other apart issued = keeps-issued old desk other (keeps-other call other.begun.id old.desk desk l apart) issued

@@ -22,12 +22,14 @@ use Rattle.desk_parts.proofs.IsWellFormedSetup.{longer, each-more, each-by, set_
 and_both : (a b : Bool) → a ≡ true → b ≡ true → (a && b) ≡ true
 and_both a b h k = rw (h, k) refl
 
-above-none-more : (n : ℕ) (xs : List (Option ℕ)) → is_above_all n xs ≡ true → is_above_all n (xs ++ None ∷ []) ≡ true
+above-none-more : (n : ℕ) (xs : List (Option ℕ)) → is_above_all n xs ≡ true
+    → is_above_all n (xs ++ None ∷ []) ≡ true
 above-none-more n [] h = refl
 above-none-more n (x ∷ xs) h = and_both (is_above n x) (is_above_all n (xs ++ None ∷ [])) (and_left (is_above n x) (is_above_all n xs) h) (above-none-more n xs (and_right (is_above n x) (is_above_all n xs) h))
 
 -- a number above all is above the one at a place
-pub above-at : (n : ℕ) (xs : List (Option ℕ)) (i : ℕ) → is_above_all n xs ≡ true → IfSome (slice_get xs i) (λ greatest. is_above n greatest ≡ true)
+pub above-at : (n : ℕ) (xs : List (Option ℕ)) (i : ℕ) → is_above_all n xs ≡ true
+    → IfSome (slice_get xs i) (λ greatest. is_above n greatest ≡ true)
 above-at n [] i h = tt
 above-at n (x ∷ xs) zero h = and_left (is_above n x) (is_above_all n xs) h
 above-at n (x ∷ xs) (suc i) h = above-at n xs i (and_right (is_above n x) (is_above_all n xs) h)
@@ -48,7 +50,8 @@ next-above_all n (x ∷ xs) h =
     and_both (is_above (n + 1) x) (is_above_all (n + 1) xs) (next-above n x (and_left (is_above n x) (is_above_all n xs) h)) (next-above_all n xs (and_right (is_above n x) (is_above_all n xs) h))
 
 -- the next number is above all, also above the one that was begun last
-pub above-next : (n : ℕ) (xs : List (Option ℕ)) (i : ℕ) → is_above_all n xs ≡ true → is_above_all (n + 1) (slice_set xs i (Some n)) ≡ true
+pub above-next : (n : ℕ) (xs : List (Option ℕ)) (i : ℕ) → is_above_all n xs ≡ true
+    → is_above_all (n + 1) (slice_set xs i (Some n)) ≡ true
 above-next n [] i h = refl
 above-next n (x ∷ xs) zero h = and_both (is_above (n + 1) (Some n)) (is_above_all (n + 1) xs) (below-next n) (next-above_all n xs (and_right (is_above n x) (is_above_all n xs) h))
 above-next n (x ∷ xs) (suc i) h =
@@ -61,13 +64,16 @@ map-more f (y ∷ ys) x = ap (λ zs. f y ∷ zs) (map-more f ys x)
 one-longer : {A : Type 0} (xs : List A) (x : A) → length (xs ++ x ∷ []) ≡ length xs + 1
 one-longer xs x = length-append xs (x ∷ [])
 
-both-longer : {A B : Type 0} (xs : List A) (ys : List B) (x : A) (y : B) → length xs ≡ length ys → length (xs ++ x ∷ []) ≡ length (ys ++ y ∷ [])
+both-longer : {A B : Type 0} (xs : List A) (ys : List B) (x : A) (y : B) → length xs ≡ length ys
+    → length (xs ++ x ∷ []) ≡ length (ys ++ y ∷ [])
 both-longer xs ys x y h = one-longer xs x ∙ ap (λ n. n + 1) h ∙ sym (one-longer ys y)
 
-both-few : {A B : Type 0} (xs : List A) (ys : List B) (x : A) (y : B) → length xs ≤ length ys → length (xs ++ x ∷ []) ≤ length (ys ++ y ∷ [])
+both-few : {A B : Type 0} (xs : List A) (ys : List B) (x : A) (y : B) → length xs ≤ length ys
+    → length (xs ++ x ∷ []) ≤ length (ys ++ y ∷ [])
 both-few xs ys x y h = omega (arith, length-append xs (x ∷ []), length-append ys (y ∷ []))
 
-still-few : {A B : Type 0} (xs : List A) (ys : List B) (y : B) → length xs ≤ length ys → length xs ≤ length (ys ++ y ∷ [])
+still-few : {A B : Type 0} (xs : List A) (ys : List B) (y : B) → length xs ≤ length ys
+    → length xs ≤ length (ys ++ y ∷ [])
 still-few xs ys y h = omega (arith, length-append ys (y ∷ []))
 
 -- what holds of each item holds of one that is there
@@ -75,7 +81,8 @@ of-there : {A : Type 0} (Q : A → Type 0) (o : Option A) (x : A) → o ≡ Some
 of-there Q None x e h = absurd (cc)
 of-there Q (Some y) x e h = let same : y ≡ x = cc in subst Q same h
 
-there-at : {A : Type 0} (xs : List A) (i : ℕ) → i < length xs → (Q : Type 0) → ((x : A) → slice_get xs i ≡ Some x → Q) → Q
+there-at : {A : Type 0} (xs : List A) (i : ℕ) → i < length xs → (Q : Type 0)
+    → ((x : A) → slice_get xs i ≡ Some x → Q) → Q
 there-at [] i h Q k = absurd (omega (arith, h))
 there-at (x ∷ xs) zero h Q k = k x refl
 there-at (x ∷ xs) (suc i) h Q k = there-at xs i (omega (arith, h)) Q k
@@ -92,7 +99,8 @@ module _ {P S K C : Type 0} (old : SignerState P S K C) (s : IsSigner old) (hand
   its-rule = (of-there (λ (x : Handle). (x.cache < length old.desk.loaders) × (x.rule < length old.desk.rules)) (slice_get old.desk.handles handle) like there (s.set_up.handles handle)).1
 
   -- one more handle, with a context of its own
-  pub signer-context : length old.desk.handles < 4294967295 → (ctx : C) → IsSigner (with_context_handle like ctx old)
+  pub signer-context : length old.desk.handles < 4294967295 → (ctx : C)
+      → IsSigner (with_context_handle like ctx old)
   signer-context few ctx =
       let more : Handle = record { cache = like.cache; rule = like.rule } in
       record {
@@ -108,7 +116,8 @@ module _ {P S K C : Type 0} (old : SignerState P S K C) (s : IsSigner old) (hand
       }
 
   -- one more handle, with a service of its own
-  pub signer-service : length old.desk.handles < 4294967295 → (place : ℕ) → place < length old.contexts → (service : S) → IsSigner (with_service_handle like place service old)
+  pub signer-service : length old.desk.handles < 4294967295 → (place : ℕ) → place < length old.contexts
+      → (service : S) → IsSigner (with_service_handle like place service old)
   signer-service few place has service =
       let more : Handle = record { cache = like.cache; rule = length old.desk.rules } in
       let ruled = set_up-rule (setup_of old.desk) s.set_up service (omega (arith, s.rules_few, few)) in
@@ -123,7 +132,8 @@ module _ {P S K C : Type 0} (old : SignerState P S K C) (s : IsSigner old) (hand
       }
 
   -- one more handle, with a cache of its own
-  pub signer-cache : length old.desk.handles < 4294967295 → (place : ℕ) → place < length old.contexts → (loader : Providers P) → IsSigner (with_cache_handle like place loader old)
+  pub signer-cache : length old.desk.handles < 4294967295 → (place : ℕ) → place < length old.contexts
+      → (loader : Providers P) → IsSigner (with_cache_handle like place loader old)
   signer-cache few place has loader =
       let more : Handle = record { cache = length old.desk.loaders; rule = like.rule } in
       let loads = loader_for loader in
@@ -140,11 +150,13 @@ module _ {P S K C : Type 0} (old : SignerState P S K C) (s : IsSigner old) (hand
 
 module _ {P S K C : Type 0} (old : SignerState P S K C) (s : IsSigner old) where
   -- the context of a handle is one of the contexts
-  pub its-context : (handle place : ℕ) → slice_get old.context_places handle ≡ Some place → place < length old.contexts
+  pub its-context : (handle place : ℕ) → slice_get old.context_places handle ≡ Some place
+      → place < length old.contexts
   its-context handle place is = of-there (λ x. x < length old.contexts) (slice_get old.context_places handle) place is (s.contexts handle)
 
   -- a desk with the same setup, where the next number is above all that were begun, has a signer round it
-  pub signer-desk : (desk : DeskState K S) (begun : ℕ) → desk.loaders ≡ old.desk.loaders → desk.rules ≡ old.desk.rules → desk.handles ≡ old.desk.handles
+  pub signer-desk : (desk : DeskState K S) (begun : ℕ) → desk.loaders ≡ old.desk.loaders
+      → desk.rules ≡ old.desk.rules → desk.handles ≡ old.desk.handles
       → is_above_all begun desk.greatest ≡ true → IsSigner (record old { desk = desk; begun = begun })
   signer-desk desk begun loaders rules handles numbers = record {
     set_up = rw (loaders, rules, handles) s.set_up;
@@ -157,13 +169,15 @@ module _ {P S K C : Type 0} (old : SignerState P S K C) (s : IsSigner old) where
   }
 
   -- the context of a handle, where its place is read
-  pub context-read : (handle : ℕ) → handle < length old.desk.handles → (got d : ℕ) → got ≡ slice_index_or old.context_places handle d → got < length old.contexts
+  pub context-read : (handle : ℕ) → handle < length old.desk.handles → (got d : ℕ)
+      → got ≡ slice_index_or old.context_places handle d → got < length old.contexts
   context-read handle h got d read =
       there-at old.context_places handle (rw s.places h) (got < length old.contexts)
       (λ x is. its-context handle got (is ∙ ap Some (sym (index-is old.context_places handle handle x d got is refl read))))
 
   -- a handle that is there has its objects
-  pub has-objects-at : (handle : ℕ) → handle < length old.desk.handles → (o : Objects P S C) × (objects_of old handle ≡ Some o)
+  pub has-objects-at : (handle : ℕ) → handle < length old.desk.handles
+      → (o : Objects P S C) × (objects_of old handle ≡ Some o)
   has-objects-at handle h =
       there-at old.desk.handles handle h _ (λ at at_is.
       there-at old.context_places handle (rw s.places h) _ (λ place place_is.
@@ -176,18 +190,23 @@ none-there : {A : Type 0} (xs : List A) → ((i : ℕ) → slice_get xs i ≡ No
 none-there [] h = refl
 none-there (x ∷ xs) h = let e = h zero in absurd (cc)
 
-first-place : {A : Type 0} (x : A) (i : ℕ) → IfSome (slice_get (zero ∷ []) i) (λ place. place < length (x ∷ []))
+first-place : {A : Type 0} (x : A) (i : ℕ)
+    → IfSome (slice_get (zero ∷ []) i) (λ place. place < length (x ∷ []))
 first-place x zero = omega arith
 first-place x (suc i) = tt
 
-first-handle : {X Y : Type 0} (x : X) (y : Y) (i : ℕ) → IfSome (slice_get (let h : Handle = record { cache = zero; rule = zero } in h ∷ []) i) (λ h. (h.cache < length (x ∷ [])) × (h.rule < length (y ∷ [])))
+first-handle : {X Y : Type 0} (x : X) (y : Y) (i : ℕ)
+    → IfSome (slice_get (let h : Handle = record { cache = zero; rule = zero } in h ∷ []) i)
+    (λ h. (h.cache < length (x ∷ [])) × (h.rule < length (y ∷ [])))
 first-handle x y zero = (omega arith, omega arith)
 first-handle x y (suc i) = tt
 
 module _ {P S K C : Type 0} (policy : Policy K S) (desk : DeskState K S) (loader : Providers P) (ctx : C) (service : S) (keys : HeaderKeys) where
   -- a desk with one cache and no calls, with its first handle, has a signer round it
-  pub signer-new : setup_of desk ≡ record { loaders = loader_for loader ∷ []; rules = []; handles = [] } → Represents policy desk []
-      → IsSigner (let s : SignerState P S K C = record { desk = with_handle 0 (length desk.rules) (with_rule service desk); providers = loader ∷ []; contexts = ctx ∷ []; context_places = 0 ∷ []; begun = 0; keys = keys } in s)
+  pub signer-new : setup_of desk ≡ record { loaders = loader_for loader ∷ []; rules = []; handles = [] }
+      → Represents policy desk []
+      → IsSigner
+      (let s : SignerState P S K C = record { desk = with_handle 0 (length desk.rules) (with_rule service desk); providers = loader ∷ []; contexts = ctx ∷ []; context_places = 0 ∷ []; begun = 0; keys = keys } in s)
   signer-new setup stood =
       let loaders : desk.loaders ≡ loader_for loader ∷ [] = ap (λ (x : Setup S). x.loaders) setup in
       let rules : desk.rules ≡ [] = ap (λ (x : Setup S). x.rules) setup in

@@ -26,7 +26,9 @@ use Rattle.signer_book.specs.OpenBegins.{is_cancelled}
 
 module _ {K D : Type 0} (policy : Policy K D) where
   -- a legal reply that is not out of memory is the expected one
-  pub legal-expected : (setup : Setup D) (entries : List (Entry K)) (event : Event K) (reply : Reply K) → IsLegalEntry policy setup entries (record { event = event; reply = reply }) → reply ≢ OutOfMemory → reply ≡ expected_reply policy setup entries event
+  pub legal-expected : (setup : Setup D) (entries : List (Entry K)) (event : Event K) (reply : Reply K)
+      → IsLegalEntry policy setup entries (record { event = event; reply = reply }) → reply ≢ OutOfMemory
+      → reply ≡ expected_reply policy setup entries event
   legal-expected setup entries event reply (inl h) n = h
   legal-expected setup entries event reply (inr h) n = absurd (n h.0)
 
@@ -35,11 +37,14 @@ module _ {K D : Type 0} (policy : Policy K D) where
   no_and false h = cc
 
   -- a cancel does not run out of memory
-  pub cancel-in_memory : (setup : Setup D) (entries : List (Entry K)) (event : Event K) (call : CallId) → event ≡ Cancel call → IsLegalEntry policy setup entries (record { event = event; reply = OutOfMemory }) → ⊥
+  pub cancel-in_memory : (setup : Setup D) (entries : List (Entry K)) (event : Event K) (call : CallId)
+      → event ≡ Cancel call
+      → IsLegalEntry policy setup entries (record { event = event; reply = OutOfMemory }) → ⊥
   cancel-in_memory setup entries event call is (inl h) = let no : false ≡ true = sym (expected_in_memory policy setup entries event) ∙ ap is_out_of_memory (sym h) in absurd (cc)
   cancel-in_memory setup entries event call is (inr h) = no_and (event_fits setup entries (Cancel call)) (subst (λ (x : Event K). IsTrue (allocates policy setup entries x)) is h.1)
 
-  step_cancels : (call : CallId) (reply : Reply K) → is_reply_to (Cancel call) reply ≡ true → is_step reply ≡ true → is_cancelled reply ≡ true
+  step_cancels : (call : CallId) (reply : Reply K) → is_reply_to (Cancel call) reply ≡ true
+      → is_step reply ≡ true → is_cancelled reply ≡ true
   step_cancels call (Cancelled wake) k s = refl
   step_cancels call NotNow k s = cc
   step_cancels call OutOfMemory k s = cc
@@ -50,29 +55,37 @@ module _ {K D : Type 0} (policy : Policy K D) where
   step_cancels call (Refused why wake) k s = cc
   step_cancels call (Done head) k s = cc
 
-  cancel_proceeds : (desk : DeskState K D) (view : LiveCallView) (s : Stage) → cause_by said_by (cancel_action desk view s) ≡ Proceeds
+  cancel_proceeds : (desk : DeskState K D) (view : LiveCallView) (s : Stage)
+      → cause_by said_by (cancel_action desk view s) ≡ Proceeds
   cancel_proceeds desk view stage.Unpolled = refl
   cancel_proceeds desk view stage.Queued = refl
   cancel_proceeds desk view stage.Loading = refl
   cancel_proceeds desk view stage.Signing = refl
 
-  live_proceeds : (desk : DeskState K D) (o : Option LiveCallView) → IsSome o → cause_by said_by (live_action (λ view. cancel_action desk view view.stage) o) ≡ Proceeds
+  live_proceeds : (desk : DeskState K D) (o : Option LiveCallView) → IsSome o
+      → cause_by said_by (live_action (λ view. cancel_action desk view view.stage) o) ≡ Proceeds
   live_proceeds desk None s = cc
   live_proceeds desk (Some view) s = cancel_proceeds desk view view.stage
 
   -- a live call is cancelled
-  pub live-cancelled : (desk : DeskState K D) (event : Event K) (call : CallId) (reply : Reply K) → event ≡ Cancel call → IsSome (find_view desk call) → is_reply_to event reply ≡ true → IsCaused (cause_of policy desk event) reply → is_cancelled reply ≡ true
+  pub live-cancelled : (desk : DeskState K D) (event : Event K) (call : CallId) (reply : Reply K)
+      → event ≡ Cancel call → IsSome (find_view desk call) → is_reply_to event reply ≡ true
+      → IsCaused (cause_of policy desk event) reply → is_cancelled reply ≡ true
   live-cancelled desk event call reply is live kind caused =
       let step : is_step reply ≡ true = subst (λ c. IsCaused c reply) (ap (cause_of policy desk) is ∙ live_proceeds desk (find_view desk call) live) caused in
       step_cancels call reply (ap (λ (x : Event K). is_reply_to x reply) (sym is) ∙ kind) step
 
   -- the entry that was kept before the step is the step's
-  pub kept-is : (setup : Setup D) (entries : List (Entry K)) (event : Event K) (reply : Reply K) (kept : Entry K) → IsLegalEntry policy setup entries (record { event = event; reply = reply }) → is_out_of_memory reply ≡ false
-      → kept.event ≡ event → kept.reply ≡ expected_reply policy setup entries event → kept ≡ record { event = event; reply = reply }
+  pub kept-is : (setup : Setup D) (entries : List (Entry K)) (event : Event K) (reply : Reply K)
+      (kept : Entry K) → IsLegalEntry policy setup entries (record { event = event; reply = reply })
+      → is_out_of_memory reply ≡ false → kept.event ≡ event
+      → kept.reply ≡ expected_reply policy setup entries event
+      → kept ≡ record { event = event; reply = reply }
   kept-is setup entries event reply kept legal memory same expected =
       let is : reply ≡ expected_reply policy setup entries event = by_legal legal in
       λ i. record { event = same i; reply = (expected ∙ sym is) i }
     where
-      by_legal : IsLegalEntry policy setup entries (record { event = event; reply = reply }) → reply ≡ expected_reply policy setup entries event
+      by_legal : IsLegalEntry policy setup entries (record { event = event; reply = reply })
+          → reply ≡ expected_reply policy setup entries event
       by_legal (inl h) = h
       by_legal (inr h) = let bad : true ≡ false = ap is_out_of_memory (sym h.0) ∙ memory in absurd (cc)

@@ -14,20 +14,24 @@ use Rattle.signer_book.proofs.Distinct.{distinct-all}
 
 module _ {K : Type 0} where
   -- no receipt of the next pass yet
-  pub marks-begin : (passes : List (List (Receipt K))) (owners : List ℕ) (found : Option Double) → AreOwners (HasPlace passes) owners found → AreOwners (HasPlace (passes ++ [] ∷ [])) owners found
+  pub marks-begin : (passes : List (List (Receipt K))) (owners : List ℕ) (found : Option Double)
+      → AreOwners (HasPlace passes) owners found → AreOwners (HasPlace (passes ++ [] ∷ [])) owners found
   marks-begin passes owners found h = owners-same (HasPlace passes) (HasPlace (passes ++ [] ∷ [])) owners found (has-before passes []) back h
     where
       back : (p q : ℕ) → HasPlace (passes ++ [] ∷ []) p q → HasPlace passes p q
       back p q k = elim (has-cases passes [] p q k) [ inl b ↦ b | inr e ↦ let bad = e.1.1 in absurd (cc) ]
 
   module _ (passes : List (List (Receipt K))) (t : List (Receipt K)) (r : Receipt K) (owners : List ℕ) (found : Option Double) (within : r.place < length owners) (had : AreOwners (HasPlace (passes ++ t ∷ [])) owners found) where
-    pub marks-new : slice_index owners r.place ≡ 4294967295 → length passes ≢ 4294967295 → AreOwners (HasPlace (passes ++ (t ++ r ∷ []) ∷ [])) (slice_set owners r.place (length passes)) found
+    pub marks-new : slice_index owners r.place ≡ 4294967295 → length passes ≢ 4294967295
+        → AreOwners (HasPlace (passes ++ (t ++ r ∷ []) ∷ [])) (slice_set owners r.place (length passes)) found
     marks-new free some =
         owner-new (HasPlace (passes ++ t ∷ [])) (HasPlace (passes ++ (t ++ r ∷ []) ∷ [])) r.place (length passes) owners found
         (grown-keeps passes t r) (grown-here passes t r) (grown-more passes t r) (grown-bound passes t r) within had free some
 
-    pub marks-stay : (owner : ℕ) → owner ≡ slice_index owners r.place → owner ≢ 4294967295 → (Names t r.place → ⊥)
-        → AreOwners (HasPlace (passes ++ (t ++ r ∷ []) ∷ [])) owners (Some (lower_double found (record { place = r.place; first = owner; second = length passes })))
+    pub marks-stay : (owner : ℕ) → owner ≡ slice_index owners r.place → owner ≢ 4294967295
+        → (Names t r.place → ⊥)
+        → AreOwners (HasPlace (passes ++ (t ++ r ∷ []) ∷ [])) owners
+        (Some (lower_double found (record { place = r.place; first = owner; second = length passes })))
     marks-stay owner is taken unnamed =
         owner-stays (HasPlace (passes ++ t ∷ [])) (HasPlace (passes ++ (t ++ r ∷ []) ∷ [])) r.place (length passes) owners found
         (grown-keeps passes t r) (grown-here passes t r) (grown-more passes t r) (grown-bound passes t r) within had owner is taken (grown-new passes t r unnamed)
@@ -41,17 +45,24 @@ module _ {K : Type 0} where
         let h : r.place < count = subst P (sym is) (All-get_or P rs i r below within) in
         omega (arith, h, long)
 
-    pub step-new : (after : List ℕ) (shown : Option Double) → after ≡ slice_set owners r.place n → shown ≡ found → slice_index owners r.place ≡ 4294967295 → AreOwners (HasPlace (passes ++ take (i + 1) rs ∷ [])) after shown
+    pub step-new : (after : List ℕ) (shown : Option Double) → after ≡ slice_set owners r.place n
+        → shown ≡ found → slice_index owners r.place ≡ 4294967295
+        → AreOwners (HasPlace (passes ++ take (i + 1) rs ∷ [])) after shown
     step-new after shown a s free =
         rw (take-read rs i r below is, a, s, ← number) (marks-new passes (take i rs) r owners found place-within had free (omega (arith, number, few)))
 
-    pub step-stay : (owner : ℕ) (after : List ℕ) (shown : Option Double) (double : Double) → IsStrictlyIncreasing (places rs) → owner ≡ slice_index owners r.place → owner ≢ 4294967295 → after ≡ owners
-        → shown ≡ Some double → double ≡ lower_double found (record { place = r.place; first = owner; second = n }) → AreOwners (HasPlace (passes ++ take (i + 1) rs ∷ [])) after shown
+    pub step-stay : (owner : ℕ) (after : List ℕ) (shown : Option Double) (double : Double)
+        → IsStrictlyIncreasing (places rs) → owner ≡ slice_index owners r.place → owner ≢ 4294967295
+        → after ≡ owners → shown ≡ Some double
+        → double ≡ lower_double found (record { place = r.place; first = owner; second = n })
+        → AreOwners (HasPlace (passes ++ take (i + 1) rs ∷ [])) after shown
     step-stay owner after shown double rises o taken a s d =
         rw (take-read rs i r below is, a, s, d, ← number) (marks-stay passes (take i rs) r owners found place-within had owner o taken (unnamed-before rs i r below is rises))
 
   -- at the end
-  pub marks-show : (passes : List (List (Receipt K))) (found : Option Double) → AreRising passes → IsLowest (HasPlace passes) found
-      → MatchOption found (AreDistinct passes) (λ double. IsFirstDouble (HasPlace passes) double.place double.first double.second)
+  pub marks-show : (passes : List (List (Receipt K))) (found : Option Double) → AreRising passes
+      → IsLowest (HasPlace passes) found
+      → MatchOption found (AreDistinct passes)
+      (λ double. IsFirstDouble (HasPlace passes) double.place double.first double.second)
   marks-show passes None rising single = distinct-all passes rising single
   marks-show passes (Some double) rising first = first

@@ -28,7 +28,9 @@ counted-le false false n m f h = h
 
 module _ {K : Type 0} where
   -- a test of a begin holds less often, the more receipts follow
-  still : (b : Bool) (call : CallId) (rest : List (Receipt K)) (r : Receipt K) → (b && not (list_any (cancels_call call) (rest ++ r ∷ []))) ≡ true → (b && not (list_any (cancels_call call) rest)) ≡ true
+  still : (b : Bool) (call : CallId) (rest : List (Receipt K)) (r : Receipt K)
+      → (b && not (list_any (cancels_call call) (rest ++ r ∷ []))) ≡ true
+      → (b && not (list_any (cancels_call call) rest)) ≡ true
   still b call rest r h = by_test b (list_any (cancels_call call) rest) (cancels_call call r) (ap (λ v. b && not v) (sym (list_any-more (cancels_call call) rest r)) ∙ h)
     where
       by_test : (b x y : Bool) → (b && not (x || y)) ≡ true → (b && not x) ≡ true
@@ -37,7 +39,8 @@ module _ {K : Type 0} where
       by_test false x y h = h
 
   -- one more receipt opens one begin at most
-  pub open_begins-more : (rs : List (Receipt K)) (r : Receipt K) → open_begins (rs ++ r ∷ []) ≤ open_begins rs + one_where (is_begun r.entry.reply)
+  pub open_begins-more : (rs : List (Receipt K)) (r : Receipt K)
+      → open_begins (rs ++ r ∷ []) ≤ open_begins rs + one_where (is_begun r.entry.reply)
   open_begins-more [] r = by_test (is_begun r.entry.reply)
     where
       by_test : (b : Bool) → counted (b && true) 0 ≤ 0 + one_where b
@@ -45,28 +48,38 @@ module _ {K : Type 0} where
       by_test false = omega arith
   open_begins-more (x ∷ rest) r = by_test (is_begun r.entry.reply) (open_begins-more rest r)
     where
-      by_one : (n : ℕ) → open_begins (rest ++ r ∷ []) ≤ open_begins rest + n → counted (is_begun x.entry.reply && not (list_any (cancels_call (call_of x.entry.event)) (rest ++ r ∷ []))) (open_begins (rest ++ r ∷ [])) ≤ counted (is_begun x.entry.reply && not (list_any (cancels_call (call_of x.entry.event)) rest)) (open_begins rest + n)
+      by_one : (n : ℕ) → open_begins (rest ++ r ∷ []) ≤ open_begins rest + n
+          → counted
+          (is_begun x.entry.reply && not (list_any (cancels_call (call_of x.entry.event)) (rest ++ r ∷ [])))
+          (open_begins (rest ++ r ∷ []))
+          ≤ counted (is_begun x.entry.reply && not (list_any (cancels_call (call_of x.entry.event)) rest))
+          (open_begins rest + n)
       by_one n h = counted-le _ _ (open_begins (rest ++ r ∷ [])) (open_begins rest + n) (still (is_begun x.entry.reply) (call_of x.entry.event) rest r) h
 
       sum : (b : Bool) (n m : ℕ) → counted b (n + m) ≡ counted b n + m
       sum true n m = omega arith
       sum false n m = refl
 
-      by_test : (b : Bool) → open_begins (rest ++ r ∷ []) ≤ open_begins rest + one_where b → open_begins (x ∷ (rest ++ r ∷ [])) ≤ open_begins (x ∷ rest) + one_where b
+      by_test : (b : Bool) → open_begins (rest ++ r ∷ []) ≤ open_begins rest + one_where b
+          → open_begins (x ∷ (rest ++ r ∷ [])) ≤ open_begins (x ∷ rest) + one_where b
       by_test b h =
           let k = by_one (one_where b) h in
           let s = sum (is_begun x.entry.reply && not (list_any (cancels_call (call_of x.entry.event)) rest)) (open_begins rest) (one_where b) in
           omega (arith, k, s)
 
   -- a cancel of an open call closes one begin at least
-  pub open_begins-cancel : (call : CallId) (rs : List (Receipt K)) (r : Receipt K) → cancels_call call r ≡ true → is_begun r.entry.reply ≡ false → is_open call rs ≡ true → open_begins (rs ++ r ∷ []) + 1 ≤ open_begins rs
+  pub open_begins-cancel : (call : CallId) (rs : List (Receipt K)) (r : Receipt K)
+      → cancels_call call r ≡ true → is_begun r.entry.reply ≡ false → is_open call rs ≡ true
+      → open_begins (rs ++ r ∷ []) + 1 ≤ open_begins rs
   open_begins-cancel call [] r c b o = cc
   open_begins-cancel call (x ∷ rest) r c b o = by_here (begins_call call x && not (list_any (cancels_call call) rest)) refl o (open_begins-cancel call rest r c b)
     where
       fewer : open_begins (rest ++ r ∷ []) ≤ open_begins rest
       fewer = let k = open_begins-more rest r in let z : one_where (is_begun r.entry.reply) ≡ 0 = ap one_where b in omega (arith, k, z)
 
-      by_here : (h : Bool) → (begins_call call x && not (list_any (cancels_call call) rest)) ≡ h → (h || is_open call rest) ≡ true → (is_open call rest ≡ true → open_begins (rest ++ r ∷ []) + 1 ≤ open_begins rest)
+      by_here : (h : Bool) → (begins_call call x && not (list_any (cancels_call call) rest)) ≡ h
+          → (h || is_open call rest) ≡ true
+          → (is_open call rest ≡ true → open_begins (rest ++ r ∷ []) + 1 ≤ open_begins rest)
           → open_begins (x ∷ (rest ++ r ∷ [])) + 1 ≤ open_begins (x ∷ rest)
       by_here true e o later =
           let begins : begins_call call x ≡ true = and_left _ _ e in
@@ -87,7 +100,9 @@ module _ {K : Type 0} where
           more false n = refl
 
   -- whether the call is open, after one more receipt
-  pub is_open-more : (call : CallId) (rs : List (Receipt K)) (r : Receipt K) → is_open call (rs ++ r ∷ []) ≡ cond (cancels_call call r) (begins_call call r) (begins_call call r || is_open call rs)
+  pub is_open-more : (call : CallId) (rs : List (Receipt K)) (r : Receipt K)
+      → is_open call (rs ++ r ∷ [])
+      ≡ cond (cancels_call call r) (begins_call call r) (begins_call call r || is_open call rs)
   is_open-more call [] r = by_test (begins_call call r) (cancels_call call r)
     where
       by_test : (b c : Bool) → ((b && true) || false) ≡ cond c b (b || false)
@@ -100,7 +115,8 @@ module _ {K : Type 0} where
       ∙ ap (λ v. (begins_call call x && not (list_any (cancels_call call) rest || cancels_call call r)) || v) (is_open-more call rest r)
       ∙ by_test (begins_call call x) (list_any (cancels_call call) rest) (cancels_call call r) (begins_call call r) (is_open call rest)
     where
-      by_test : (b a c d o : Bool) → ((b && not (a || c)) || cond c d (d || o)) ≡ cond c d (d || ((b && not a) || o))
+      by_test : (b a c d o : Bool)
+          → ((b && not (a || c)) || cond c d (d || o)) ≡ cond c d (d || ((b && not a) || o))
       by_test true true true d o = refl
       by_test true true false d o = refl
       by_test true false true d o = refl

@@ -106,7 +106,8 @@ module _ (Had Has : ℕ → ℕ → Type 0) (place n : ℕ) (owners : List ℕ) 
           single p q r (omega (arith, below)) (elsewhere p q ne a) (elsewhere p r ne b);
     }
 
-    double-stays : (p first second : ℕ) → p ≤ place → IsFirstDouble Had p first second → IsFirstDouble Has p first second
+    double-stays : (p first second : ℕ) → p ≤ place → IsFirstDouble Had p first second
+        → IsFirstDouble Has p first second
     double-stays p first second upto d = record {
       order = d.order;
       first_has = keeps p first d.first_has;
@@ -121,7 +122,8 @@ module _ (Had Has : ℕ → ℕ → Type 0) (place n : ℕ) (owners : List ℕ) 
           d.lowest_place x q r below (elsewhere x q ne a) (elsewhere x r ne b);
     }
 
-    lower-is : (o : Option Double) → IsLowest Had o → IsLowest Has (Some (lower_double o (record { place = place; first = owner; second = n })))
+    lower-is : (o : Option Double) → IsLowest Had o
+        → IsLowest Has (Some (lower_double o (record { place = place; first = owner; second = n })))
     lower-is None single = double-here (λ p q r upto. single p q r)
     lower-is (Some before) d =
         elim (leb_tells before.place place) [
@@ -131,7 +133,8 @@ module _ (Had Has : ℕ → ℕ → Type 0) (place n : ℕ) (owners : List ℕ) 
               rw e.0 (double-here (λ p q r upto. d.lowest_place p q r (omega (arith, e.1, upto))))
         ]
 
-    pub owner-stays : AreOwners Has owners (Some (lower_double lowest (record { place = place; first = owner; second = n })))
+    pub owner-stays : AreOwners Has owners
+        (Some (lower_double lowest (record { place = place; first = owner; second = n })))
     owner-stays = record {
       free = λ p e q h.
           elim (more p q h) [

@@ -17,7 +17,8 @@ module _ {K : Type 0} where
   names-here [] r = (zero, refl)
   names-here (x ∷ rs) r = let k = names-here rs r in (suc k.0, k.1)
 
-  pub names-more : (rs : List (Receipt K)) (r : Receipt K) (p : ℕ) → Names (rs ++ r ∷ []) p → Names rs p ⊎ (p ≡ r.place)
+  pub names-more : (rs : List (Receipt K)) (r : Receipt K) (p : ℕ) → Names (rs ++ r ∷ []) p
+      → Names rs p ⊎ (p ≡ r.place)
   names-more [] r p (zero, e) = inr (cc)
   names-more [] r p (suc at, e) = absurd (cc)
   names-more (x ∷ rs) r p (zero, e) = inl (zero, e)
@@ -29,18 +30,21 @@ module _ {K : Type 0} where
   has-below (x ∷ xs) p (suc q) h = let k = has-below xs p q h in omega (arith, k)
 
   -- one more pass
-  pub has-before : (xs : List (List (Receipt K))) (t : List (Receipt K)) (p q : ℕ) → HasPlace xs p q → HasPlace (xs ++ t ∷ []) p q
+  pub has-before : (xs : List (List (Receipt K))) (t : List (Receipt K)) (p q : ℕ) → HasPlace xs p q
+      → HasPlace (xs ++ t ∷ []) p q
   has-before [] t p q (at, e) = absurd (cc)
   has-before (x ∷ xs) t p zero h = h
   has-before (x ∷ xs) t p (suc q) h = has-before xs t p q h
 
-  pub has-last : (xs : List (List (Receipt K))) (t : List (Receipt K)) (p q : ℕ) → q ≡ length xs → Names t p → HasPlace (xs ++ t ∷ []) p q
+  pub has-last : (xs : List (List (Receipt K))) (t : List (Receipt K)) (p q : ℕ) → q ≡ length xs → Names t p
+      → HasPlace (xs ++ t ∷ []) p q
   has-last [] t p zero e h = h
   has-last [] t p (suc q) e h = absurd (omega (arith, e))
   has-last (x ∷ xs) t p zero e h = absurd (omega (arith, e))
   has-last (x ∷ xs) t p (suc q) e h = has-last xs t p q (omega (arith, e)) h
 
-  pub has-cases : (xs : List (List (Receipt K))) (t : List (Receipt K)) (p q : ℕ) → HasPlace (xs ++ t ∷ []) p q → HasPlace xs p q ⊎ ((q ≡ length xs) × Names t p)
+  pub has-cases : (xs : List (List (Receipt K))) (t : List (Receipt K)) (p q : ℕ)
+      → HasPlace (xs ++ t ∷ []) p q → HasPlace xs p q ⊎ ((q ≡ length xs) × Names t p)
   has-cases [] t p zero h = inr (refl, h)
   has-cases [] t p (suc q) (at, e) = absurd (cc)
   has-cases (x ∷ xs) t p zero h = inl h
@@ -59,7 +63,8 @@ module _ {K : Type 0} where
     pub grown-here : HasPlace (xs ++ (t ++ r ∷ []) ∷ []) r.place (length xs)
     grown-here = has-last xs (t ++ r ∷ []) r.place (length xs) refl (names-here t r)
 
-    pub grown-more : (p q : ℕ) → HasPlace (xs ++ (t ++ r ∷ []) ∷ []) p q → HasPlace (xs ++ t ∷ []) p q ⊎ ((p ≡ r.place) × (q ≡ length xs))
+    pub grown-more : (p q : ℕ) → HasPlace (xs ++ (t ++ r ∷ []) ∷ []) p q
+        → HasPlace (xs ++ t ∷ []) p q ⊎ ((p ≡ r.place) × (q ≡ length xs))
     grown-more p q h =
         elim (has-cases xs (t ++ r ∷ []) p q h) [
           | inl k ↦ inl (has-before xs t p q k)

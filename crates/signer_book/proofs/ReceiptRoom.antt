@@ -30,7 +30,8 @@ module _ {K : Type 0} (rs : List (Receipt K)) (place : ℕ) (e : Entry K) (spare
   one_more = rs ++ record { place = place; entry = e } ∷ []
 
   -- any reply, with room for one begin more
-  pub room_begun : after ≡ spare + 1 → length rs + (after + 1) ≤ capacity → HasReceiptRoom (rs ++ record { place = place; entry = e } ∷ []) after capacity
+  pub room_begun : after ≡ spare + 1 → length rs + (after + 1) ≤ capacity
+      → HasReceiptRoom (rs ++ record { place = place; entry = e } ∷ []) after capacity
   room_begun is room =
       let r : Receipt K = record { place = place; entry = e } in
       let k = open_begins-more rs (record { place = place; entry = e }) in
@@ -39,7 +40,8 @@ module _ {K : Type 0} (rs : List (Receipt K)) (place : ℕ) (e : Entry K) (spare
       record { counted = omega (arith, k, b, had.counted, is); room = omega (arith, n, room) }
 
   -- a reply that begins no call
-  pub room_same : is_begun e.reply ≡ false → after ≡ spare → length rs + (after + 1) ≤ capacity → HasReceiptRoom (rs ++ record { place = place; entry = e } ∷ []) after capacity
+  pub room_same : is_begun e.reply ≡ false → after ≡ spare → length rs + (after + 1) ≤ capacity
+      → HasReceiptRoom (rs ++ record { place = place; entry = e } ∷ []) after capacity
   room_same plain is room =
       let k = open_begins-more rs (record { place = place; entry = e }) in
       let b : one_where (is_begun e.reply) ≡ 0 = ap one_where plain in
@@ -47,7 +49,9 @@ module _ {K : Type 0} (rs : List (Receipt K)) (place : ℕ) (e : Entry K) (spare
       record { counted = omega (arith, k, b, had.counted, is); room = omega (arith, n, room) }
 
   -- a cancel of an open call, in the room that was kept for it
-  pub room_cancelled : is_cancelled e.reply ≡ true → is_open (call_of e.event) rs ≡ true → after ≡ spare - 1 → before ≤ capacity → (1 ≤ spare) × HasReceiptRoom (rs ++ record { place = place; entry = e } ∷ []) after capacity
+  pub room_cancelled : is_cancelled e.reply ≡ true → is_open (call_of e.event) rs ≡ true → after ≡ spare - 1
+      → before ≤ capacity
+      → (1 ≤ spare) × HasReceiptRoom (rs ++ record { place = place; entry = e } ∷ []) after capacity
   room_cancelled over open_call is room =
       let c : cancels_call (call_of e.event) (record { place = place; entry = e }) ≡ true = rw (same_call-refl (call_of e.event), over) refl in
       let k = open_begins-cancel (call_of e.event) rs (record { place = place; entry = e }) c (no_begin e.reply over) open_call in

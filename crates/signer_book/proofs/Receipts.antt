@@ -14,7 +14,8 @@ use Rattle.signer_book.proofs.Passes.{Names}
 
 module _ {X : Type 0} (xs : List X) where
   -- what a read gave is the item at its place
-  pub some-at : (Q : X → Type 0) (i : ℕ) (x : X) → i < length xs → x ≡ get_or xs i x → Q x → IsSomeAnd (slice_get xs i) Q
+  pub some-at : (Q : X → Type 0) (i : ℕ) (x : X) → i < length xs → x ≡ get_or xs i x → Q x
+      → IsSomeAnd (slice_get xs i) Q
   some-at Q i x below is q =
       let P : Option X → Type 0 = λ o. IsSomeAnd o Q in
       subst P (sym (slice_get_read xs (length xs) i x refl below is)) q
@@ -24,7 +25,8 @@ module _ {X : Type 0} (xs : List X) where
   take-read i x below is = take_more xs i x below ∙ ap (λ y. take i xs ++ y ∷ []) (sym is)
 
   module _ (P : X → Type 0) where
-    pub all-more : (i : ℕ) (x : X) → i < length xs → x ≡ get_or xs i x → All P (take i xs) → P x → All P (take (i + 1) xs)
+    pub all-more : (i : ℕ) (x : X) → i < length xs → x ≡ get_or xs i x → All P (take i xs) → P x
+        → All P (take (i + 1) xs)
     all-more i x below is h p = All-more P xs i x below h (subst P is p)
 
     pub all-end : (n : ℕ) → length xs ≤ n → All P (take n xs) → All P xs
@@ -38,7 +40,8 @@ module _ {X : Type 0} (xs : List X) where
         subst P here (All-get_or P (take n xs) k x (omega (arith, n', below, before)) h)
 
     -- of no item so far does a fact hold that this one excludes
-    pub none-before : (Q : X → Type 0) (n q : ℕ) → ((x : X) → P x → Q x → ⊥) → All P (take n xs) → q < n → IfSome (slice_get xs q) (λ x. Q x → ⊥)
+    pub none-before : (Q : X → Type 0) (n q : ℕ) → ((x : X) → P x → Q x → ⊥) → All P (take n xs) → q < n
+        → IfSome (slice_get xs q) (λ x. Q x → ⊥)
     none-before Q n q excludes h before = by_item (slice_get xs q) refl
       where
         by_item : (o : Option X) → slice_get xs q ≡ o → IfSome o (λ x. Q x → ⊥)
@@ -46,11 +49,14 @@ module _ {X : Type 0} (xs : List X) where
         by_item (Some x) e = excludes x (taken-get n q x h before e)
 
 module _ {K : Type 0} (rs : List (Receipt K)) where
-  pub place-read : (i : ℕ) (r : Receipt K) → i < length rs → r ≡ get_or rs i r → slice_index (places rs) i ≡ r.place
+  pub place-read : (i : ℕ) (r : Receipt K) → i < length rs → r ≡ get_or rs i r
+      → slice_index (places rs) i ≡ r.place
   place-read i r below is = get_or-map (λ (x : Receipt K). x.place) rs i r 0 below ∙ ap (λ (x : Receipt K). x.place) (sym is)
 
-  pub rises-more : (at : ℕ) (d e : Receipt K) → 0 < at → at < length rs → (get_or rs (at - 1) d).place < (get_or rs at e).place
-      → ((k : ℕ) → k + 1 < at → slice_index (places rs) k < slice_index (places rs) (k + 1)) → (k : ℕ) → k + 1 < at + 1 → slice_index (places rs) k < slice_index (places rs) (k + 1)
+  pub rises-more : (at : ℕ) (d e : Receipt K) → 0 < at → at < length rs
+      → (get_or rs (at - 1) d).place < (get_or rs at e).place
+      → ((k : ℕ) → k + 1 < at → slice_index (places rs) k < slice_index (places rs) (k + 1)) → (k : ℕ)
+      → k + 1 < at + 1 → slice_index (places rs) k < slice_index (places rs) (k + 1)
   rises-more at d e some below above h k within =
       elim (eqb_tells (k + 1) at) [
         | inl is ↦
@@ -72,7 +78,8 @@ module _ {K : Type 0} (rs : List (Receipt K)) where
       omega (arith, f, x, falls.2)
 
   -- where places rise no receipt before names the place
-  pub unnamed-before : (i : ℕ) (r : Receipt K) → i < length rs → r ≡ get_or rs i r → IsStrictlyIncreasing (places rs) → Names (take i rs) r.place → ⊥
+  pub unnamed-before : (i : ℕ) (r : Receipt K) → i < length rs → r ≡ get_or rs i r
+      → IsStrictlyIncreasing (places rs) → Names (take i rs) r.place → ⊥
   unnamed-before i r below is rises (at, e) =
       let t = take i rs in
       let there : slice_get (places t) at ≡ Some r.place = slice_get-map (λ (x : Receipt K). x.place) t at ∙ e in

@@ -41,7 +41,8 @@ is_out (reply.Cancelled wake) = inr (λ e. cc)
 
 module _ {K : Type 0} (gate : GateMeaning K) (turns : ℕ) (job : Job) where
   -- a course without receipts
-  course-nil : (before : Next K) (end : JobEnd) → IsOpen before → end ≡ ended.OutOfMemory false → IsCourse gate turns job before [] end
+  course-nil : (before : Next K) (end : JobEnd) → IsOpen before → end ≡ ended.OutOfMemory false
+      → IsCourse gate turns job before [] end
   course-nil next.Begin end open_call e = e
   course-nil next.Poll end open_call e = e
   course-nil (next.Load provider) end open_call e = e
@@ -64,8 +65,8 @@ module _ {K : Type 0} (gate : GateMeaning K) (turns : ℕ) (job : Job) where
   stays at pass = ([], sym (append-nil pass), λ rest end course. course)
 
   -- one after another
-  pub goes_further : (a b c : Next K) (old mid new : List (Receipt K))
-      → Advances gate turns job a old mid b → Advances gate turns job b mid new c → Advances gate turns job a old new c
+  pub goes_further : (a b c : Next K) (old mid new : List (Receipt K)) → Advances gate turns job a old mid b
+      → Advances gate turns job b mid new c → Advances gate turns job a old new c
   goes_further a b c old mid new p q = (
     p.0 ++ q.0,
     q.1 ∙ ap (λ l. l ++ q.0) p.1 ∙ append_assoc old p.0 q.0,
@@ -88,7 +89,8 @@ module _ {K : Type 0} (gate : GateMeaning K) (turns : ℕ) (job : Job) where
   -- one receipt more
   pub steps : (before after : Next K) (old new : List (Receipt K)) (e : Event K) (r : Reply K) → IsOpen before
       → (place : ℕ) × (new ≡ old ++ record { place = place; entry = record { event = e; reply = r } } ∷ [])
-      → IsTrue (is_reply_to e r) → r ≢ reply.OutOfMemory → IsStep gate turns job before (record { event = e; reply = r }) after
+      → IsTrue (is_reply_to e r) → r ≢ reply.OutOfMemory
+      → IsStep gate turns job before (record { event = e; reply = r }) after
       → Advances gate turns job before old new after
   steps before after old new e r open_call receipt kind kept step = (
     record { place = receipt.0; entry = record { event = e; reply = r } } ∷ [],
@@ -98,8 +100,10 @@ module _ {K : Type 0} (gate : GateMeaning K) (turns : ℕ) (job : Job) where
   )
 
   -- an event that may be the last: its receipt, or none where an allocation failed
-  pub steps_last : (before after : Next K) (old new : List (Receipt K)) (e : Event K) (r : Reply K) → IsOpen before
-      → (r ≢ reply.OutOfMemory → (place : ℕ) × (new ≡ old ++ record { place = place; entry = record { event = e; reply = r } } ∷ []))
+  pub steps_last : (before after : Next K) (old new : List (Receipt K)) (e : Event K) (r : Reply K)
+      → IsOpen before
+      → (r ≢ reply.OutOfMemory
+      → (place : ℕ) × (new ≡ old ++ record { place = place; entry = record { event = e; reply = r } } ∷ []))
       → (r ≡ reply.OutOfMemory → new ≡ old) → IsTrue (is_reply_to e r)
       → IsStep gate turns job before (record { event = e; reply = r }) after
       → (r ≡ reply.OutOfMemory → after ≡ next.Over (ended.OutOfMemory false))

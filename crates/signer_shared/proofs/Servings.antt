@@ -20,7 +20,8 @@ use Rattle.signer_shared.specs.declared.next.Next.TheVariants as next
 use Rattle.signer_shared.proofs.Tallies.{Tally, tally, done_of, refused_of, not_now_of, given_up_of}
 
 -- replies of two lists
-replies-append : {K : Type 0} (test : Reply K → Bool) (xs ys : List (Receipt K)) → replies test (xs ++ ys) ≡ replies test xs + replies test ys
+replies-append : {K : Type 0} (test : Reply K → Bool) (xs ys : List (Receipt K))
+    → replies test (xs ++ ys) ≡ replies test xs + replies test ys
 replies-append test xs ys = sum_by-append (λ r. cond (test r.entry.reply) 1 0) xs ys
 
 -- the counts with one more job
@@ -48,14 +49,16 @@ ran_out-true ended.GivenUp out = absurd (false≢true out)
 ran_out-true (ended.OutOfMemory not_now) out = (not_now, refl)
 
 -- a list around one of its items
-around : {X : Type 0} (xs : List X) (i : ℕ) (x : X) → i < length xs → x ≡ get_or xs i x → xs ≡ take i xs ++ x ∷ drop (suc i) xs
+around : {X : Type 0} (xs : List X) (i : ℕ) (x : X) → i < length xs → x ≡ get_or xs i x
+    → xs ≡ take i xs ++ x ∷ drop (suc i) xs
 around xs i x within at =
     sym (take-append-drop i xs) ∙ ap (λ l. take i xs ++ l) (drop-cons xs i x within ∙ ap (λ y. y ∷ drop (suc i) xs) (sym at))
 
 module _ {K : Type 0} (gate : GateMeaning K) (turns : ℕ) where
   -- one job more, to its end
-  serves-more : (jobs : List Job) (added : List (Receipt K)) (job : Job) (own : List (Receipt K)) (end : JobEnd) → ServesAll gate turns jobs added
-      → IsCourse gate turns job next.Begin own end → ran_out end ≡ false → ServesAll gate turns (jobs ++ job ∷ []) (added ++ own)
+  serves-more : (jobs : List Job) (added : List (Receipt K)) (job : Job) (own : List (Receipt K))
+      (end : JobEnd) → ServesAll gate turns jobs added → IsCourse gate turns job next.Begin own end
+      → ran_out end ≡ false → ServesAll gate turns (jobs ++ job ∷ []) (added ++ own)
   serves-more [] added job own end serves course to_end =
       (own, [], end, ap (λ l. l ++ own) serves ∙ sym (append-nil own), course, to_end, refl)
   serves-more (j ∷ jobs) added job own end serves course to_end = (
@@ -81,7 +84,8 @@ module _ {K : Type 0} (gate : GateMeaning K) (turns : ℕ) where
     pub all : served.done + served.refused + served.not_now + served.given_up ≡ length jobs
 
   -- no job yet
-  pub none_served : (old : List (Receipt K)) (served : Served) → served ≡ record { done = 0; refused = 0; not_now = 0; given_up = 0; out_of_memory = false }
+  pub none_served : (old : List (Receipt K)) (served : Served)
+      → served ≡ record { done = 0; refused = 0; not_now = 0; given_up = 0; out_of_memory = false }
       → ServedSoFar [] old old served
   none_served old served e =
       let P : Served → Type 0 = λ s. ServedSoFar [] old old s in
@@ -103,13 +107,15 @@ module _ {K : Type 0} (gate : GateMeaning K) (turns : ℕ) where
     now_is : now ≡ old ++ own
     course : IsCourse gate turns job next.Begin own end
 
-  own_of : (job : Job) (old now : List (Receipt K)) (end : JobEnd) → Advances gate turns job next.Begin old now (next.Over end) → Own job old now end
+  own_of : (job : Job) (old now : List (Receipt K)) (end : JobEnd)
+      → Advances gate turns job next.Begin old now (next.Over end) → Own job old now end
   own_of job old now end a =
       let P : List (Receipt K) → Type 0 = λ l. IsCourse gate turns job next.Begin l end in
       record { own = a.0; now_is = a.1; course = subst P (append-nil a.0) (a.2 [] end (refl, refl)) }
 
   -- one job more, to its end
-  pub one_more : (jobs : List Job) (job : Job) (old mid now : List (Receipt K)) (served : Served) (end : JobEnd) → ServedSoFar jobs old mid served
+  pub one_more : (jobs : List Job) (job : Job) (old mid now : List (Receipt K)) (served : Served)
+      (end : JobEnd) → ServedSoFar jobs old mid served
       → Advances gate turns job next.Begin mid now (next.Over end) → ran_out end ≡ false
       → ServedSoFar (jobs ++ job ∷ []) old now (counted served end)
   one_more jobs job old mid now served end s a to_end =
@@ -129,7 +135,8 @@ module _ {K : Type 0} (gate : GateMeaning K) (turns : ℕ) where
       }
 
   -- all jobs were served
-  pub all_served : (jobs : List Job) (old now : List (Receipt K)) (served : Served) → ServedSoFar jobs old now served
+  pub all_served : (jobs : List Job) (old now : List (Receipt K)) (served : Served)
+      → ServedSoFar jobs old now served
       → (added : List (Receipt K)) × (now ≡ old ++ added) × IsServing gate turns jobs added served
   all_served jobs old now served s = (
     s.added,
@@ -146,10 +153,11 @@ module _ {K : Type 0} (gate : GateMeaning K) (turns : ℕ) where
   )
 
   -- the work stops at a job
-  pub stopped : (before : List Job) (job : Job) (after jobs : List Job) (old mid now : List (Receipt K)) (served : Served) (not_now : Bool)
-      → jobs ≡ before ++ job ∷ after → ServedSoFar before old mid served
+  pub stopped : (before : List Job) (job : Job) (after jobs : List Job) (old mid now : List (Receipt K))
+      (served : Served) (not_now : Bool) → jobs ≡ before ++ job ∷ after → ServedSoFar before old mid served
       → Advances gate turns job next.Begin mid now (next.Over (ended.OutOfMemory not_now))
-      → (added : List (Receipt K)) × (now ≡ old ++ added) × IsServing gate turns jobs added (counted served (ended.OutOfMemory not_now))
+      → (added : List (Receipt K)) × (now ≡ old ++ added)
+      × IsServing gate turns jobs added (counted served (ended.OutOfMemory not_now))
   stopped before job after jobs old mid now served not_now jobs_are s a =
       let o = own_of job mid now (ended.OutOfMemory not_now) a in
       let t = tally gate turns job o.own next.Begin (ended.OutOfMemory not_now) tt o.course in
@@ -179,9 +187,10 @@ module _ {K : Type 0} (gate : GateMeaning K) (turns : ℕ) where
       )
 
   -- at a job with which the work stops, in the middle of a list
-  pub stops_there : (jobs : List Job) (i : ℕ) (job : Job) (old mid now : List (Receipt K)) (served after : Served) (end : JobEnd)
-      → i < length jobs → job ≡ get_or jobs i job → ServedSoFar (take i jobs) old mid served
-      → Advances gate turns job next.Begin mid now (next.Over end) → after ≡ counted served end → after.out_of_memory ≡ true
+  pub stops_there : (jobs : List Job) (i : ℕ) (job : Job) (old mid now : List (Receipt K))
+      (served after : Served) (end : JobEnd) → i < length jobs → job ≡ get_or jobs i job
+      → ServedSoFar (take i jobs) old mid served → Advances gate turns job next.Begin mid now (next.Over end)
+      → after ≡ counted served end → after.out_of_memory ≡ true
       → (added : List (Receipt K)) × (now ≡ old ++ added) × IsServing gate turns jobs added after
   stops_there jobs i job old mid now served after end within at s a is_count out =
       let c = counts served end in
@@ -192,9 +201,10 @@ module _ {K : Type 0} (gate : GateMeaning K) (turns : ℕ) where
       (stopped (take i jobs) job (drop (suc i) jobs) jobs old mid now served last.0 (around jobs i job within at) s (subst P last.1 a))
 
   -- at a job behind which the work goes on
-  pub goes_to_next : (jobs : List Job) (i : ℕ) (job : Job) (old mid now : List (Receipt K)) (served after : Served) (end : JobEnd)
-      → i < length jobs → job ≡ get_or jobs i job → ServedSoFar (take i jobs) old mid served
-      → Advances gate turns job next.Begin mid now (next.Over end) → after ≡ counted served end → after.out_of_memory ≡ false
+  pub goes_to_next : (jobs : List Job) (i : ℕ) (job : Job) (old mid now : List (Receipt K))
+      (served after : Served) (end : JobEnd) → i < length jobs → job ≡ get_or jobs i job
+      → ServedSoFar (take i jobs) old mid served → Advances gate turns job next.Begin mid now (next.Over end)
+      → after ≡ counted served end → after.out_of_memory ≡ false
       → ServedSoFar (take (i + 1) jobs) old now after
   goes_to_next jobs i job old mid now served after end within at s a is_count still =
       let c = counts served end in

@@ -14,13 +14,14 @@ use Rattle.signer_shared.specs.declared.job.Served.{Served}
 use Rattle.signer_shared.specs.declared.slots.Slot.{Slot}
 
 -- what is left of a vector through a slice of the same length
-pub written_back : {X : Type 0} (xs ys : List X) (n : ℕ) → length ys ≡ length xs → n ≡ length xs → take n (ys ++ drop (length ys) xs) ≡ ys
+pub written_back : {X : Type 0} (xs ys : List X) (n : ℕ) → length ys ≡ length xs → n ≡ length xs
+    → take n (ys ++ drop (length ys) xs) ≡ ys
 written_back xs ys n same all =
     ap (λ l. take n (ys ++ l)) (drop_all (length ys) xs (omega arith)) ∙ (ap (λ l. take n l) (append-nil ys) ∙ take_all n ys (omega arith))
 
 -- one slot more
-pub one_slot_more : {K : Type 0} (count : ℕ) (slots : List (Slot K)) (slot : Slot K) → AreEmptySlots count slots → slot.pass ≡ []
-    → AreEmptySlots (count + 1) (slots ++ slot ∷ [])
+pub one_slot_more : {K : Type 0} (count : ℕ) (slots : List (Slot K)) (slot : Slot K)
+    → AreEmptySlots count slots → slot.pass ≡ [] → AreEmptySlots (count + 1) (slots ++ slot ∷ [])
 one_slot_more count slots slot all empty = record {
   len = omega (arith, length-append slots (slot ∷ []), all.len);
   empty = All-push (λ s. s.pass ≡ []) slots slot all.empty empty;
@@ -30,8 +31,10 @@ module _ {K : Type 0} (gate : GateMeaning K) (turns : ℕ) where
   -- list by list, from place by place
   by_list : (lists : List (Vec Job)) (slots : List (Slot K)) → length slots ≡ length lists
       → ((i : ℕ) (d : Slot K) (e : Vec Job) → i < length slots
-      → IsServing gate turns (slice_index_or lists i e).items (slice_index_or slots i d).pass (slice_index_or slots i d).served)
-      → ServesLists gate turns (map (λ l. l.items) lists) (map (λ s. s.pass) slots) (map (λ s. s.served) slots)
+      → IsServing gate turns (slice_index_or lists i e).items (slice_index_or slots i d).pass (slice_index_or
+      slots i d).served)
+      → ServesLists gate turns (map (λ l. l.items) lists) (map (λ s. s.pass) slots)
+      (map (λ s. s.served) slots)
   by_list [] [] len each = tt
   by_list [] (s ∷ slots) len each = absurd (omega arith)
   by_list (list ∷ lists) [] len each = absurd (omega arith)
@@ -39,8 +42,8 @@ module _ {K : Type 0} (gate : GateMeaning K) (turns : ℕ) where
       (each 0 s list (omega arith), by_list lists slots (omega arith) (λ i d e within. each (suc i) d e (omega arith)))
 
   -- the slots of workers that began with empty passes
-  pub serves_lists : (lists : List (Vec Job)) (count : ℕ) (old new : List (Slot K)) → count ≡ length lists → AreEmptySlots count old
-      → length new ≡ length lists → ServesSlots gate turns lists old new
+  pub serves_lists : (lists : List (Vec Job)) (count : ℕ) (old new : List (Slot K)) → count ≡ length lists
+      → AreEmptySlots count old → length new ≡ length lists → ServesSlots gate turns lists old new
       → ServesLists gate turns (map (λ l. l.items) lists) (map (λ s. s.pass) new) (map (λ s. s.served) new)
   serves_lists lists count old new all empty len each =
       by_list lists new len (λ i d e within.
@@ -48,9 +51,10 @@ module _ {K : Type 0} (gate : GateMeaning K) (turns : ℕ) where
       each i d e below (empty.empty i d below))
 
   -- the same of the passes and counts that were taken from the slots
-  pub results : (lists : List (Vec Job)) (old new : List (Slot K)) (passes taken : List (List (Receipt K))) (served : List Served)
-      → AreEmptySlots (length lists) old → length new ≡ length lists → ServesSlots gate turns lists old new
-      → taken ≡ map (λ s. s.pass) new → served ≡ map (λ s. s.served) new → passes ≡ taken
+  pub results : (lists : List (Vec Job)) (old new : List (Slot K)) (passes taken : List (List (Receipt K)))
+      (served : List Served) → AreEmptySlots (length lists) old → length new ≡ length lists
+      → ServesSlots gate turns lists old new → taken ≡ map (λ s. s.pass) new
+      → served ≡ map (λ s. s.served) new → passes ≡ taken
       → ServesLists gate turns (map (λ l. l.items) lists) passes served
   results lists old new passes taken served empty len each taken_are served_are passes_are =
       let P : List (List (Receipt K)) → Type 0 = λ p. ServesLists gate turns (map (λ l. l.items) lists) p served in

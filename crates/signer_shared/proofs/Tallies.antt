@@ -45,8 +45,8 @@ pub record Tally {K : Type 0} (own : List (Receipt K)) (end : JobEnd) : Type 0 w
   pub given_up : ran_out end ≡ false → replies is_cancelled own ≡ given_up_of end
 
 -- a receipt with another reply
-replies-other : {K : Type 0} (test : Reply K → Bool) (r : Receipt K) (rest : List (Receipt K)) → test r.entry.reply ≡ false
-    → replies test (r ∷ rest) ≡ replies test rest
+replies-other : {K : Type 0} (test : Reply K → Bool) (r : Receipt K) (rest : List (Receipt K))
+    → test r.entry.reply ≡ false → replies test (r ∷ rest) ≡ replies test rest
 replies-other test r rest other =
     sum_by-cons (λ x. cond (test x.entry.reply) 1 0) r rest ∙ (ap (λ b. cond b 1 0 + replies test rest) other ∙ zero-add (replies test rest))
 
@@ -56,7 +56,8 @@ receipt_of place e r = record { place = place; entry = record { event = e; reply
 
 module _ {K : Type 0} (gate : GateMeaning K) (turns : ℕ) (job : Job) where
   -- a course without receipts
-  from-nil : (before : Next K) (end : JobEnd) → IsOpen before → IsCourse gate turns job before [] end → end ≡ ended.OutOfMemory false
+  from-nil : (before : Next K) (end : JobEnd) → IsOpen before → IsCourse gate turns job before [] end
+      → end ≡ ended.OutOfMemory false
   from-nil next.Begin end open_call course = course
   from-nil next.Poll end open_call course = course
   from-nil (next.Load provider) end open_call course = course
@@ -80,15 +81,17 @@ module _ {K : Type 0} (gate : GateMeaning K) (turns : ℕ) (job : Job) where
   from-cons (next.Over over) r rest end open_call c = absurd open_call
 
   -- nothing is behind the last receipt
-  tally-last : (r : Receipt K) (rest : List (Receipt K)) (end over : JobEnd) → IsCourse gate turns job (next.Over over) rest end → Tally (r ∷ []) over → Tally (r ∷ rest) end
+  tally-last : (r : Receipt K) (rest : List (Receipt K)) (end over : JobEnd)
+      → IsCourse gate turns job (next.Over over) rest end → Tally (r ∷ []) over → Tally (r ∷ rest) end
   tally-last r rest end over c t =
       let P : List (Receipt K) → Type 0 = λ l. Tally (r ∷ l) end in
       let Q : JobEnd → Type 0 = λ e. Tally (r ∷ []) e in
       subst P (sym c.0) (subst Q (sym c.1) t)
 
   -- a receipt behind which the call goes on
-  tally-more : (r : Receipt K) (rest : List (Receipt K)) (end : JobEnd) → is_done r.entry.reply ≡ false → is_refused r.entry.reply ≡ false
-      → is_not_now r.entry.reply ≡ false → is_cancelled r.entry.reply ≡ false → Tally rest end → Tally (r ∷ rest) end
+  tally-more : (r : Receipt K) (rest : List (Receipt K)) (end : JobEnd) → is_done r.entry.reply ≡ false
+      → is_refused r.entry.reply ≡ false → is_not_now r.entry.reply ≡ false
+      → is_cancelled r.entry.reply ≡ false → Tally rest end → Tally (r ∷ rest) end
   tally-more r rest end d f n c t = record {
     done = replies-other is_done r rest d ∙ t.done;
     refused = replies-other is_refused r rest f ∙ t.refused;
@@ -97,8 +100,9 @@ module _ {K : Type 0} (gate : GateMeaning K) (turns : ℕ) (job : Job) where
   }
 
   -- a reply, and what is next after it
-  tally-reply : (place : ℕ) (e : Event K) (r : Reply K) (rest : List (Receipt K)) (end : JobEnd) → r ≢ reply.OutOfMemory
-      → (IsOpen (next_after r) → Tally rest end) → IsCourse gate turns job (next_after r) rest end → Tally (receipt_of place e r ∷ rest) end
+  tally-reply : (place : ℕ) (e : Event K) (r : Reply K) (rest : List (Receipt K)) (end : JobEnd)
+      → r ≢ reply.OutOfMemory → (IsOpen (next_after r) → Tally rest end)
+      → IsCourse gate turns job (next_after r) rest end → Tally (receipt_of place e r ∷ rest) end
   tally-reply place e reply.Begun rest end kept more c = tally-more (receipt_of place e reply.Begun) rest end refl refl refl refl (more tt)
   tally-reply place e reply.Pending rest end kept more c = tally-more (receipt_of place e reply.Pending) rest end refl refl refl refl (more tt)
   tally-reply place e reply.NotNow rest end kept more c =
@@ -114,8 +118,9 @@ module _ {K : Type 0} (gate : GateMeaning K) (turns : ℕ) (job : Job) where
       tally-last (receipt_of place e (reply.Cancelled wake)) rest end ended.GivenUp c (record { done = refl; refused = refl; not_now = refl; given_up = λ h. refl })
 
   -- the cancel of a call at which an allocation failed
-  tally-stop : (place : ℕ) (e : Event K) (r : Reply K) (rest : List (Receipt K)) (end : JobEnd) → r ≢ reply.OutOfMemory
-      → IsTrue (is_reply_to (event.Cancel job.call) r) → IsCourse gate turns job (next.Over (ended.OutOfMemory (is_not_now r))) rest end
+  tally-stop : (place : ℕ) (e : Event K) (r : Reply K) (rest : List (Receipt K)) (end : JobEnd)
+      → r ≢ reply.OutOfMemory → IsTrue (is_reply_to (event.Cancel job.call) r)
+      → IsCourse gate turns job (next.Over (ended.OutOfMemory (is_not_now r))) rest end
       → Tally (receipt_of place e r ∷ rest) end
   tally-stop place e reply.Begun rest end kept kind c = absurd (false≢true kind)
   tally-stop place e reply.Pending rest end kept kind c = absurd (false≢true kind)
@@ -130,7 +135,8 @@ module _ {K : Type 0} (gate : GateMeaning K) (turns : ℕ) (job : Job) where
       tally-last (receipt_of place e (reply.Cancelled wake)) rest end (ended.OutOfMemory false) c (record { done = refl; refused = refl; not_now = refl; given_up = λ h. absurd (false≢true (sym h)) })
 
   -- the replies of a course
-  pub tally : (own : List (Receipt K)) (before : Next K) (end : JobEnd) → IsOpen before → IsCourse gate turns job before own end → Tally own end
+  pub tally : (own : List (Receipt K)) (before : Next K) (end : JobEnd) → IsOpen before
+      → IsCourse gate turns job before own end → Tally own end
   tally [] before end open_call c =
       let Q : JobEnd → Type 0 = λ e. Tally {K = K} [] e in
       subst Q (sym (from-nil before end open_call c)) (record { done = refl; refused = refl; not_now = refl; given_up = λ h. absurd (false≢true (sym h)) })

@@ -38,7 +38,8 @@ IsCut-sides (p ∷ pairs) =
     (omega (arith, first), omega (arith, left, second), subst (λ text. IsCut text (side_lengths pairs)) (sym (other_sides p.0 p.1 rest)) (IsCut-sides pairs))
 
 -- one pair more goes to the end of the text
-pub sides_text-more : (pairs : List Pair) (p : Pair) → sides_text (pairs ++ p ∷ []) ≡ (sides_text pairs ++ p.0) ++ p.1
+pub sides_text-more : (pairs : List Pair) (p : Pair)
+    → sides_text (pairs ++ p ∷ []) ≡ (sides_text pairs ++ p.0) ++ p.1
 sides_text-more [] p = ap (λ t. p.0 ++ t) (append-nil p.1)
 sides_text-more (q ∷ pairs) p =
     ap (λ t. q.0 ++ (q.1 ++ t)) (sides_text-more pairs p)
@@ -47,7 +48,8 @@ sides_text-more (q ∷ pairs) p =
 
 -- pairs after a sort
 pub sorted_pairs-from_sort : (xs ys : List (Bor (List ℕ) × Bor (List ℕ))) → IsPermutation xs ys
-    → IsSorted (λ x y. pair_cmp (shown_pair x) (shown_pair y)) ys → shown_pairs ys ≡ sorted_pairs (shown_pairs xs)
+    → IsSorted (λ x y. pair_cmp (shown_pair x) (shown_pair y)) ys
+    → shown_pairs ys ≡ sorted_pairs (shown_pairs xs)
 unfolding sorted_pairs
 sorted_pairs-from_sort xs ys moved up =
     sorted-from_sort pair_cmp pair_total same_pair (shown_pairs xs) (shown_pairs ys) (IsPermutation-map shown_pair xs ys moved) (IsSorted-map shown_pair pair_cmp ys up)

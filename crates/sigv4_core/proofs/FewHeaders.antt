@@ -25,7 +25,8 @@ use Rattle.sigv4_core.specs.declared.sig_error.SigError.TheVariants as refusal
 use Rattle.sigv4_core.specs.FewHeaders.{is_well_formed, is_well_formed_head}
 
 -- one value more has at most one name more
-names-append : (m : Entries FieldValue) (name : List ℕ) (value : FieldValue) → length (append m name value) ≤ length m + 1
+names-append : (m : Entries FieldValue) (name : List ℕ) (value : FieldValue)
+    → length (append m name value) ≤ length m + 1
 names-append [] name value = omega arith
 names-append (e ∷ m) name value =
     elim (cases_Bool (bytes_eq e.0 name)) [
@@ -34,7 +35,8 @@ names-append (e ∷ m) name value =
     ]
 
 -- and is one value more
-values-append : (m : Entries FieldValue) (name : List ℕ) (value : FieldValue) → value_count (append m name value) ≡ value_count m + 1
+values-append : (m : Entries FieldValue) (name : List ℕ) (value : FieldValue)
+    → value_count (append m name value) ≡ value_count m + 1
 values-append [] name value = refl
 values-append (e ∷ m) name value =
     let before = sum_by-cons (λ (e : Entry FieldValue). length e.1) e m in
@@ -60,18 +62,20 @@ and-true : (b : Bool) → (b && true) ≡ b
 and-true true = refl
 and-true false = refl
 
-room : (m : Entries FieldValue) (name : List ℕ) → length m < 24576 → value_count m < 24576 → has_room m name ≡ true
+room : (m : Entries FieldValue) (name : List ℕ) → length m < 24576 → value_count m < 24576
+    → has_room m name ≡ true
 unfolding has_room
 room m name names values =
     let most : value_count m < most_values = omega (arith, values) in
     rw (less (value_count m) most_values most, less (length m) 24576 names) (or-true (list_any (λ key. bytes_eq key name) (keys m)))
 
-takes : (m : Entries FieldValue) (f : Field) → length m < 24576 → value_count m < 24576 → takes_field m f ≡ is_well_formed f
+takes : (m : Entries FieldValue) (f : Field) → length m < 24576 → value_count m < 24576
+    → takes_field m f ≡ is_well_formed f
 unfolding takes_field is_field_value
 takes m f names values = rw (room m (lowercase f.name) names values, and-true (list_all is_value_byte f.value)) refl
 
-takes-all : (m : Entries FieldValue) (fields : List Field) → length m + length fields ≤ 24576 → value_count m + length fields ≤ 24576
-    → takes_fields m fields ≡ list_all is_well_formed fields
+takes-all : (m : Entries FieldValue) (fields : List Field) → length m + length fields ≤ 24576
+    → value_count m + length fields ≤ 24576 → takes_fields m fields ≡ list_all is_well_formed fields
 takes-all m [] names values = refl
 takes-all m (f ∷ fields) names values =
     let n = names-append m (lowercase f.name) (plain_value f.value) in
@@ -80,7 +84,8 @@ takes-all m (f ∷ fields) names values =
     let next = takes-all (append m (lowercase f.name) (plain_value f.value)) fields (omega (arith, n, names)) (omega (arith, v, values)) in
     rw (here, next) refl
 
-all-taken : (head : Head) → length head.headers ≤ 24576 → takes_fields [] head.headers ≡ list_all is_well_formed head.headers
+all-taken : (head : Head) → length head.headers ≤ 24576
+    → takes_fields [] head.headers ≡ list_all is_well_formed head.headers
 all-taken head few = takes-all [] head.headers (omega (arith, few)) (omega (arith, few))
 
 by-parts : (token read taken : Bool) → (token && taken) ≡ false → (token && (read && taken)) ≡ false
@@ -93,7 +98,8 @@ unread true taken = refl
 unread false taken = refl
 
 -- a head with few headers that is not well formed is not accepted
-pub malformed_is_refused : (head : Head) → length head.headers ≤ 24576 → is_well_formed_head head ≡ false → is_accepted_head head ≡ false
+pub malformed_is_refused : (head : Head) → length head.headers ≤ 24576 → is_well_formed_head head ≡ false
+    → is_accepted_head head ≡ false
 unfolding is_accepted_head
 malformed_is_refused head few e =
     rw (all-taken head few) (by-parts (is_token head.method) (is_some (target_of head.uri)) (list_all is_well_formed head.headers) e)
@@ -123,7 +129,8 @@ pub token-test : (bytes : List ℕ) (test : Bool) → (IsTrue test ↔ IsToken b
 token-test bytes test both = same-test test (is_token bytes) both (tokens-decide bytes)
 
 -- a name of a header by the test of its token
-pub name-test : (name : List ℕ) (token : Bool) → token ≡ is_token name → is_field_name name ≡ (token && leb (length name) 65535)
+pub name-test : (name : List ℕ) (token : Bool) → token ≡ is_token name
+    → is_field_name name ≡ (token && leb (length name) 65535)
 unfolding is_token
 name-test name token e = ap (λ b. b && leb (length name) 65535) (sym e)
 
@@ -134,13 +141,15 @@ pub invalid_blames_no_memory : (e : UriError) (why : InvalidUri) → e ≡ Inval
 invalid_blames_no_memory e why is = subst (λ (e : UriError). ¬ (IsOutOfMemory e)) (sym is) never
 
 -- what is answered for the target of a well formed head is answered for the head
-pub target_accepts : (head : Head) (answer : Result Uri SigError) → length head.headers ≤ 24576 → is_well_formed_head head ≡ true
-    → IfOk answer (λ uri. target_of head.uri ≡ Some (plain_target uri)) → OnOk answer (is_accepted_head head ≡ true)
+pub target_accepts : (head : Head) (answer : Result Uri SigError) → length head.headers ≤ 24576
+    → is_well_formed_head head ≡ true → IfOk answer (λ uri. target_of head.uri ≡ Some (plain_target uri))
+    → OnOk answer (is_accepted_head head ≡ true)
 target_accepts head (Ok uri) few well some = well_formed_is_accepted head few well (plain_target uri) some
 target_accepts head (Err why) few well some = tt
 
 pub target_refuses : (head : Head) (answer : Result Uri SigError)
     → IfErr answer (λ why. (why ≡ refusal.OutOfMemory) ⊎ ((why ≡ refusal.Head) × (target_of head.uri ≡ None)))
-    → IfErr answer (λ why. (why ≡ refusal.OutOfMemory) ⊎ ((why ≡ refusal.Head) × (is_accepted_head head ≡ false)))
+    → IfErr answer
+    (λ why. (why ≡ refusal.OutOfMemory) ⊎ ((why ≡ refusal.Head) × (is_accepted_head head ≡ false)))
 target_refuses head (Ok uri) none = tt
 target_refuses head (Err why) none = elim none [ inl memory ↦ inl memory | inr h ↦ inr (h.0, unread_is_refused head h.1) ]

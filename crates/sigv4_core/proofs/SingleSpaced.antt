@@ -21,12 +21,14 @@ are_words in_word (word ∷ words) = (in_word || is_word word) && list_all is_wo
 begins_word : (b : ℕ) (word : List ℕ) → is_word (b ∷ word) ≡ true
 begins_word b word = grind (arith, nat_tests)
 
-at_blank : (in_word : Bool) (words : List (List ℕ)) → (in_word && are_words false words) ≡ are_words in_word ([] ∷ words)
+at_blank : (in_word : Bool) (words : List (List ℕ))
+    → (in_word && are_words false words) ≡ are_words in_word ([] ∷ words)
 at_blank true [] = refl
 at_blank true (word ∷ words) = refl
 at_blank false words = refl
 
-at_byte : (in_word : Bool) (b : ℕ) (words : List (List ℕ)) → are_words true words ≡ are_words in_word (onto_first b words)
+at_byte : (in_word : Bool) (b : ℕ) (words : List (List ℕ))
+    → are_words true words ≡ are_words in_word (onto_first b words)
 at_byte true b [] = refl
 at_byte true b (word ∷ words) = refl
 at_byte false b [] = refl
@@ -36,7 +38,8 @@ at_end : (in_word : Bool) → in_word ≡ are_words in_word ([] ∷ [])
 at_end true = refl
 at_end false = refl
 
-spaced-words : (in_word : Bool) (value : List ℕ) → is_single_spaced in_word value ≡ are_words in_word (slice_split is_blank value)
+spaced-words : (in_word : Bool) (value : List ℕ)
+    → is_single_spaced in_word value ≡ are_words in_word (slice_split is_blank value)
 spaced-words in_word [] = at_end in_word
 spaced-words in_word (b ∷ value) =
     elim (cases_Bool (is_blank b)) [

@@ -14,7 +14,8 @@ use Rattle.sigv4_core.specs.declared.sig_error.SigError.TheVariants as refusal
 
 module _ (scope : Scope) (uri : Uri) where
   at_authority : (authority : Option (List ℕ)) → uri_authority uri ≡ authority
-      → by_target scope (Some (plain_target uri)) ≡ unless_refused (plain_target uri) (target_refusal scope (plain_target uri) authority)
+      → by_target scope (Some (plain_target uri))
+      ≡ unless_refused (plain_target uri) (target_refusal scope (plain_target uri) authority)
   at_authority authority e = ap (λ o. unless_refused (plain_target uri) (target_refusal scope (plain_target uri) o)) e
 
   none_at : (authority : Option (List ℕ)) → uri_authority uri ≡ authority → is_some authority ≡ false
@@ -23,12 +24,14 @@ module _ (scope : Scope) (uri : Uri) where
   none_at (Some authority) e none = cc
 
   -- a target without an authority is refused
-  pub by_target-no_authority : is_some (uri_authority uri) ≡ false → by_target scope (Some (plain_target uri)) ≡ Err refusal.Authority
+  pub by_target-no_authority : is_some (uri_authority uri) ≡ false
+      → by_target scope (Some (plain_target uri)) ≡ Err refusal.Authority
   by_target-no_authority none = none_at (uri_authority uri) refl none
 
-  some_at : (authority : Option (List ℕ)) (refused : Bool) → uri_authority uri ≡ authority → is_some authority ≡ true
-      → is_refused_path scope (path_of (uri_data uri)) ≡ refused
-      → by_target scope (Some (plain_target uri)) ≡ unless_refused (plain_target uri) (if refused then Some refusal.Path else None)
+  some_at : (authority : Option (List ℕ)) (refused : Bool) → uri_authority uri ≡ authority
+      → is_some authority ≡ true → is_refused_path scope (path_of (uri_data uri)) ≡ refused
+      → by_target scope (Some (plain_target uri))
+      ≡ unless_refused (plain_target uri) (if refused then Some refusal.Path else None)
   some_at None refused e some path = cc
   some_at (Some authority) refused e some path =
       at_authority (Some authority) e ∙ ap (λ b. unless_refused (plain_target uri) (if b then Some refusal.Path else None)) path
@@ -36,7 +39,8 @@ module _ (scope : Scope) (uri : Uri) where
   -- one with an authority is refused by its path
   pub by_target-path : (refused : Bool) → is_some (uri_authority uri) ≡ true
       → is_refused_path scope (path_of (uri_data uri)) ≡ refused
-      → by_target scope (Some (plain_target uri)) ≡ unless_refused (plain_target uri) (if refused then Some refusal.Path else None)
+      → by_target scope (Some (plain_target uri))
+      ≡ unless_refused (plain_target uri) (if refused then Some refusal.Path else None)
   by_target-path refused some path = some_at (uri_authority uri) refused refl some path
 
 -- a head that is not accepted has none
@@ -59,7 +63,8 @@ module _ (scope : Scope) (head : Head) (uri : Uri) (fine : is_accepted_head head
       (λ why. by_target scope (Some (plain_target uri)) ≡ Err why)
 
   -- so what is said of that target is said of the head
-  pub target_to_sign-Ok : (answer : Result Uri SigError) → Signable answer → IfOk answer (λ uri. target_to_sign scope head ≡ Ok (plain_target uri))
+  pub target_to_sign-Ok : (answer : Result Uri SigError) → Signable answer
+      → IfOk answer (λ uri. target_to_sign scope head ≡ Ok (plain_target uri))
   target_to_sign-Ok (Ok uri) e = accepted ∙ e
   target_to_sign-Ok (Err why) e = tt
 

@@ -9,7 +9,8 @@ use Rattle.sigv4_core.specs.Scope.{Scope}
 use Rattle.sigv4_core.specs.SignedHead.{target_to_sign}
 
 -- a head that can be signed is accepted
-pub signable-accepted : (scope : Scope) (head : Head) (target : PlainTarget) → target_to_sign scope head ≡ Ok target → is_accepted_head head ≡ true
+pub signable-accepted : (scope : Scope) (head : Head) (target : PlainTarget)
+    → target_to_sign scope head ≡ Ok target → is_accepted_head head ≡ true
 unfolding target_to_sign
 signable-accepted scope head target e =
     elim (cases_Bool (is_accepted_head head)) [
@@ -17,7 +18,8 @@ signable-accepted scope head target e =
       | inr refused ↦ absurd (let bad = rw refused at e in cc)
     ]
 
-pub with_uri-accepted : (head : Head) (uri : List ℕ) → is_accepted_head head ≡ true → is_accepted_head (record head { uri = uri }) ≡ is_some (target_of uri)
+pub with_uri-accepted : (head : Head) (uri : List ℕ) → is_accepted_head head ≡ true
+    → is_accepted_head (record head { uri = uri }) ≡ is_some (target_of uri)
 unfolding is_accepted_head
 with_uri-accepted head uri accepted =
     let method = and_parts (is_token head.method) (is_some (target_of head.uri) && takes_fields [] head.headers) accepted in

@@ -17,17 +17,20 @@ use Rattle.sigv4_presign.proofs.LinkShape.{are_shaped-of, value_of-only}
 
 module _ (pieces : List Pair) where
   -- algorithm and headers are those of a link, and the four texts are these
-  pub values_given : (values : Option LinkValues)
-      → is_value algorithm (value_in algorithm_name pieces) ≡ true → is_value (codes "host") (value_in headers_name pieces) ≡ true
-      → GivesAll (value_in credential_name pieces) (value_in date_name pieces) (value_in expires_name pieces) (value_in signature_name pieces) values
+  pub values_given : (values : Option LinkValues) → is_value algorithm (value_in algorithm_name pieces) ≡ true
+      → is_value (codes "host") (value_in headers_name pieces) ≡ true
+      → GivesAll (value_in credential_name pieces) (value_in date_name pieces) (value_in expires_name pieces)
+      (value_in signature_name pieces) values
       → GivesValues pieces values
   values_given None first host some = rw (first, host) some
   values_given (Some values) first host are = (rw (first, host, are.0, are.1, are.2, are.3) refl, are)
 
-  pub other_algorithm : is_value algorithm (value_in algorithm_name pieces) ≡ false → are_shaped pieces ≡ false
+  pub other_algorithm : is_value algorithm (value_in algorithm_name pieces) ≡ false
+      → are_shaped pieces ≡ false
   other_algorithm other = and_left _ _ other
 
-  pub other_headers : is_value (codes "host") (value_in headers_name pieces) ≡ false → are_shaped pieces ≡ false
+  pub other_headers : is_value (codes "host") (value_in headers_name pieces) ≡ false
+      → are_shaped pieces ≡ false
   other_headers other = and_right _ _ (and_left _ _ other)
 
 module _ (query : List ℕ) (pieces : List Piece) (are : ArePiecesOf query pieces) where
@@ -44,8 +47,9 @@ module _ (query : List ℕ) (pieces : List Piece) (are : ArePiecesOf query piece
     pub no_expires : expires_of_text (string_bytes values.expires) ≡ None → IsNoClaim query
     no_expires none = inr (inr (ap expires_of_text (found expires_name (string_bytes values.expires) given.1.2) ∙ none))
 
-    pub claimed : (claim : LinkClaim) → claim.credential ≡ values.credential → claim.signature ≡ values.signature
-        → moment_of_text (string_bytes values.date) ≡ Some claim.date → expires_of_text (string_bytes values.expires) ≡ Some claim.expires
+    pub claimed : (claim : LinkClaim) → claim.credential ≡ values.credential
+        → claim.signature ≡ values.signature → moment_of_text (string_bytes values.date) ≡ Some claim.date
+        → expires_of_text (string_bytes values.expires) ≡ Some claim.expires
         → claim.unsigned.items ≡ unsigned_text (keyed_pieces pieces) → IsClaimOf query claim
     claimed claim credential signature date expires unsigned = record {
       shaped = sym (are_shaped-of query pieces are) ∙ given.0;

@@ -51,7 +51,8 @@ pub shown-low : (text : List ℕ) → IsFourDigitYear (shown_moment text)
 shown-low text = omega (arith, signed_arith)
 
 -- the test of a print, in its parts
-if_printed-None : (text : List ℕ) (t : ℤ) → ¬ (IsMoment t × (iso8601_text (civil_of t) ≡ text)) → if_printed text t ≡ None
+if_printed-None : (text : List ℕ) (t : ℤ) → ¬ (IsMoment t × (iso8601_text (civil_of t) ≡ text))
+    → if_printed text t ≡ None
 if_printed-None text t other =
     elim (cases_Bool (is_moment t)) [
       | inl moment ↦
@@ -64,7 +65,8 @@ if_printed-None text t other =
 
 -- a text that shows no such date or time is printed of no moment
 module _ (text : List ℕ) where
-  none_where : ¬ (IsMoment (shown_moment text) × (iso8601_text (civil_of (shown_moment text)) ≡ text)) → moment_of_text text ≡ None
+  none_where : ¬ (IsMoment (shown_moment text) × (iso8601_text (civil_of (shown_moment text)) ≡ text))
+      → moment_of_text text ≡ None
   unfolding moment_of_text
   none_where other =
       elim (cases_Bool (length text == 16)) [
@@ -86,13 +88,15 @@ module _ (text : List ℕ) where
   moment_of_text-other_length other = let fails : (length text == 16) ≡ false = false_from_Decides _ (Decides-eqb (length text) 16) other in rw fails refl
 
   -- a moment that is shown is read where it prints so
-  pub moment_of_text-printed : (t : ℤ) → IsShown text t → iso8601_text (civil_of t) ≡ text → moment_of_text text ≡ Some t
+  pub moment_of_text-printed : (t : ℤ) → IsShown text t → iso8601_text (civil_of t) ≡ text
+      → moment_of_text text ≡ Some t
   unfolding moment_of_text
   moment_of_text-printed t shown same =
       let printed : bytes_eq (iso8601_text (civil_of t)) text ≡ true = (bytes_eq-Decides _ _).1 same in
       rw (shown.0, ← shown.1, shown.3, printed) refl
 
-  pub moment_of_text-other : (t : ℤ) → IsShown text t → ¬ (iso8601_text (civil_of t) ≡ text) → moment_of_text text ≡ None
+  pub moment_of_text-other : (t : ℤ) → IsShown text t → ¬ (iso8601_text (civil_of t) ≡ text)
+      → moment_of_text text ≡ None
   moment_of_text-other t shown other = none_where (λ printed. other (rw shown.1 printed.1))
 
   -- what is read does not lie before the year 0
@@ -112,7 +116,8 @@ module _ (text : List ℕ) where
       ]
 
   -- a date and a time with these numbers lie at the moment that is shown
-  pub civil_nanos-shown : (shown : DateTime) → IsDateOf text shown.date → IsTimeOf text shown.time → civil_nanos shown ≡ shown_moment text
+  pub civil_nanos-shown : (shown : DateTime) → IsDateOf text shown.date → IsTimeOf text shown.time
+      → civil_nanos shown ≡ shown_moment text
   civil_nanos-shown shown date time =
       let parts = civil_nanos-parts shown in
       let day = days_from_civil-day_count shown.date.year shown.date.month shown.date.day in
@@ -122,8 +127,10 @@ module _ (text : List ℕ) where
       omega (arith, signed_arith, parts, day, same, day_count-year_0, late, time.0, time.1, time.2, time.3)
 
   -- so a date and a time with these numbers are a moment that is shown, or the text is of none
-  pub shown_or_none : (shown : DateTime) (r : Option ℤ) → length text ≡ 16 → IsDateOf text shown.date → IsTimeOf text shown.time
-      → r ≡ (if is_moment (civil_nanos shown) then Some (civil_nanos shown) else None) → MatchOption r (moment_of_text text ≡ None) (IsShown text)
+  pub shown_or_none : (shown : DateTime) (r : Option ℤ) → length text ≡ 16 → IsDateOf text shown.date
+      → IsTimeOf text shown.time
+      → r ≡ (if is_moment (civil_nanos shown) then Some (civil_nanos shown) else None)
+      → MatchOption r (moment_of_text text ≡ None) (IsShown text)
   shown_or_none shown r sixteen date time e =
       let nanos = civil_nanos-shown shown date time in
       elim (cases_Bool (is_moment (civil_nanos shown))) [

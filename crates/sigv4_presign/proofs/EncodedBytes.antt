@@ -26,7 +26,8 @@ pub encoded_small : (b : ℕ) → is_encoded_byte b ≡ true → b < 128
 encoded_small b h = grind (arith, nat_tests)
 
 -- what a table says of the bytes below 128 holds of those of a class that has no others
-by_table : (class holds : ℕ → Bool) → agree_below (λ b. class b && holds b) class 128 ≡ true → (b : ℕ) → b < 128 → class b ≡ true → holds b ≡ true
+by_table : (class holds : ℕ → Bool) → agree_below (λ b. class b && holds b) class 128 ≡ true → (b : ℕ)
+    → b < 128 → class b ≡ true → holds b ≡ true
 by_table class holds table b low h = (and_parts (class b) (holds b) (agree_below_at (λ b. class b && holds b) class 128 b table low ∙ h)).1
 
 pub encoded_is_query : (b : ℕ) → is_encoded_byte b ≡ true → is_query_byte b ≡ true

@@ -60,9 +60,11 @@ module _ (keys : Keys) (scope : Scope) (head : Head) (target : PlainTarget) (que
     pub date : moment_of_text (value_of query date_name) ≡ Some t
     pub expiry : expires_of_text (value_of query expires_name) ≡ Some expires
     pub credential : value_of query credential_name ≡ credential_text keys scope t
-    pub signature : value_of query signature_name ≡ link_signature keys scope t head target (unsigned_query query)
+    pub signature : value_of query signature_name
+        ≡ link_signature keys scope t head target (unsigned_query query)
 
-  pub checked_at-HasValues : HasValues → (u : ℤ) → checked_at keys scope u head (Ok target) ≡ found_between t (t +ℤ pos (expires * second_nanos)) u
+  pub checked_at-HasValues : HasValues → (u : ℤ)
+      → checked_at keys scope u head (Ok target) ≡ found_between t (t +ℤ pos (expires * second_nanos)) u
   checked_at-HasValues h u =
       let credential = (bytes_eq-Decides (value_of query credential_name) (credential_text keys scope t)).1 h.credential in
       let signature = (bytes_eq-Decides (value_of query signature_name) (link_signature keys scope t head target (unsigned_query query))).1 h.signature in

@@ -1,4 +1,5 @@
--- The query of a link: its pieces are those of the query before it and the six pairs, and each of the six names stands once.
+-- The query of a link: its pieces are those of the query before it and the six pairs, and each of the six
+-- names stands once.
 use Rattle.std.proofs.Common.{◌≡◌, ℕ, ℤ, Bool, true, false, not, inl, inr, List, [], ◌∷◌, ◌++◌, map, filter, codes, All, refl, sym, ap, ap₂, subst, ◌∙◌, append_assoc}
 use Rattle.std.specs.Prelude.{bytes_eq, decimal}
 use Rattle.std.specs.List.{list_any}
@@ -21,21 +22,24 @@ use Rattle.sigv4_presign.proofs.PairPieces.{IsPlainPair, pair_piece-IsPiece, rea
 use Rattle.sigv4_presign.proofs.QueryPieces.{query_pieces-append, query_pieces-one, query_pieces-joined, query_pieces-after, query_pieces-IsPiece}
 
 -- pairs of which none has a name of a link have no value of such a name
-name_differs : (key name : List ℕ) → is_link_name name ≡ true → is_link_name key ≡ false → bytes_eq key name ≡ false
+name_differs : (key name : List ℕ) → is_link_name name ≡ true → is_link_name key ≡ false
+    → bytes_eq key name ≡ false
 name_differs key name is other =
     elim (cases_Bool (bytes_eq key name)) [
       | inl same ↦ let e = (bytes_eq-Decides key name).0 same in let bad : is_link_name name ≡ false = subst (λ n. is_link_name n ≡ false) e other in cc
       | inr differs ↦ differs
     ]
 
-pub no_values : (name : List ℕ) (pairs : List Pair) → is_link_name name ≡ true → list_any (λ p. is_link_name p.0) pairs ≡ false → filter (λ p. bytes_eq p.0 name) pairs ≡ []
+pub no_values : (name : List ℕ) (pairs : List Pair) → is_link_name name ≡ true
+    → list_any (λ p. is_link_name p.0) pairs ≡ false → filter (λ p. bytes_eq p.0 name) pairs ≡ []
 no_values name [] is none = refl
 no_values name (p ∷ ps) is none =
     let parts = or_parts (is_link_name p.0) (list_any (λ p. is_link_name p.0) ps) none in
     let differs = name_differs p.0 name is parts.0 in
     rw differs (no_values name ps is parts.1)
 
-pub none_left_out : (name : List ℕ) (pieces : List (List ℕ)) → is_link_name name ≡ true → list_any (λ p. is_link_name p.0) (map read_pair pieces) ≡ false
+pub none_left_out : (name : List ℕ) (pieces : List (List ℕ)) → is_link_name name ≡ true
+    → list_any (λ p. is_link_name p.0) (map read_pair pieces) ≡ false
     → filter (λ piece. not (bytes_eq (read_pair piece).0 name)) pieces ≡ pieces
 none_left_out name [] is none = refl
 none_left_out name (piece ∷ pieces) is none =
@@ -79,7 +83,8 @@ module _ (keys : Keys) (scope : Scope) (now : ℤ) (expires : ℕ) (old signatur
         ∙ (map-append read_pair (query_pieces old) (map pair_piece (five ++ sixth ∷ []))
         ∙ ap (λ pairs. map read_pair (query_pieces old) ++ pairs) (read-pieces (five ++ sixth ∷ []) plain_six))
 
-    values_link : (name : List ℕ) → is_link_name name ≡ true → values_of link_query name ≡ filter (λ p. bytes_eq p.0 name) (five ++ sixth ∷ [])
+    values_link : (name : List ℕ) → is_link_name name ≡ true
+        → values_of link_query name ≡ filter (λ p. bytes_eq p.0 name) (five ++ sixth ∷ [])
     values_link name is =
         ap (filter (λ p. bytes_eq p.0 name)) pairs_link
         ∙ (filter-append (λ p. bytes_eq p.0 name) (query_pairs old) (five ++ sixth ∷ [])
@@ -88,7 +93,8 @@ module _ (keys : Keys) (scope : Scope) (now : ℤ) (expires : ℕ) (old signatur
     algorithm_found : values_of link_query algorithm_name ≡ (algorithm_name, algorithm) ∷ []
     algorithm_found = values_link algorithm_name refl
 
-    credential_found : values_of link_query credential_name ≡ (credential_name, credential_text keys scope now) ∷ []
+    credential_found : values_of link_query credential_name
+        ≡ (credential_name, credential_text keys scope now) ∷ []
     credential_found = values_link credential_name refl
 
     date_found : values_of link_query date_name ≡ (date_name, iso8601_text (civil_of now)) ∷ []
@@ -119,7 +125,9 @@ module _ (keys : Keys) (scope : Scope) (now : ℤ) (expires : ℕ) (old signatur
     signature_value = rw signature_found refl
 
     -- without its signature pair the query has the pieces that are signed
-    unsigned_pieces : filter (λ piece. not (bytes_eq (read_pair piece).0 signature_name)) (query_pieces link_query) ≡ query_pieces signed_query
+    unsigned_pieces : filter (λ piece. not (bytes_eq (read_pair piece).0 signature_name))
+        (query_pieces link_query)
+        ≡ query_pieces signed_query
     unfolding query_pairs
     unsigned_pieces =
         let keeps : List ℕ → Bool = λ piece. not (bytes_eq (read_pair piece).0 signature_name) in

@@ -24,13 +24,15 @@ once [] = refl
 once (p ∷ []) = refl
 once (p ∷ q ∷ pairs) = many p q pairs
 
-once_this : (wanted : List ℕ) (pairs : List Pair) → ((length pairs == 1) && bytes_eq (first_value pairs) wanted) ≡ is_value wanted (sole pairs)
+once_this : (wanted : List ℕ) (pairs : List Pair)
+    → ((length pairs == 1) && bytes_eq (first_value pairs) wanted) ≡ is_value wanted (sole pairs)
 once_this wanted [] = refl
 once_this wanted (p ∷ []) = refl
 once_this wanted (p ∷ q ∷ pairs) = rw (many p q pairs) refl
 
 -- a name that stands once has this value
-pub value_of-only : (query name value : List ℕ) → only_value query name ≡ Some value → value_of query name ≡ value
+pub value_of-only : (query name value : List ℕ) → only_value query name ≡ Some value
+    → value_of query name ≡ value
 value_of-only query name value found = at (values_of query name) found
   where
     at : (pairs : List Pair) → sole pairs ≡ Some value → first_value pairs ≡ value
@@ -44,7 +46,8 @@ same_tests true c to from = sym (to refl)
 same_tests false true to from = from refl
 same_tests false false to from = refl
 
-on : (a c d e h s x y : Bool) → ((a && (c && (d && (e && (h && (s && true)))))) && (x && y)) ≡ true → ((a && x) && ((h && y) && (c && (d && (e && s))))) ≡ true
+on : (a c d e h s x y : Bool) → ((a && (c && (d && (e && (h && (s && true)))))) && (x && y)) ≡ true
+    → ((a && x) && ((h && y) && (c && (d && (e && s))))) ≡ true
 on a c d e h s x y all =
     let both = and_parts (a && (c && (d && (e && (h && (s && true)))))) (x && y) all in
     let values = and_parts x y both.1 in
@@ -56,7 +59,8 @@ on a c d e h s x y all =
     let s_on = and_parts s true h_on.1 in
     rw (a_on.0, c_on.0, d_on.0, e_on.0, h_on.0, s_on.0, values.0, values.1) refl
 
-back : (a c d e h s x y : Bool) → ((a && x) && ((h && y) && (c && (d && (e && s))))) ≡ true → ((a && (c && (d && (e && (h && (s && true)))))) && (x && y)) ≡ true
+back : (a c d e h s x y : Bool) → ((a && x) && ((h && y) && (c && (d && (e && s))))) ≡ true
+    → ((a && (c && (d && (e && (h && (s && true)))))) && (x && y)) ≡ true
 back a c d e h s x y all =
     let first = and_parts (a && x) ((h && y) && (c && (d && (e && s)))) all in
     let a_x = and_parts a x first.0 in
@@ -67,7 +71,9 @@ back a c d e h s x y all =
     let e_s = and_parts e s d_on.1 in
     rw (a_x.0, a_x.1, h_y.0, h_y.1, c_on.0, d_on.0, e_s.0, e_s.1) refl
 
-reorder : (a c d e h s x y : Bool) → ((a && (c && (d && (e && (h && (s && true)))))) && (x && y)) ≡ ((a && x) && ((h && y) && (c && (d && (e && s)))))
+reorder : (a c d e h s x y : Bool)
+    → ((a && (c && (d && (e && (h && (s && true)))))) && (x && y))
+    ≡ ((a && x) && ((h && y) && (c && (d && (e && s)))))
 reorder a c d e h s x y =
     same_tests ((a && (c && (d && (e && (h && (s && true)))))) && (x && y)) ((a && x) && ((h && y) && (c && (d && (e && s)))))
     (on a c d e h s x y) (back a c d e h s x y)
@@ -83,7 +89,8 @@ is_shaped-values query =
     (bytes_eq (value_of query algorithm_name) algorithm) (bytes_eq (value_of query headers_name) (codes "host"))
     ∙ rw (once_this algorithm (values_of query algorithm_name), once_this (codes "host") (values_of query headers_name), once (values_of query credential_name), once (values_of query date_name), once (values_of query expires_name), once (values_of query signature_name)) refl
 
-pub are_shaped-of : (query : List ℕ) (pieces : List Piece) → ArePiecesOf query pieces → are_shaped (keyed_pieces pieces) ≡ is_shaped query
+pub are_shaped-of : (query : List ℕ) (pieces : List Piece) → ArePiecesOf query pieces
+    → are_shaped (keyed_pieces pieces) ≡ is_shaped query
 are_shaped-of query pieces are =
     rw (value_in-of query algorithm_name pieces are, value_in-of query headers_name pieces are, value_in-of query credential_name pieces are, value_in-of query date_name pieces are, value_in-of query expires_name pieces are, value_in-of query signature_name pieces are)
     (sym (is_shaped-values query))

@@ -78,7 +78,9 @@ linkable_tail : (tail kept : List ℕ) → IsTail tail kept → IsPathAndQuery k
 linkable_tail tail kept (inl h) = (subst IsPathAndQuery (sym h.1) slash_path, subst StartsTail (sym h.1) (inr (inl refl)))
 linkable_tail tail kept (inr h) = (subst IsPathAndQuery (sym h.2) h.1.kept, subst StartsTail (sym h.2) (first_kept tail h.0))
 
-linkable_form : (text : List ℕ) (scheme : Option (List ℕ)) (authority kept : List ℕ) → IsForm text scheme (Some authority) kept → IsLinkable (record { scheme = scheme; authority = Some authority; path_and_query = kept })
+linkable_form : (text : List ℕ) (scheme : Option (List ℕ)) (authority kept : List ℕ)
+    → IsForm text scheme (Some authority) kept
+    → IsLinkable (record { scheme = scheme; authority = Some authority; path_and_query = kept })
 linkable_form text None authority kept h = record {
   scheme = http_IsScheme;
   normal = refl;
@@ -96,7 +98,9 @@ linkable_form text (Some scheme) authority kept h =
       start = tail.1;
     }
 
-pub linkable : (text : List ℕ) (target : PlainTarget) (authority : List ℕ) → IsForm text target.scheme target.authority target.path_and_query → target.authority ≡ Some authority → IsLinkable target
+pub linkable : (text : List ℕ) (target : PlainTarget) (authority : List ℕ)
+    → IsForm text target.scheme target.authority target.path_and_query → target.authority ≡ Some authority
+    → IsLinkable target
 linkable text target authority h named =
     let form : IsForm text target.scheme (Some authority) target.path_and_query = subst (λ o. IsForm text target.scheme o target.path_and_query) named h in
     let with_authority : Option (List ℕ) → PlainTarget = λ o. record { scheme = target.scheme; authority = o; path_and_query = target.path_and_query } in
@@ -108,7 +112,8 @@ pub record StartsSlash (path : List ℕ) : Type 0 where
   pub is : path ≡ 47 ∷ rest
   pub bytes : AllPass is_path_byte (47 ∷ rest)
 
-slashed : (front : List ℕ) → AllPass is_path_byte front → (front ≡ []) ⊎ (slice_index front 0 ≡ 47) → StartsSlash (or_slash front)
+slashed : (front : List ℕ) → AllPass is_path_byte front → (front ≡ []) ⊎ (slice_index front 0 ≡ 47)
+    → StartsSlash (or_slash front)
 slashed [] bytes start = record { rest = []; is = refl; bytes = AllPass-from_list_all is_path_byte (47 ∷ []) refl }
 slashed (b ∷ bs) bytes (inl none) = absurd (cc)
 slashed (b ∷ bs) bytes (inr slash) =
@@ -116,7 +121,8 @@ slashed (b ∷ bs) bytes (inr slash) =
     let some : (length (b ∷ bs) == 0) ≡ false = grind (arith, nat_tests) in
     record { rest = bs; is = rw some (ap (λ c. c ∷ bs) first); bytes = subst (λ c. AllPass is_path_byte (c ∷ bs)) first bytes }
 
-front_start : (kept : List ℕ) → StartsTail kept → (split_once_front 63 kept ≡ []) ⊎ (slice_index (split_once_front 63 kept) 0 ≡ 47)
+front_start : (kept : List ℕ) → StartsTail kept
+    → (split_once_front 63 kept ≡ []) ⊎ (slice_index (split_once_front 63 kept) 0 ≡ 47)
 front_start [] start = inl refl
 front_start (b ∷ bs) (inl none) = absurd (cc)
 front_start (b ∷ bs) (inr (inl slash)) =
@@ -128,11 +134,13 @@ front_start (b ∷ bs) (inr (inr mark)) = let first : b ≡ 63 = mark in inl (su
 pub path_of-StartsSlash : (kept : List ℕ) → IsPathAndQuery kept → StartsTail kept → StartsSlash (path_of kept)
 path_of-StartsSlash kept h start = slashed (split_once_front 63 kept) h.path (front_start kept start)
 
-query_bytes : (query : Option (List ℕ)) → IfSome query (AllPass is_query_byte) → AllPass is_query_byte (unwrap_or query [])
+query_bytes : (query : Option (List ℕ)) → IfSome query (AllPass is_query_byte)
+    → AllPass is_query_byte (unwrap_or query [])
 query_bytes None h = All-nil (λ b. IsTrue (is_query_byte b))
 query_bytes (Some query) h = h
 
-pub query_of-bytes : (kept : List ℕ) → IsPathAndQuery kept → AllPass is_query_byte (unwrap_or (query_of kept) [])
+pub query_of-bytes : (kept : List ℕ) → IsPathAndQuery kept
+    → AllPass is_query_byte (unwrap_or (query_of kept) [])
 query_of-bytes kept h = query_bytes (split_once_back 63 kept) h.query
 
 -- both are text, as a text is cut at an ASCII byte

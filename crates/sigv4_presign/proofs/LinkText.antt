@@ -22,7 +22,8 @@ use Rattle.sigv4_presign.proofs.SignatureBytes.{signature_under-AreUnreserved}
 
 -- what holds of each encoded byte, of `=` and of `&` holds of each byte of joined pieces
 module _ (P : ℕ → Type 0) (encoded : (b : ℕ) → is_encoded_byte b ≡ true → P b) (equals : P 61) (mark : P 38) where
-  pub All-joined : (pairs : List Pair) → All IsPlainPair pairs → All P (joined_texts (codes "&") (map pair_piece pairs))
+  pub All-joined : (pairs : List Pair) → All IsPlainPair pairs
+      → All P (joined_texts (codes "&") (map pair_piece pairs))
   All-joined [] h = All-nil P
   All-joined (p ∷ []) h = All-pair_piece P encoded equals p (All-head IsPlainPair p [] h)
   All-joined (p ∷ q ∷ ps) h =
@@ -31,7 +32,9 @@ module _ (P : ℕ → Type 0) (encoded : (b : ℕ) → is_encoded_byte b ≡ tru
       (All-append P (pair_piece p) (38 ∷ []) (All-pair_piece P encoded equals p (All-head IsPlainPair p (q ∷ ps) h)) (All-cons P 38 [] mark (All-nil P)))
       (All-joined (q ∷ ps) (All-tail IsPlainPair p (q ∷ ps) h))
 
-  pub All-query_to_sign : (keys : Keys) (scope : Scope) (now : ℤ) (expires : ℕ) (old : List ℕ) → All IsPlainPair (signed_pairs keys scope now expires) → All P old → All P (query_to_sign keys scope now expires old)
+  pub All-query_to_sign : (keys : Keys) (scope : Scope) (now : ℤ) (expires : ℕ) (old : List ℕ)
+      → All IsPlainPair (signed_pairs keys scope now expires) → All P old
+      → All P (query_to_sign keys scope now expires old)
   unfolding query_to_sign
   All-query_to_sign keys scope now expires old plain h =
       let joined = joined_texts (codes "&") (map pair_piece (signed_pairs keys scope now expires)) in
@@ -77,7 +80,9 @@ module _ (keys : Keys) (scope : Scope) (now : ℤ) (expires : ℕ) (old signatur
   link_query-IsUtf8 h = IsUtf8-append (query_to_sign keys scope now expires old) (38 ∷ sixth) (query_to_sign-IsUtf8 h) (IsUtf8-from_ascii (38 ∷ sixth) small_sixth)
 
 -- a signature needs no encoding
-pub link_signature-AreUnreserved : (keys : Keys) (scope : Scope) (now : ℤ) (head : Head) (target : PlainTarget) (signed : List ℕ) → AreUnreserved (link_signature keys scope now head target signed)
+pub link_signature-AreUnreserved : (keys : Keys) (scope : Scope) (now : ℤ) (head : Head)
+    (target : PlainTarget) (signed : List ℕ)
+    → AreUnreserved (link_signature keys scope now head target signed)
 unfolding link_signature
 link_signature-AreUnreserved keys scope now head target signed = signature_under-AreUnreserved _ scope now _
 
@@ -106,7 +111,8 @@ module _ (keys : Keys) (scope : Scope) (expires : ℕ) (now : ℤ) (head : Head)
       ∙ ap (λ text. signature_name ++ 61 ∷ text) (percent_encoded-AreUnreserved signature (link_signature-AreUnreserved keys scope now head target signed_query))
 
   -- the link is scheme, authority, path and query
-  pub presigned_link-parts : presigned_link keys scope expires now head target ≡ scheme ++ codes "://" ++ authority ++ (path ++ 63 ∷ whole_query)
+  pub presigned_link-parts : presigned_link keys scope expires now head target
+      ≡ scheme ++ codes "://" ++ authority ++ (path ++ 63 ∷ whole_query)
   unfolding presigned_link
   presigned_link-parts =
       ap (λ last. scheme ++ (codes "://" ++ (authority ++ (path ++ 63 ∷ (signed_query ++ 38 ∷ last))))) (sym last_piece)

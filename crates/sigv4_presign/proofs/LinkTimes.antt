@@ -15,7 +15,8 @@ use Rattle.sign_base.proofs.WholeSecond.{whole_second-IsMoment, civil_of-whole_s
 use Rattle.sigv4_presign.specs.LinkDate.{moment_of_text, expires_of_text}
 
 -- the date of a link is read as its whole second
-pub moment_of_text-printed : (now : ℤ) → IsMoment now → IsFourDigitYear now → moment_of_text (iso8601_text (civil_of now)) ≡ Some (whole_second now)
+pub moment_of_text-printed : (now : ℤ) → IsMoment now → IsFourDigitYear now
+    → moment_of_text (iso8601_text (civil_of now)) ≡ Some (whole_second now)
 unfolding moment_of_text
 moment_of_text-printed now h low =
     let text = iso8601_text (civil_of now) in

@@ -24,7 +24,8 @@ use Rattle.sigv4_presign.proofs.EncodedBytes.{AreUnreserved, AreUnreserved-IsAsc
 use Rattle.sigv4_presign.proofs.PairPieces.{IsPlainPair}
 
 -- a text whose bytes pass a test that none above ASCII passes
-ascii_by : (test : ℕ → Bool) → ((b : ℕ) → test b ≡ true → b < 128) → (text : List ℕ) → list_all test text ≡ true → IsAscii text
+ascii_by : (test : ℕ → Bool) → ((b : ℕ) → test b ≡ true → b < 128) → (text : List ℕ)
+    → list_all test text ≡ true → IsAscii text
 ascii_by test small text h = IsAscii-from_all text (All-weaker (λ b. test b ≡ true) (λ b. b < 128) small text (AllPass-from_list_all test text h))
 
 small_graphic : (b : ℕ) → is_ascii_graphic b ≡ true → b < 128
@@ -63,13 +64,15 @@ iso8601_text-IsAscii c h =
 scope_name-IsAscii : (name : List ℕ) → is_scope_name name ≡ true → IsAscii name
 scope_name-IsAscii name h = ascii_by is_scope_byte small_scope_byte name (and_parts (nat_lt 0 (length name)) (list_all is_scope_byte name) h).1
 
-joined-IsAscii : (between : List ℕ) (texts : List (List ℕ)) → IsAscii between → AllByRecursion IsAscii texts → IsAscii (joined_texts between texts)
+joined-IsAscii : (between : List ℕ) (texts : List (List ℕ)) → IsAscii between → AllByRecursion IsAscii texts
+    → IsAscii (joined_texts between texts)
 joined-IsAscii between [] mark h = IsAscii-nil
 joined-IsAscii between (x ∷ []) mark h = h.0
 joined-IsAscii between (x ∷ y ∷ xs) mark h =
     IsAscii-append (x ++ between) (joined_texts between (y ∷ xs)) (IsAscii-append x between h.0 mark) (joined-IsAscii between (y ∷ xs) mark h.1)
 
-scope_text-IsAscii : (scope : Scope) (now : ℤ) → IsTrue (is_scope scope.region scope.service) → IsMoment now → IsFourDigitYear now → IsAscii (scope_text scope now)
+scope_text-IsAscii : (scope : Scope) (now : ℤ) → IsTrue (is_scope scope.region scope.service) → IsMoment now
+    → IsFourDigitYear now → IsAscii (scope_text scope now)
 unfolding scope_text
 scope_text-IsAscii scope now scoped h low =
     let names = and_parts (is_scope_name scope.region) (is_scope_name scope.service) scoped in
@@ -81,7 +84,9 @@ access-IsAscii keys h =
     let visible = and_parts (list_all is_ascii_graphic keys.access) (nat_lt 0 (length keys.secret)) (and_parts (nat_lt 0 (length keys.access)) _ h).1 in
     ascii_by is_ascii_graphic small_graphic keys.access visible.0
 
-credential_text-IsAscii : (keys : Keys) (scope : Scope) (now : ℤ) → IsTrue (is_credential keys.access keys.secret) → IsTrue (is_scope scope.region scope.service) → IsMoment now → IsFourDigitYear now → IsAscii (credential_text keys scope now)
+credential_text-IsAscii : (keys : Keys) (scope : Scope) (now : ℤ)
+    → IsTrue (is_credential keys.access keys.secret) → IsTrue (is_scope scope.region scope.service)
+    → IsMoment now → IsFourDigitYear now → IsAscii (credential_text keys scope now)
 credential_text-IsAscii keys scope now can scoped h low =
     IsAscii-append keys.access (47 ∷ scope_text scope now) (access-IsAscii keys can) (IsAscii-cons 47 (scope_text scope now) (omega arith) (scope_text-IsAscii scope now scoped h low))
 
@@ -89,7 +94,9 @@ credential_text-IsAscii keys scope now can scoped h low =
 plain_name : (name : List ℕ) → list_all is_unreserved name ≡ true → AreUnreserved name
 plain_name name h = AllPass-from_list_all is_unreserved name h
 
-pub signed_pairs-IsPlainPair : (keys : Keys) (scope : Scope) (now : ℤ) (expires : ℕ) → IsTrue (is_credential keys.access keys.secret) → IsTrue (is_scope scope.region scope.service) → IsMoment now → IsFourDigitYear now → expires ≤ 604800
+pub signed_pairs-IsPlainPair : (keys : Keys) (scope : Scope) (now : ℤ) (expires : ℕ)
+    → IsTrue (is_credential keys.access keys.secret) → IsTrue (is_scope scope.region scope.service)
+    → IsMoment now → IsFourDigitYear now → expires ≤ 604800
     → All IsPlainPair (signed_pairs keys scope now expires)
 signed_pairs-IsPlainPair keys scope now expires can scoped h low most =
     All-from_recursion IsPlainPair (signed_pairs keys scope now expires) (
@@ -106,5 +113,6 @@ signed_pairs-IsPlainPair keys scope now expires can scoped h low most =
       ),
     )
 
-pub signature_pair-IsPlainPair : (signature : List ℕ) → AreUnreserved signature → IsPlainPair (signature_name, signature)
+pub signature_pair-IsPlainPair : (signature : List ℕ) → AreUnreserved signature
+    → IsPlainPair (signature_name, signature)
 signature_pair-IsPlainPair signature h = record { name = plain_name signature_name refl; value = AreUnreserved-IsAscii signature h }

@@ -29,7 +29,8 @@ pub record IsMadeOf (keys : Keys) (scope : Scope) (expires : ℕ) (now : ℤ) (h
   pub is : link_head keys scope expires now head target ≡ link
   pub accepted : is_accepted_head (link_head keys scope expires now head target) ≡ true
 
-if_accepted-Ok : (head link : Head) → if_accepted head ≡ Ok link → (head ≡ link) × (is_accepted_head head ≡ true)
+if_accepted-Ok : (head link : Head) → if_accepted head ≡ Ok link
+    → (head ≡ link) × (is_accepted_head head ≡ true)
 if_accepted-Ok head link e =
     elim (cases_Bool (is_accepted_head head)) [
       | inl accepted ↦ let same = rw accepted at e in (cc, accepted)
@@ -40,7 +41,8 @@ from_year_0 : (now : ℤ) → is_before_year_0 now ≡ false → IsFourDigitYear
 from_year_0 now h = grind (arith, signed_arith)
 
 module _ (keys : Keys) (scope : Scope) (expires : ℕ) (now : ℤ) (head link : Head) where
-  made_at : (answer : Result PlainTarget SigError) → target_to_sign scope head ≡ answer → presigned_at keys scope expires now head answer ≡ Ok link
+  made_at : (answer : Result PlainTarget SigError) → target_to_sign scope head ≡ answer
+      → presigned_at keys scope expires now head answer ≡ Ok link
       → (target : PlainTarget) × IsMadeOf keys scope expires now head link target
   made_at (Err why) was e = absurd (cc)
   made_at (Ok target) was e =
@@ -68,6 +70,7 @@ module _ (keys : Keys) (scope : Scope) (expires : ℕ) (now : ℤ) (head link : 
         ]
       ]
 
-  pub made_of : presigning_of keys scope expires now head ≡ Ok link → (target : PlainTarget) × IsMadeOf keys scope expires now head link target
+  pub made_of : presigning_of keys scope expires now head ≡ Ok link
+      → (target : PlainTarget) × IsMadeOf keys scope expires now head link target
   unfolding presigning_of
   made_of e = made_at (target_to_sign scope head) refl e

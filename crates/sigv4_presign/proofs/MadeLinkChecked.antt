@@ -1,4 +1,5 @@
--- A link that was made is read back with the values of which it was made, so its check is a matter of time alone.
+-- A link that was made is read back with the values of which it was made, so its check is a matter of time
+-- alone.
 use Rattle.std.proofs.Common.{◌≡◌, ℕ, ◌↔◌, ℤ, pos, ◌+ℤ◌, ◌≤ℤ◌, ◌<ℤ◌, ◌*◌, ◌≤◌, ◌<◌, false, ◌==◌, List, [], ◌∷◌, ◌++◌, length, codes, All, IsUtf8, Some, Ok, refl, sym, ap, ap₂, ◌∙◌, subst, arith}
 use Rattle.std.specs.Prelude.{unwrap_or}
 use Rattle.std.proofs.lemmas.Bool.Decides.{nat_tests}
@@ -117,7 +118,8 @@ module _ (keys : Keys) (scope : Scope) (expires : ℕ) (now : ℤ) (head link : 
   same_civil : civil_of t ≡ civil_of now
   same_civil = civil_of-whole_second now made.low
 
-  same_request : canonical_request head.method (path_of tail) (unsigned_query query) (field (codes "host") authority ∷ []) unsigned_payload
+  same_request : canonical_request head.method (path_of tail) (unsigned_query query)
+      (field (codes "host") authority ∷ []) unsigned_payload
       ≡ canonical_request head.method (path_of target.path_and_query) (query_to_sign keys scope now expires old) (field (codes "host") authority ∷ []) unsigned_payload
   unfolding canonical_request
   same_request =
@@ -126,7 +128,9 @@ module _ (keys : Keys) (scope : Scope) (expires : ℕ) (now : ℤ) (head link : 
       (ap canonical_path same_path)
       (canonical_query-unsigned keys scope now expires old (signature keys scope expires now head target) made.fresh plain last)
 
-  same_signature : link_signature keys scope t (link_head keys scope expires now head target) link_target (unsigned_query query) ≡ signature keys scope expires now head target
+  same_signature : link_signature keys scope t (link_head keys scope expires now head target) link_target
+      (unsigned_query query)
+      ≡ signature keys scope expires now head target
   unfolding link_signature
   same_signature = signature_of-same scope t now same_civil keys.secret _ ∙ ap (signature_of keys.secret scope now) same_request
 
@@ -142,14 +146,17 @@ module _ (keys : Keys) (scope : Scope) (expires : ℕ) (now : ℤ) (head link : 
         signature = signature_value keys scope now expires old signed made.fresh plain last ∙ sym same_signature;
       }
 
-  found : (u : ℤ) → checked keys scope u (link_head keys scope expires now head target) ≡ found_between t (expiry_of now expires) u
+  found : (u : ℤ)
+      → checked keys scope u (link_head keys scope expires now head target)
+      ≡ found_between t (expiry_of now expires) u
   unfolding checked
   found u =
       ap (checked_at keys scope u (link_head keys scope expires now head target)) link_signed
       ∙ checked_at-HasValues keys scope (link_head keys scope expires now head target) link_target query t expires values u
 
 -- what is found at a link that was made
-pub checked-WasMade : (keys : Keys) (scope : Scope) (expires : ℕ) (now u : ℤ) (head link : Head) → WasMade keys scope expires now head link
+pub checked-WasMade : (keys : Keys) (scope : Scope) (expires : ℕ) (now u : ℤ) (head link : Head)
+    → WasMade keys scope expires now head link
     → checked keys scope u link ≡ found_between (whole_second now) (expiry_of now expires) u
 checked-WasMade keys scope expires now u head link was =
     let made = made_of keys scope expires now head link was.made in

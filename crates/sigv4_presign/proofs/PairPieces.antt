@@ -71,7 +71,8 @@ module _ (p : Pair) (h : IsPlainPair p) where
   read_pair-pair_piece = λ i. ((ap decoded_text before_mark ∙ name_decoded p.0 h.name) i, (ap decoded_text after_mark ∙ value_decoded p.1 h.value) i)
 
 -- what holds of each encoded byte and of `=` holds of each byte of a piece
-pub All-pair_piece : (P : ℕ → Type 0) → ((b : ℕ) → is_encoded_byte b ≡ true → P b) → P 61 → (p : Pair) → IsPlainPair p → All P (pair_piece p)
+pub All-pair_piece : (P : ℕ → Type 0) → ((b : ℕ) → is_encoded_byte b ≡ true → P b) → P 61 → (p : Pair)
+    → IsPlainPair p → All P (pair_piece p)
 All-pair_piece P encoded equals p h =
     subst (All P) (sym (pair_piece-is p))
     (All-append P p.0 (61 ∷ percent_encoded p.1)
@@ -88,7 +89,8 @@ pub read-pieces : (pairs : List Pair) → All IsPlainPair pairs → map read_pai
 read-pieces [] h = refl
 read-pieces (p ∷ ps) h = ap₂ (λ (x : Pair) (xs : List Pair). x ∷ xs) (read_pair-pair_piece p (All-head IsPlainPair p ps h)) (read-pieces ps (All-tail IsPlainPair p ps h))
 
-pub filter-pieces : (test : Pair → Bool) (pairs : List Pair) → All IsPlainPair pairs → filter (λ piece. test (read_pair piece)) (map pair_piece pairs) ≡ map pair_piece (filter test pairs)
+pub filter-pieces : (test : Pair → Bool) (pairs : List Pair) → All IsPlainPair pairs
+    → filter (λ piece. test (read_pair piece)) (map pair_piece pairs) ≡ map pair_piece (filter test pairs)
 filter-pieces test [] h = refl
 filter-pieces test (p ∷ ps) h =
     let read = ap test (read_pair-pair_piece p (All-head IsPlainPair p ps h)) in

@@ -22,7 +22,8 @@ abbrev pub by_key : (List ℕ → Bool) → Pair → Bool
 by_key test p = test p.0
 
 module _ (test : List ℕ → Bool) where
-  pub filter-keyed : (texts : List (List ℕ)) → filter (by_key test) (map read_pair texts) ≡ map valued (filter (by_key test) (map keyed texts))
+  pub filter-keyed : (texts : List (List ℕ))
+      → filter (by_key test) (map read_pair texts) ≡ map valued (filter (by_key test) (map keyed texts))
   filter-keyed [] = refl
   filter-keyed (t ∷ texts) =
       elim (cases_Bool (test (read_pair t).0)) [
@@ -30,7 +31,8 @@ module _ (test : List ℕ → Bool) where
         | inr fails ↦ rw fails (filter-keyed texts)
       ]
 
-  pub any-keyed : (texts : List (List ℕ)) → list_any (by_key test) (map read_pair texts) ≡ list_any (by_key test) (map keyed texts)
+  pub any-keyed : (texts : List (List ℕ))
+      → list_any (by_key test) (map read_pair texts) ≡ list_any (by_key test) (map keyed texts)
   any-keyed [] = refl
   any-keyed (t ∷ texts) =
       elim (cases_Bool (test (read_pair t).0)) [
@@ -38,7 +40,8 @@ module _ (test : List ℕ → Bool) where
         | inr fails ↦ rw fails (any-keyed texts)
       ]
 
-  pub texts-keyed : (texts : List (List ℕ)) → filter (λ t. test (read_pair t).0) texts ≡ map (λ p. p.1) (filter (by_key test) (map keyed texts))
+  pub texts-keyed : (texts : List (List ℕ))
+      → filter (λ t. test (read_pair t).0) texts ≡ map (λ p. p.1) (filter (by_key test) (map keyed texts))
   texts-keyed [] = refl
   texts-keyed (t ∷ texts) =
       elim (cases_Bool (test (read_pair t).0)) [
@@ -47,17 +50,21 @@ module _ (test : List ℕ → Bool) where
       ]
 
 -- the values of a name
-pub values_of-keyed : (query name : List ℕ) → values_of query name ≡ map valued (filter (by_key (λ key. bytes_eq key name)) (map keyed (query_pieces query)))
+pub values_of-keyed : (query name : List ℕ)
+    → values_of query name
+    ≡ map valued (filter (by_key (λ key. bytes_eq key name)) (map keyed (query_pieces query)))
 unfolding query_pairs
 values_of-keyed query name = filter-keyed (λ key. bytes_eq key name) (query_pieces query)
 
 -- whether there is a name of a link
-pub has_link_name-keyed : (query : List ℕ) → has_link_name query ≡ list_any (by_key is_link_name) (map keyed (query_pieces query))
+pub has_link_name-keyed : (query : List ℕ)
+    → has_link_name query ≡ list_any (by_key is_link_name) (map keyed (query_pieces query))
 unfolding query_pairs
 has_link_name-keyed query = any-keyed is_link_name (query_pieces query)
 
 -- as a test of the pieces themselves
-any-pieces : (test : List ℕ → Bool) (pieces : List Piece) → list_any (by_key test) (keyed_pieces pieces) ≡ list_any (λ piece. test (string_bytes piece.key)) pieces
+any-pieces : (test : List ℕ → Bool) (pieces : List Piece)
+    → list_any (by_key test) (keyed_pieces pieces) ≡ list_any (λ piece. test (string_bytes piece.key)) pieces
 any-pieces test [] = refl
 any-pieces test (p ∷ pieces) =
     elim (cases_Bool (test (string_bytes p.key))) [
@@ -65,7 +72,8 @@ any-pieces test (p ∷ pieces) =
       | inr fails ↦ rw fails (any-pieces test pieces)
     ]
 
-pub any_link_name-of : (query : List ℕ) (pieces : List Piece) → ArePiecesOf query pieces → any_link_name pieces ≡ has_link_name query
+pub any_link_name-of : (query : List ℕ) (pieces : List Piece) → ArePiecesOf query pieces
+    → any_link_name pieces ≡ has_link_name query
 any_link_name-of query pieces are =
     sym (any-pieces is_link_name pieces) ∙ (ap (list_any (by_key is_link_name)) are ∙ sym (has_link_name-keyed query))
 
@@ -74,13 +82,16 @@ any_link_name-of query pieces are =
 abbrev pub only_value : List ℕ → List ℕ → Option (List ℕ)
 only_value query name = option_map (λ p. p.1) (only (values_of query name))
 
-only-valued : (pairs : List Pair) → option_map (λ p. p.1) (only (map valued pairs)) ≡ option_map (λ text. (read_pair text).1) (only (map (λ p. p.1) pairs))
+only-valued : (pairs : List Pair)
+    → option_map (λ p. p.1) (only (map valued pairs))
+    ≡ option_map (λ text. (read_pair text).1) (only (map (λ p. p.1) pairs))
 only-valued [] = refl
 only-valued (p ∷ []) = refl
 only-valued (p ∷ q ∷ pairs) = refl
 
 -- is that of its piece
-pub value_in-of : (query name : List ℕ) (pieces : List Piece) → ArePiecesOf query pieces → value_in name (keyed_pieces pieces) ≡ only_value query name
+pub value_in-of : (query name : List ℕ) (pieces : List Piece) → ArePiecesOf query pieces
+    → value_in name (keyed_pieces pieces) ≡ only_value query name
 value_in-of query name pieces are =
     ap (value_in name) are
     ∙ sym (ap (λ pairs. option_map (λ p. p.1) (only pairs)) (values_of-keyed query name)
@@ -93,7 +104,9 @@ found_list None = []
 found_list (Some text) = text ∷ []
 
 module _ (test : List ℕ → Bool) where
-  texts_where-append : (xs ys : List Piece) → texts_where test (keyed_pieces (xs ++ ys)) ≡ texts_where test (keyed_pieces xs) ++ texts_where test (keyed_pieces ys)
+  texts_where-append : (xs ys : List Piece)
+      → texts_where test (keyed_pieces (xs ++ ys))
+      ≡ texts_where test (keyed_pieces xs) ++ texts_where test (keyed_pieces ys)
   texts_where-append [] ys = refl
   texts_where-append (x ∷ xs) ys =
       elim (cases_Bool (test (string_bytes x.key))) [
@@ -106,14 +119,19 @@ module _ (test : List ℕ → Bool) where
     next = take_more pieces i p within ∙ ap (λ x. take i pieces ++ x ∷ []) (sym here)
 
     -- a piece that passes comes to the end, and another is left out
-    pub texts_where-more : test (string_bytes p.key) ≡ true → texts_where test (keyed_pieces (take (i + 1) pieces)) ≡ texts_where test (keyed_pieces (take i pieces)) ++ p.text.now ∷ []
+    pub texts_where-more : test (string_bytes p.key) ≡ true
+        → texts_where test (keyed_pieces (take (i + 1) pieces))
+        ≡ texts_where test (keyed_pieces (take i pieces)) ++ p.text.now ∷ []
     texts_where-more passes = ap (λ ps. texts_where test (keyed_pieces ps)) next ∙ (texts_where-append (take i pieces) (p ∷ []) ∙ rw passes refl)
 
-    pub texts_where-same : test (string_bytes p.key) ≡ false → texts_where test (keyed_pieces (take (i + 1) pieces)) ≡ texts_where test (keyed_pieces (take i pieces))
+    pub texts_where-same : test (string_bytes p.key) ≡ false
+        → texts_where test (keyed_pieces (take (i + 1) pieces))
+        ≡ texts_where test (keyed_pieces (take i pieces))
     texts_where-same fails = ap (λ ps. texts_where test (keyed_pieces ps)) next ∙ (texts_where-append (take i pieces) (p ∷ []) ∙ rw fails (append-nil (texts_where test (keyed_pieces (take i pieces)))))
 
     -- a second one is one too many
-    pub second_found : (found : Option (List ℕ)) → is_some found ≡ true → texts_where test (keyed_pieces (take i pieces)) ≡ found_list found
+    pub second_found : (found : Option (List ℕ)) → is_some found ≡ true
+        → texts_where test (keyed_pieces (take i pieces)) ≡ found_list found
         → test (string_bytes p.key) ≡ true → None ≡ only (texts_where test (keyed_pieces pieces))
     second_found None some before passes = absurd cc
     second_found (Some text) some before passes =
@@ -123,7 +141,8 @@ module _ (test : List ℕ → Bool) where
         sym (ap only (whole ∙ ap (λ ts. ts ++ texts_where test (keyed_pieces (drop (i + 1) pieces))) first))
 
 -- texts joined by `&`, with one more
-pub joined_step : (texts : List (List ℕ)) (text x : List ℕ) (first : Bool) → text ≡ joined_texts (codes "&") texts → first ≡ (length texts == 0)
+pub joined_step : (texts : List (List ℕ)) (text x : List ℕ) (first : Bool)
+    → text ≡ joined_texts (codes "&") texts → first ≡ (length texts == 0)
     → text ++ (if first then x else 38 ∷ x) ≡ joined_texts (codes "&") (texts ++ x ∷ [])
 joined_step texts text x true before none =
     ap (λ t. t ++ x) before ∙ sym (joined-first (codes "&") texts x ((Decides-eqb (length texts) 0).0 (sym none)))
@@ -132,6 +151,7 @@ joined_step texts text x false before some =
     ap (λ t. t ++ 38 ∷ x) before ∙ (sym (append_assoc (joined_texts (codes "&") texts) (38 ∷ []) x) ∙ sym (joined-more (codes "&") texts x long))
 
 -- the query without its signature
-pub unsigned_text-of : (query : List ℕ) (pieces : List Piece) → ArePiecesOf query pieces → unsigned_text (keyed_pieces pieces) ≡ unsigned_query query
+pub unsigned_text-of : (query : List ℕ) (pieces : List Piece) → ArePiecesOf query pieces
+    → unsigned_text (keyed_pieces pieces) ≡ unsigned_query query
 unsigned_text-of query pieces are =
     ap unsigned_text are ∙ sym (ap (joined_texts (codes "&")) (texts-keyed (λ key. not (bytes_eq key signature_name)) (query_pieces query)))

@@ -19,22 +19,26 @@ is_refused_expiry : (n : ℕ) (b : Bool) → is_expiry n ≡ b → ((n == 0) || 
 is_refused_expiry n b e = grind (arith, nat_tests, e)
 
 module _ (keys : Keys) (scope : Scope) (expires : ℕ) (now : ℤ) (head : Head) where
-  pub presigning-refused : (why : SigError) → target_to_sign scope head ≡ Err why → presigning_of keys scope expires now head ≡ Err (refused_as why)
+  pub presigning-refused : (why : SigError) → target_to_sign scope head ≡ Err why
+      → presigning_of keys scope expires now head ≡ Err (refused_as why)
   unfolding presigning_of
   presigning-refused why refused = rw refused refl
 
   module _ (target : PlainTarget) (signable : target_to_sign scope head ≡ Ok target) where
-    pub presigning-early : is_before_year_0 now ≡ true → presigning_of keys scope expires now head ≡ Err Moment
+    pub presigning-early : is_before_year_0 now ≡ true
+        → presigning_of keys scope expires now head ≡ Err Moment
     unfolding presigning_of
     presigning-early early = rw (signable, early) refl
 
     module _ (later : is_before_year_0 now ≡ false) where
-      pub presigning-already : has_link_name (raw_query target) ≡ true → presigning_of keys scope expires now head ≡ Err Already
+      pub presigning-already : has_link_name (raw_query target) ≡ true
+          → presigning_of keys scope expires now head ≡ Err Already
       unfolding presigning_of
       presigning-already already = rw (signable, later, already) refl
 
       module _ (plain : has_link_name (raw_query target) ≡ false) where
-        pub presigning-expires : is_expiry expires ≡ false → presigning_of keys scope expires now head ≡ Err Expires
+        pub presigning-expires : is_expiry expires ≡ false
+            → presigning_of keys scope expires now head ≡ Err Expires
         unfolding presigning_of
         presigning-expires none = rw (signable, later, plain, is_refused_expiry expires false none) refl
 
@@ -43,7 +47,8 @@ module _ (keys : Keys) (scope : Scope) (expires : ℕ) (now : ℤ) (head : Head)
           linked = record head { uri = presigned_link keys scope expires now head target }
 
           -- the head with the link, if `http` reads the link
-          pub presigning-link : (read : Bool) → is_some (target_of (presigned_link keys scope expires now head target)) ≡ read
+          pub presigning-link : (read : Bool)
+              → is_some (target_of (presigned_link keys scope expires now head target)) ≡ read
               → presigning_of keys scope expires now head ≡ (if read then Ok linked else Err Link)
           unfolding presigning_of
           presigning-link read e =

@@ -24,7 +24,8 @@ module _ (scope : Scope) (s t : ℤ) (same : civil_of s ≡ civil_of t) where
   text_to_sign-same request =
       ap₂ (λ (moment scoped : List ℕ). joined_lines (algorithm ∷ moment ∷ scoped ∷ encode_lower (sha256 request) ∷ [])) (ap iso8601_text same) scope_text-same
 
-  pub signature_of-same : (secret request : List ℕ) → signature_of secret scope s request ≡ signature_of secret scope t request
+  pub signature_of-same : (secret request : List ℕ)
+      → signature_of secret scope s request ≡ signature_of secret scope t request
   unfolding signature_under
   signature_of-same secret request =
       ap₂ (λ (date text : List ℕ). encode_lower (mac (signing_key secret scope date) text)) date_of-same (text_to_sign-same request)

@@ -44,6 +44,7 @@ encode_lower-AreUnreserved (b ∷ bs) h =
     All-cons Unreserved (slice_index lower_digits (b / 16)) (slice_index lower_digits (b % 16) ∷ encode_lower bs) (digit_is_unreserved (b / 16) (omega arith))
     (All-cons Unreserved (slice_index lower_digits (b % 16)) (encode_lower bs) (digit_is_unreserved (b % 16) (omega arith)) (encode_lower-AreUnreserved bs (All-tail IsByte b bs h)))
 
-pub signature_under-AreUnreserved : (key : List ℕ) (scope : Scope) (t : ℤ) (request : List ℕ) → AreUnreserved (signature_under key scope t request)
+pub signature_under-AreUnreserved : (key : List ℕ) (scope : Scope) (t : ℤ) (request : List ℕ)
+    → AreUnreserved (signature_under key scope t request)
 unfolding signature_under
 signature_under-AreUnreserved key scope t request = encode_lower-AreUnreserved _ (sha256-IsByte _)

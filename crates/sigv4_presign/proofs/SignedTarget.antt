@@ -18,12 +18,15 @@ pub record IsTargetOf (scope : Scope) (head : Head) (target : PlainTarget) : Typ
   pub named : target.authority ≡ Some authority
   pub path : is_refused_path scope (path_of target.path_and_query) ≡ false
 
-unless_Ok : (t target : PlainTarget) (why : Option SigError) → unless_refused t why ≡ Ok target → (t ≡ target) × (why ≡ None)
+unless_Ok : (t target : PlainTarget) (why : Option SigError) → unless_refused t why ≡ Ok target
+    → (t ≡ target) × (why ≡ None)
 unless_Ok t target None e = (cc, refl)
 unless_Ok t target (Some why) e = absurd (cc)
 
-refusal_None : (scope : Scope) (target : PlainTarget) (named : Option (List ℕ)) → target_refusal scope target named ≡ None
-    → (authority : List ℕ) × (named ≡ Some authority) × (is_refused_path scope (path_of target.path_and_query) ≡ false)
+refusal_None : (scope : Scope) (target : PlainTarget) (named : Option (List ℕ))
+    → target_refusal scope target named ≡ None
+    → (authority : List ℕ) × (named ≡ Some authority)
+    × (is_refused_path scope (path_of target.path_and_query) ≡ false)
 refusal_None scope target None e = absurd (cc)
 refusal_None scope target (Some authority) e =
     elim (cases_Bool (is_refused_path scope (path_of target.path_and_query))) [
@@ -31,7 +34,8 @@ refusal_None scope target (Some authority) e =
       | inr signed ↦ (authority, refl, signed)
     ]
 
-by_target_Ok : (scope : Scope) (head : Head) (target : PlainTarget) (read : Option PlainTarget) → target_of head.uri ≡ read → by_target scope read ≡ Ok target → IsTargetOf scope head target
+by_target_Ok : (scope : Scope) (head : Head) (target : PlainTarget) (read : Option PlainTarget)
+    → target_of head.uri ≡ read → by_target scope read ≡ Ok target → IsTargetOf scope head target
 by_target_Ok scope head target None was e = absurd (cc)
 by_target_Ok scope head target (Some t) was e =
     let both = unless_Ok t target (target_refusal scope t t.authority) e in
@@ -39,7 +43,8 @@ by_target_Ok scope head target (Some t) was e =
     let names = refusal_None scope target target.authority not_refused in
     record { read = was ∙ ap Some both.0; authority = names.0; named = names.1; path = names.2 }
 
-pub target_to_sign-IsTargetOf : (scope : Scope) (head : Head) (target : PlainTarget) → target_to_sign scope head ≡ Ok target → IsTargetOf scope head target
+pub target_to_sign-IsTargetOf : (scope : Scope) (head : Head) (target : PlainTarget)
+    → target_to_sign scope head ≡ Ok target → IsTargetOf scope head target
 unfolding target_to_sign
 target_to_sign-IsTargetOf scope head target e =
     elim (cases_Bool (is_accepted_head head)) [
@@ -47,12 +52,14 @@ target_to_sign-IsTargetOf scope head target e =
       | inr refused ↦ absurd (let bad = rw refused at e in cc)
     ]
 
-named_signed : (scope : Scope) (target : PlainTarget) (named : Option (List ℕ)) (authority : List ℕ) → named ≡ Some authority → is_refused_path scope (path_of target.path_and_query) ≡ false
+named_signed : (scope : Scope) (target : PlainTarget) (named : Option (List ℕ)) (authority : List ℕ)
+    → named ≡ Some authority → is_refused_path scope (path_of target.path_and_query) ≡ false
     → unless_refused target (target_refusal scope target named) ≡ Ok target
 named_signed scope target None authority named path = absurd (cc)
 named_signed scope target (Some it) authority named path = rw path refl
 
-pub target_to_sign-Ok : (scope : Scope) (head : Head) (target : PlainTarget) → is_accepted_head head ≡ true → IsTargetOf scope head target → target_to_sign scope head ≡ Ok target
+pub target_to_sign-Ok : (scope : Scope) (head : Head) (target : PlainTarget) → is_accepted_head head ≡ true
+    → IsTargetOf scope head target → target_to_sign scope head ≡ Ok target
 unfolding target_to_sign
 target_to_sign-Ok scope head target accepted h = rw (accepted, h.read) (named_signed scope target target.authority h.authority h.named h.path)
 

@@ -16,7 +16,8 @@ module _ (text : List ℕ) (r : Result Uri UriError) where
       let spelled : Spells text uri = subst (λ r. IfOk r (Spells text)) e spells in
       rw (target_of-Spells text uri spelled) refl
 
-  pub refused-is_some : (why : InvalidUri) → r ≡ Err (Invalid why) → IfErr r (λ e. UnlessOutOfMemory e (SpellsNone text)) → is_some (target_of text) ≡ false
+  pub refused-is_some : (why : InvalidUri) → r ≡ Err (Invalid why)
+      → IfErr r (λ e. UnlessOutOfMemory e (SpellsNone text)) → is_some (target_of text) ≡ false
   refused-is_some why e spells =
       let unless : UnlessOutOfMemory (Invalid why) (SpellsNone text) = subst (λ r. IfErr r (λ e. UnlessOutOfMemory e (SpellsNone text))) e spells in
       rw (target_of-SpellsNone text (unless (λ memory. cc))) refl

@@ -19,7 +19,8 @@ same_call-comm a b =
     ap (λ v. v && (a.number == b.number)) (number_comm a.handle b.handle) ∙ ap (λ v. (b.handle == a.handle) && v) (number_comm a.number b.number)
 
 -- a call that is not there is not there after one is taken out
-pub absent-filter : (q : CallId → Bool) (call : CallId) (xs : List CallId) → is_among call xs ≡ false → is_among call (filter q xs) ≡ false
+pub absent-filter : (q : CallId → Bool) (call : CallId) (xs : List CallId) → is_among call xs ≡ false
+    → is_among call (filter q xs) ≡ false
 absent-filter q call [] h = refl
 absent-filter q call (x ∷ xs) h =
     let rest : is_among call (filter q xs) ≡ false = absent-filter q call xs (or_right _ _ h) in

@@ -21,7 +21,8 @@ list_grown list = record {
 }
 
 -- the slots that were there stay
-slot-grown : (list : Inside) (q : ℕ) → q < length list.slots → slot_at (list_grown list).slots q ≡ slot_at list.slots q
+slot-grown : (list : Inside) (q : ℕ) → q < length list.slots
+    → slot_at (list_grown list).slots q ≡ slot_at list.slots q
 slot-grown list q below = get_or_append_left list.slots (vacant_slot list.free ∷ []) blank_slot q below
 
 -- the new slot stands behind them
@@ -33,8 +34,8 @@ one-more : (q n : ℕ) → cond (q == n) 1 0 + cond (nat_lt q n) 1 0 ≡ cond (n
 one-more q n = grind (arith, nat_tests)
 
 -- the waiters stand where they stood, and the new slot is the first vacant one
-grown : (list : Inside) (waiting vacant : List ℕ) → HasPlaces list waiting vacant → length list.slots + 1 < 2 ^ 32
-    → HasPlaces (list_grown list) waiting (length list.slots ∷ vacant)
+grown : (list : Inside) (waiting vacant : List ℕ) → HasPlaces list waiting vacant
+    → length list.slots + 1 < 2 ^ 32 → HasPlaces (list_grown list) waiting (length list.slots ∷ vacant)
 grown list waiting vacant h fits =
     let new : List Slot = (list_grown list).slots in
     let more : length new ≡ length list.slots + 1 = length_push list.slots (vacant_slot list.free) in
@@ -53,7 +54,8 @@ grown list waiting vacant h fits =
     }
 
 -- the same calls wait
-grown-waiters : (list : Inside) (waiting vacant : List ℕ) → HasPlaces list waiting vacant → waiters_at (list_grown list).slots waiting ≡ waiters_at list.slots waiting
+grown-waiters : (list : Inside) (waiting vacant : List ℕ) → HasPlaces list waiting vacant
+    → waiters_at (list_grown list).slots waiting ≡ waiters_at list.slots waiting
 grown-waiters list waiting vacant h =
     waiters-same list.slots (list_grown list).slots waiting (λ q on. ap (λ (s : Slot). s.id) (slot-grown list q (place-below list waiting vacant h q (omega arith))))
 
@@ -83,7 +85,8 @@ pub record Larger (list : Inside) (waiting vacant : List ℕ) (larger : Inside) 
   pub stands : HasPlaces larger waiting places
   pub waiters : waiters_at larger.slots waiting ≡ waiters_at list.slots waiting
 
-pub larger : (n : ℕ) (list : Inside) (waiting vacant : List ℕ) → HasPlaces list waiting vacant → length list.slots + n < 2 ^ 32 → Larger list waiting vacant (list_larger list n)
+pub larger : (n : ℕ) (list : Inside) (waiting vacant : List ℕ) → HasPlaces list waiting vacant
+    → length list.slots + n < 2 ^ 32 → Larger list waiting vacant (list_larger list n)
 larger zero list waiting vacant h fits =
     subst (Larger list waiting vacant) (sym (larger-none list)) (record { places = vacant; stands = h; waiters = refl })
 larger (suc n) list waiting vacant h fits =
@@ -93,7 +96,9 @@ larger (suc n) list waiting vacant h fits =
     (record { places = next.places; stands = next.stands; waiters = next.waiters ∙ grown-waiters list waiting vacant h })
 
 -- the list is so once the slots are there and the first vacant one is named
-pub larger-is : (list : Inside) (n : ℕ) (slots : List Slot) (free : Option ℕ) → slots ≡ list.slots ++ chained_slots (length list.slots) n list.free
+pub larger-is : (list : Inside) (n : ℕ) (slots : List Slot) (free : Option ℕ)
+    → slots ≡ list.slots ++ chained_slots (length list.slots) n list.free
     → free ≡ chain_start (length list.slots) n list.free
-    → let l : Inside = record { slots = slots; head = list.head; tail = list.tail; free = free; vacant = list.vacant + n } in l ≡ list_larger list n
+    → let l : Inside = record { slots = slots; head = list.head; tail = list.tail; free = free; vacant = list.vacant + n } in l
+    ≡ list_larger list n
 larger-is list n slots free s f = rw (s, f) refl

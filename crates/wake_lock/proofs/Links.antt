@@ -7,16 +7,19 @@ use Rattle.wake_lock.specs.Links.{Gap, gap_after, IsPath, IsChain, places_from, 
 use Rattle.wake_lock.proofs.Places.{times-here, times-rest}
 
 -- another slot stays
-pub slot-other : (slots : List Slot) (p q : ℕ) (slot : Slot) → (q ≡ p → ⊥) → slot_at (set slots p slot) q ≡ slot_at slots q
+pub slot-other : (slots : List Slot) (p q : ℕ) (slot : Slot) → (q ≡ p → ⊥)
+    → slot_at (set slots p slot) q ≡ slot_at slots q
 slot-other slots p q slot apart = get_or-set_other slots p q slot blank_slot apart
 
 -- the slot that was written
-pub slot-here : (slots : List Slot) (p : ℕ) (slot : Slot) → p < length slots → slot_at (set slots p slot) p ≡ slot
+pub slot-here : (slots : List Slot) (p : ℕ) (slot : Slot) → p < length slots
+    → slot_at (set slots p slot) p ≡ slot
 slot-here slots p slot below = get_or-set_same slots p slot blank_slot below
 
 -- a path stays where its slots stay
-pub path-same : (old new : List Slot) (from : Gap) (ps : List ℕ) (to : Gap) → ((q : ℕ) → 1 ≤ times q ps → slot_at new q ≡ slot_at old q)
-    → IsPath old from ps to → IsPath new from ps to
+pub path-same : (old new : List Slot) (from : Gap) (ps : List ℕ) (to : Gap)
+    → ((q : ℕ) → 1 ≤ times q ps → slot_at new q ≡ slot_at old q) → IsPath old from ps to
+    → IsPath new from ps to
 path-same old new from [] to same path = path
 path-same old new from (p ∷ ps) to same path =
     let here : slot_at new p ≡ slot_at old p = same p (omega (arith, times-here p ps)) in
@@ -28,8 +31,8 @@ path-same old new from (p ∷ ps) to same path =
     )
 
 -- a chain stays where its slots stay
-pub chain-same : (old new : List Slot) (start : Option ℕ) (ps : List ℕ) → ((q : ℕ) → 1 ≤ times q ps → slot_at new q ≡ slot_at old q)
-    → IsChain old start ps → IsChain new start ps
+pub chain-same : (old new : List Slot) (start : Option ℕ) (ps : List ℕ)
+    → ((q : ℕ) → 1 ≤ times q ps → slot_at new q ≡ slot_at old q) → IsChain old start ps → IsChain new start ps
 chain-same old new start [] same chain = chain
 chain-same old new start (p ∷ ps) same chain =
     let here : slot_at new p ≡ slot_at old p = same p (omega (arith, times-here p ps)) in
@@ -42,8 +45,8 @@ pub apart : (p q : ℕ) (ps : List ℕ) → times p ps ≡ 0 → 1 ≤ times q p
 apart p q ps none on e = let here : 1 ≤ times p ps = subst (λ (x : ℕ). 1 ≤ times x ps) e on in omega arith
 
 -- a path stays where a slot is written that is not on it
-pub path-other : (slots : List Slot) (p : ℕ) (slot : Slot) (from : Gap) (ps : List ℕ) (to : Gap) → times p ps ≡ 0
-    → IsPath slots from ps to → IsPath (set slots p slot) from ps to
+pub path-other : (slots : List Slot) (p : ℕ) (slot : Slot) (from : Gap) (ps : List ℕ) (to : Gap)
+    → times p ps ≡ 0 → IsPath slots from ps to → IsPath (set slots p slot) from ps to
 path-other slots p slot from ps to none path = path-same slots (set slots p slot) from ps to (λ q on. slot-other slots p q slot (apart p q ps none on)) path
 
 -- two paths make one
@@ -53,16 +56,16 @@ path-append slots from [] mid ys to first second = subst (λ (g : Gap). IsPath s
 path-append slots from (x ∷ xs) mid ys to first second = (first.0, first.1, path-append slots (gap_after slots x) xs mid ys to first.2 second)
 
 -- one path makes two
-pub path-split : (slots : List Slot) (from : Gap) (xs ys : List ℕ) (to : Gap) → IsPath slots from (xs ++ ys) to
-    → (mid : Gap) × IsPath slots from xs mid × IsPath slots mid ys to
+pub path-split : (slots : List Slot) (from : Gap) (xs ys : List ℕ) (to : Gap)
+    → IsPath slots from (xs ++ ys) to → (mid : Gap) × IsPath slots from xs mid × IsPath slots mid ys to
 path-split slots from [] ys to path = (from, refl, path)
 path-split slots from (x ∷ xs) ys to path =
     let rest = path-split slots (gap_after slots x) xs ys to path.2 in
     (rest.0, (path.0, path.1, rest.1), rest.2)
 
 -- a path leads to the right of its last place
-pub path-last : (slots : List Slot) (from : Gap) (p : ℕ) (ps : List ℕ) (to : Gap) → IsPath slots from (p ∷ ps) to
-    → (t : ℕ) × (to.left ≡ Some t) × (1 ≤ times t (p ∷ ps))
+pub path-last : (slots : List Slot) (from : Gap) (p : ℕ) (ps : List ℕ) (to : Gap)
+    → IsPath slots from (p ∷ ps) to → (t : ℕ) × (to.left ≡ Some t) × (1 ≤ times t (p ∷ ps))
 path-last slots from p [] to path = (p, sym (ap (λ (g : Gap). g.left) path.2), omega (arith, times-here p []))
 path-last slots from p (q ∷ qs) to path =
     let rest = path-last slots (gap_after slots p) q qs to path.2 in
@@ -70,8 +73,8 @@ path-last slots from p (q ∷ qs) to path =
     (rest.0, rest.1, omega (arith, rest.2, more))
 
 -- walking finds the places of a path that ends
-pub path-walked : (most : ℕ) (slots : List Slot) (from : Gap) (ps : List ℕ) (to : Gap) → IsPath slots from ps to → to.right ≡ None
-    → length ps ≤ most → places_from most slots from.right ≡ ps
+pub path-walked : (most : ℕ) (slots : List Slot) (from : Gap) (ps : List ℕ) (to : Gap)
+    → IsPath slots from ps to → to.right ≡ None → length ps ≤ most → places_from most slots from.right ≡ ps
 path-walked zero slots from [] to path ends fits = refl
 path-walked (suc most) slots from [] to path ends fits = subst (λ (o : Option ℕ). places_from (suc most) slots o ≡ []) (sym (ap (λ (g : Gap). g.right) path ∙ ends)) refl
 path-walked zero slots from (p ∷ ps) to path ends fits = absurd (omega arith)
@@ -80,7 +83,8 @@ path-walked (suc most) slots from (p ∷ ps) to path ends fits =
     (ap (λ (l : List ℕ). p ∷ l) (path-walked most slots (gap_after slots p) ps to path.2 ends (omega arith)))
 
 -- walking finds the places of a chain
-pub chain-walked : (most : ℕ) (slots : List Slot) (start : Option ℕ) (ps : List ℕ) → IsChain slots start ps → length ps ≤ most → places_from most slots start ≡ ps
+pub chain-walked : (most : ℕ) (slots : List Slot) (start : Option ℕ) (ps : List ℕ) → IsChain slots start ps
+    → length ps ≤ most → places_from most slots start ≡ ps
 chain-walked zero slots start [] chain fits = refl
 chain-walked (suc most) slots start [] chain fits = subst (λ (o : Option ℕ). places_from (suc most) slots o ≡ []) (sym chain) refl
 chain-walked zero slots start (p ∷ ps) chain fits = absurd (omega arith)

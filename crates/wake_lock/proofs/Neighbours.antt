@@ -11,27 +11,32 @@ use Rattle.wake_lock.proofs.Links.{slot-other, slot-here, path-same, path-append
 use Rattle.wake_lock.proofs.Relinks.{AreOnce, once-part, left-relinked, right-relinked}
 
 -- as many slots stand there, whichever names another after it
-pub length-with_after : (slots : List Slot) (at after : Option ℕ) → length (with_after slots at after) ≡ length slots
+pub length-with_after : (slots : List Slot) (at after : Option ℕ)
+    → length (with_after slots at after) ≡ length slots
 length-with_after slots None after = refl
 length-with_after slots (Some t) after = length-set slots t (record (slot_at slots t) { after = after })
 
 -- as many slots stand there, whichever names another before it
-pub length-with_before : (slots : List Slot) (at before : Option ℕ) → length (with_before slots at before) ≡ length slots
+pub length-with_before : (slots : List Slot) (at before : Option ℕ)
+    → length (with_before slots at before) ≡ length slots
 length-with_before slots None before = refl
 length-with_before slots (Some t) before = length-set slots t (record (slot_at slots t) { before = before })
 
 -- where one slot names another after it, every other slot stays
-pub other-with_after : (slots : List Slot) (at after : Option ℕ) (q : ℕ) → ((t : ℕ) → at ≡ Some t → q ≡ t → ⊥) → slot_at (with_after slots at after) q ≡ slot_at slots q
+pub other-with_after : (slots : List Slot) (at after : Option ℕ) (q : ℕ) → ((t : ℕ) → at ≡ Some t → q ≡ t → ⊥)
+    → slot_at (with_after slots at after) q ≡ slot_at slots q
 other-with_after slots None after q apart = refl
 other-with_after slots (Some t) after q apart = slot-other slots t q (record (slot_at slots t) { after = after }) (apart t refl)
 
 -- where one slot names another before it, every other slot stays
-pub other-with_before : (slots : List Slot) (at before : Option ℕ) (q : ℕ) → ((t : ℕ) → at ≡ Some t → q ≡ t → ⊥) → slot_at (with_before slots at before) q ≡ slot_at slots q
+pub other-with_before : (slots : List Slot) (at before : Option ℕ) (q : ℕ)
+    → ((t : ℕ) → at ≡ Some t → q ≡ t → ⊥) → slot_at (with_before slots at before) q ≡ slot_at slots q
 other-with_before slots None before q apart = refl
 other-with_before slots (Some t) before q apart = slot-other slots t q (record (slot_at slots t) { before = before }) (apart t refl)
 
 -- a slot is written with the call that it had: every slot has the call that it had
-pub id-set : (slots : List Slot) (t : ℕ) (slot : Slot) (q : ℕ) → slot.id ≡ (slot_at slots t).id → (slot_at (set slots t slot) q).id ≡ (slot_at slots q).id
+pub id-set : (slots : List Slot) (t : ℕ) (slot : Slot) (q : ℕ) → slot.id ≡ (slot_at slots t).id
+    → (slot_at (set slots t slot) q).id ≡ (slot_at slots q).id
 id-set slots t slot q same =
     let id_of : Slot → CallId = λ s. s.id in
     ⊎_elim
@@ -44,18 +49,21 @@ id-set slots t slot q same =
     (cases_eq q t)
 
 -- where one slot names another after it, every slot has the call that it had
-pub id-with_after : (slots : List Slot) (at after : Option ℕ) (q : ℕ) → (slot_at (with_after slots at after) q).id ≡ (slot_at slots q).id
+pub id-with_after : (slots : List Slot) (at after : Option ℕ) (q : ℕ)
+    → (slot_at (with_after slots at after) q).id ≡ (slot_at slots q).id
 id-with_after slots None after q = refl
 id-with_after slots (Some t) after q = id-set slots t (record (slot_at slots t) { after = after }) q refl
 
 -- where one slot names another before it, every slot has the call that it had
-pub id-with_before : (slots : List Slot) (at before : Option ℕ) (q : ℕ) → (slot_at (with_before slots at before) q).id ≡ (slot_at slots q).id
+pub id-with_before : (slots : List Slot) (at before : Option ℕ) (q : ℕ)
+    → (slot_at (with_before slots at before) q).id ≡ (slot_at slots q).id
 id-with_before slots None before q = refl
 id-with_before slots (Some t) before q = id-set slots t (record (slot_at slots t) { before = before }) q refl
 
 -- the neighbour on the left of where a path from the head leads is on the path
-pub left-on : (slots : List Slot) (head : Option ℕ) (xs : List ℕ) (mid : Gap) → IsPath slots (record { left = None; right = head }) xs mid
-    → (t : ℕ) → mid.left ≡ Some t → 1 ≤ times t xs
+pub left-on : (slots : List Slot) (head : Option ℕ) (xs : List ℕ) (mid : Gap)
+    → IsPath slots (record { left = None; right = head }) xs mid → (t : ℕ) → mid.left ≡ Some t
+    → 1 ≤ times t xs
 left-on slots head [] mid path t is = let none : mid.left ≡ None = sym (ap (λ (g : Gap). g.left) path) in cc
 left-on slots head (x ∷ xs) mid path t is =
     let last = path-last slots (record { left = None; right = head }) x xs mid path in
@@ -63,15 +71,17 @@ left-on slots head (x ∷ xs) mid path t is =
     subst (λ (y : ℕ). 1 ≤ times y (x ∷ xs)) same last.2
 
 -- the neighbour on the right of where a path to the tail begins is on the path
-pub right-on : (slots : List Slot) (from : Gap) (ys : List ℕ) (tail : Option ℕ) → IsPath slots from ys (record { left = tail; right = None })
-    → (t : ℕ) → from.right ≡ Some t → 1 ≤ times t ys
+pub right-on : (slots : List Slot) (from : Gap) (ys : List ℕ) (tail : Option ℕ)
+    → IsPath slots from ys (record { left = tail; right = None }) → (t : ℕ) → from.right ≡ Some t
+    → 1 ≤ times t ys
 right-on slots from [] tail path t is = let none : from.right ≡ None = ap (λ (g : Gap). g.right) path in cc
 right-on slots from (y ∷ ys) tail path t is =
     let same : y ≡ t = cc (path.0, is) in
     subst (λ (z : ℕ). 1 ≤ times z (y ∷ ys)) same (omega (arith, times-here y ys))
 
 -- how often a place stands before, at and behind another
-pub times-around : (q : ℕ) (xs : List ℕ) (p : ℕ) (ys : List ℕ) → times q (xs ++ p ∷ ys) ≡ times q (p ∷ []) + times q (xs ++ ys)
+pub times-around : (q : ℕ) (xs : List ℕ) (p : ℕ) (ys : List ℕ)
+    → times q (xs ++ p ∷ ys) ≡ times q (p ∷ []) + times q (xs ++ ys)
 times-around q xs p ys = omega (arith, times-append q xs (p ∷ ys), times-append q xs ys)
 
 -- the neighbours that a slot on a path names stand on the path, on either side of it
@@ -81,7 +91,9 @@ pub record NamesNeighbours (slot : Slot) (xs ys : List ℕ) : Type 0 where
 
 -- a slot on a path from the head to the tail names such neighbours
 pub neighbours-on : (slots : List Slot) (head tail : Option ℕ) (xs : List ℕ) (p : ℕ) (ys : List ℕ)
-    → IsPath slots (record { left = None; right = head }) (xs ++ p ∷ ys) (record { left = tail; right = None }) → NamesNeighbours (slot_at slots p) xs ys
+    → IsPath slots (record { left = None; right = head }) (xs ++ p ∷ ys)
+    (record { left = tail; right = None })
+    → NamesNeighbours (slot_at slots p) xs ys
 neighbours-on slots head tail xs p ys path =
     let parts = path-split slots (record { left = None; right = head }) xs (p ∷ ys) (record { left = tail; right = None }) path in
     record {
@@ -90,8 +102,10 @@ neighbours-on slots head tail xs p ys path =
     }
 
 -- once its two neighbours name each other, the path leads past the slot
-pub path-past : (slots : List Slot) (head tail : Option ℕ) (xs : List ℕ) (p : ℕ) (ys : List ℕ) → AreOnce slots (xs ++ p ∷ ys)
-    → IsPath slots (record { left = None; right = head }) (xs ++ p ∷ ys) (record { left = tail; right = None })
+pub path-past : (slots : List Slot) (head tail : Option ℕ) (xs : List ℕ) (p : ℕ) (ys : List ℕ)
+    → AreOnce slots (xs ++ p ∷ ys)
+    → IsPath slots (record { left = None; right = head }) (xs ++ p ∷ ys)
+    (record { left = tail; right = None })
     → let s = slot_at slots p in
     IsPath (with_before (with_after slots s.before s.after) s.after s.before) (record { left = None; right = end_with s.before head s.after }) (xs ++ ys)
     (record { left = end_with s.after tail s.before; right = None })

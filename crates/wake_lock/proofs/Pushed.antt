@@ -24,10 +24,12 @@ list_pushed list p call = record {
 }
 
 -- the parts that a push leaves are that list's
-pub list_pushed-is : (list : Inside) (p : ℕ) (call : CallId) (read : Slot) (written linked : List Slot) (head : Option ℕ)
-    → read ≡ slot_at list.slots p → written ≡ set list.slots p (record { id = call; before = list.tail; after = None })
+pub list_pushed-is : (list : Inside) (p : ℕ) (call : CallId) (read : Slot) (written linked : List Slot)
+    (head : Option ℕ) → read ≡ slot_at list.slots p
+    → written ≡ set list.slots p (record { id = call; before = list.tail; after = None })
     → linked ≡ with_after written list.tail (Some p) → head ≡ end_with list.tail list.head (Some p)
-    → record { slots = linked; head = head; tail = Some p; free = read.after; vacant = list.vacant - 1 } ≡ list_pushed list p call
+    → record { slots = linked; head = head; tail = Some p; free = read.after; vacant = list.vacant - 1 }
+    ≡ list_pushed list p call
 list_pushed-is list p call read written linked head read_is written_is linked_is head_is =
     let slot : Slot = record { id = call; before = list.tail; after = None } in
     let all_is : linked ≡ with_after (set list.slots p slot) list.tail (Some p) =
@@ -42,7 +44,8 @@ pub record IsFirstVacant (list : Inside) (p : ℕ) (waiting vacant : List ℕ) :
   pub waiting_elsewhere : (q : ℕ) → 1 ≤ times q waiting → times q vacant ≡ 0
 
 -- the first of the vacant slots is so
-pub first-vacant : (list : Inside) (p : ℕ) (waiting vacant : List ℕ) → HasPlaces list waiting (p ∷ vacant) → IsFirstVacant list p waiting vacant
+pub first-vacant : (list : Inside) (p : ℕ) (waiting vacant : List ℕ) → HasPlaces list waiting (p ∷ vacant)
+    → IsFirstVacant list p waiting vacant
 first-vacant list p waiting vacant h =
     let here : times p (p ∷ vacant) ≡ 1 + times p vacant = times-here p vacant in
     let one : times p waiting + times p (p ∷ vacant) ≤ 1 = place-once list waiting (p ∷ vacant) h p in
@@ -57,8 +60,8 @@ first-vacant list p waiting vacant h =
     }
 
 -- the call that is put behind all others stands behind all others
-pub pushed : (list : Inside) (p : ℕ) (call : CallId) (waiting vacant : List ℕ) → HasPlaces list waiting (p ∷ vacant)
-    → HasPlaces (list_pushed list p call) (waiting ++ p ∷ []) vacant
+pub pushed : (list : Inside) (p : ℕ) (call : CallId) (waiting vacant : List ℕ)
+    → HasPlaces list waiting (p ∷ vacant) → HasPlaces (list_pushed list p call) (waiting ++ p ∷ []) vacant
 pushed list p call waiting vacant h =
     let slot : Slot = record { id = call; before = list.tail; after = None } in
     let written : List Slot = set list.slots p slot in
@@ -91,8 +94,10 @@ pushed list p call waiting vacant h =
     }
 
 -- the calls that wait then
-pub pushed-waiters : (list : Inside) (p : ℕ) (call : CallId) (waiting vacant : List ℕ) → HasPlaces list waiting (p ∷ vacant)
-    → waiters_at (list_pushed list p call).slots (waiting ++ p ∷ []) ≡ waiters_at list.slots waiting ++ (call, p) ∷ []
+pub pushed-waiters : (list : Inside) (p : ℕ) (call : CallId) (waiting vacant : List ℕ)
+    → HasPlaces list waiting (p ∷ vacant)
+    → waiters_at (list_pushed list p call).slots (waiting ++ p ∷ [])
+    ≡ waiters_at list.slots waiting ++ (call, p) ∷ []
 pushed-waiters list p call waiting vacant h =
     let slot : Slot = record { id = call; before = list.tail; after = None } in
     let written : List Slot = set list.slots p slot in

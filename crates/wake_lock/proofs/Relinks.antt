@@ -12,15 +12,18 @@ pub record AreOnce (slots : List Slot) (ps : List ℕ) : Type 0 where
   pub below : (q : ℕ) → 1 ≤ times q ps → q < length slots
 
 -- a part of such a list is such a list
-pub once-part : (slots : List Slot) (xs ps : List ℕ) → ((q : ℕ) → times q xs ≤ times q ps) → AreOnce slots ps → AreOnce slots xs
+pub once-part : (slots : List Slot) (xs ps : List ℕ) → ((q : ℕ) → times q xs ≤ times q ps) → AreOnce slots ps
+    → AreOnce slots xs
 once-part slots xs ps part all = record {
   once = λ q. let less : times q xs ≤ times q ps = part q in let one : times q ps ≤ 1 = all.once q in omega arith;
   below = λ q here. let less : times q xs ≤ times q ps = part q in all.below q (omega arith);
 }
 
 -- the last slot names another one as the one after it
-last-after : (slots : List Slot) (from : Gap) (p : ℕ) (ps : List ℕ) (to : Gap) (t : ℕ) (after : Option ℕ) → to.left ≡ Some t → AreOnce slots (p ∷ ps)
-    → IsPath slots from (p ∷ ps) to → IsPath (set slots t (record (slot_at slots t) { after = after })) from (p ∷ ps) (record { left = Some t; right = after })
+last-after : (slots : List Slot) (from : Gap) (p : ℕ) (ps : List ℕ) (to : Gap) (t : ℕ) (after : Option ℕ)
+    → to.left ≡ Some t → AreOnce slots (p ∷ ps) → IsPath slots from (p ∷ ps) to
+    → IsPath (set slots t (record (slot_at slots t) { after = after })) from (p ∷ ps)
+    (record { left = Some t; right = after })
 last-after slots from p [] to t after is all path =
     let same : p ≡ t = cc (ap (λ (g : Gap). g.left) path.2) in
     let below : p < length slots = all.below p (omega (arith, times-here p [])) in
@@ -46,9 +49,10 @@ last-after slots from p (q ∷ qs) to t after is all path =
     )
 
 -- where a path from the head ends, its last slot or else the head names another one as the one that follows
-pub left-relinked : (slots : List Slot) (head : Option ℕ) (xs : List ℕ) (mid : Gap) (after : Option ℕ) → AreOnce slots xs
-    → IsPath slots (record { left = None; right = head }) xs mid
-    → IsPath (with_after slots mid.left after) (record { left = None; right = end_with mid.left head after }) xs (record { left = mid.left; right = after })
+pub left-relinked : (slots : List Slot) (head : Option ℕ) (xs : List ℕ) (mid : Gap) (after : Option ℕ)
+    → AreOnce slots xs → IsPath slots (record { left = None; right = head }) xs mid
+    → IsPath (with_after slots mid.left after) (record { left = None; right = end_with mid.left head after })
+    xs (record { left = mid.left; right = after })
 left-relinked slots head [] mid after all path =
     subst (λ (g : Gap). IsPath (with_after slots g.left after) (record { left = None; right = end_with g.left head after }) [] (record { left = g.left; right = after })) path refl
 left-relinked slots head (x ∷ xs) mid after all path =
@@ -57,8 +61,10 @@ left-relinked slots head (x ∷ xs) mid after all path =
     (last-after slots (record { left = None; right = head }) x xs mid last.0 after last.1 all path)
 
 -- the first slot names another one as the one before it
-first-before : (slots : List Slot) (from : Gap) (p : ℕ) (ps : List ℕ) (to : Gap) (before : Option ℕ) → AreOnce slots (p ∷ ps)
-    → IsPath slots from (p ∷ ps) to → IsPath (set slots p (record (slot_at slots p) { before = before })) (record { left = before; right = Some p }) (p ∷ ps) to
+first-before : (slots : List Slot) (from : Gap) (p : ℕ) (ps : List ℕ) (to : Gap) (before : Option ℕ)
+    → AreOnce slots (p ∷ ps) → IsPath slots from (p ∷ ps) to
+    → IsPath (set slots p (record (slot_at slots p) { before = before }))
+    (record { left = before; right = Some p }) (p ∷ ps) to
 first-before slots from p ps to before all path =
     let changed : List Slot = set slots p (record (slot_at slots p) { before = before }) in
     let here_once : times p (p ∷ ps) ≡ 1 + times p ps = times-here p ps in
@@ -71,10 +77,12 @@ first-before slots from p ps to before all path =
       subst (λ (s : Slot). IsPath changed (record { left = Some p; right = s.after }) ps to) (sym here) rest,
     )
 
--- where a path to the tail begins, its first slot or else the tail names another one as the one that goes before
-pub right-relinked : (slots : List Slot) (from : Gap) (ys : List ℕ) (tail before : Option ℕ) → AreOnce slots ys
-    → IsPath slots from ys (record { left = tail; right = None })
-    → IsPath (with_before slots from.right before) (record { left = before; right = from.right }) ys (record { left = end_with from.right tail before; right = None })
+-- where a path to the tail begins, its first slot or else the tail names another one as the one that goes
+-- before
+pub right-relinked : (slots : List Slot) (from : Gap) (ys : List ℕ) (tail before : Option ℕ)
+    → AreOnce slots ys → IsPath slots from ys (record { left = tail; right = None })
+    → IsPath (with_before slots from.right before) (record { left = before; right = from.right }) ys
+    (record { left = end_with from.right tail before; right = None })
 right-relinked slots from [] tail before all path =
     subst (λ (g : Gap). IsPath (with_before slots g.right before) (record { left = before; right = g.right }) [] (record { left = end_with g.right tail before; right = None })) (sym path) refl
 right-relinked slots from (y ∷ ys) tail before all path =

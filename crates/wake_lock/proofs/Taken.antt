@@ -33,11 +33,13 @@ list_taken list p = record {
 }
 
 -- the parts that a taking leaves are that list's
-pub list_taken-is : (list : Inside) (p : ℕ) (slot : Slot) (linked past written : List Slot) (head tail : Option ℕ)
-    → slot ≡ slot_at list.slots p → linked ≡ with_after list.slots slot.before slot.after → head ≡ end_with slot.before list.head slot.after
+pub list_taken-is : (list : Inside) (p : ℕ) (slot : Slot) (linked past written : List Slot)
+    (head tail : Option ℕ) → slot ≡ slot_at list.slots p
+    → linked ≡ with_after list.slots slot.before slot.after → head ≡ end_with slot.before list.head slot.after
     → past ≡ with_before linked slot.after slot.before → tail ≡ end_with slot.after list.tail slot.before
     → written ≡ set past p (record { id = slot.id; before = None; after = list.free })
-    → record { slots = written; head = head; tail = tail; free = Some p; vacant = list.vacant + 1 } ≡ list_taken list p
+    → record { slots = written; head = head; tail = tail; free = Some p; vacant = list.vacant + 1 }
+    ≡ list_taken list p
 list_taken-is list p slot linked past written head tail slot_is linked_is head_is past_is tail_is written_is =
     let here : Slot = slot_at list.slots p in
     let linked_all : linked ≡ with_after list.slots here.before here.after =
@@ -65,7 +67,8 @@ id-slots_past slots p q =
     ∙ id-with_after slots (slot_at slots p).before (slot_at slots p).after q
 
 -- every slot has the call that it had
-pub id-taken : (list : Inside) (p q : ℕ) → (slot_at (list_taken list p).slots q).id ≡ (slot_at list.slots q).id
+pub id-taken : (list : Inside) (p q : ℕ)
+    → (slot_at (list_taken list p).slots q).id ≡ (slot_at list.slots q).id
 id-taken list p q = id-set (slots_past list.slots p) p (slot_left list p) q (sym (id-slots_past list.slots p p)) ∙ id-slots_past list.slots p q
 
 -- what is known of the place of a waiter
@@ -76,7 +79,8 @@ pub record IsWaiter (list : Inside) (p : ℕ) (others vacant : List ℕ) : Type 
   pub vacant_elsewhere : (q : ℕ) → 1 ≤ times q others → times q vacant ≡ 0
 
 -- a place between others is so
-pub waiter : (list : Inside) (xs : List ℕ) (p : ℕ) (ys vacant : List ℕ) → HasPlaces list (xs ++ p ∷ ys) vacant → IsWaiter list p (xs ++ ys) vacant
+pub waiter : (list : Inside) (xs : List ℕ) (p : ℕ) (ys vacant : List ℕ) → HasPlaces list (xs ++ p ∷ ys) vacant
+    → IsWaiter list p (xs ++ ys) vacant
 waiter list xs p ys vacant h =
     let around : times p (xs ++ p ∷ ys) ≡ times p (p ∷ []) + times p (xs ++ ys) = times-around p xs p ys in
     let here : times p (p ∷ []) ≡ 1 + 0 = times-here p [] in
@@ -90,7 +94,8 @@ waiter list xs p ys vacant h =
     }
 
 -- the others wait on, and the slot is the first vacant one
-pub taken : (list : Inside) (xs : List ℕ) (p : ℕ) (ys vacant : List ℕ) → HasPlaces list (xs ++ p ∷ ys) vacant → HasPlaces (list_taken list p) (xs ++ ys) (p ∷ vacant)
+pub taken : (list : Inside) (xs : List ℕ) (p : ℕ) (ys vacant : List ℕ) → HasPlaces list (xs ++ p ∷ ys) vacant
+    → HasPlaces (list_taken list p) (xs ++ ys) (p ∷ vacant)
 taken list xs p ys vacant h =
     let s : Slot = slot_at list.slots p in
     let past : List Slot = slots_past list.slots p in
@@ -145,8 +150,9 @@ pub record IsSplit (slots : List Slot) (places : List ℕ) (ahead : List (CallId
   pub behind_are : waiters_at slots (places_of behind) ≡ behind
 
 -- waiters that are cut around one stand so
-pub waiters-split : (slots : List Slot) (places : List ℕ) (ahead : List (CallId × ℕ)) (waiter : CallId × ℕ) (behind : List (CallId × ℕ))
-    → waiters_at slots places ≡ ahead ++ waiter ∷ behind → IsSplit slots places ahead waiter behind
+pub waiters-split : (slots : List Slot) (places : List ℕ) (ahead : List (CallId × ℕ)) (waiter : CallId × ℕ)
+    (behind : List (CallId × ℕ)) → waiters_at slots places ≡ ahead ++ waiter ∷ behind
+    → IsSplit slots places ahead waiter behind
 waiters-split slots [] [] waiter behind is = absurd (cc)
 waiters-split slots [] (a ∷ ahead) waiter behind is = absurd (cc)
 waiters-split slots (p ∷ ps) [] waiter behind is =
@@ -175,8 +181,9 @@ waiters-split slots (p ∷ ps) (a ∷ ahead) waiter behind is =
     }
 
 -- the others wait on, in order
-pub taken-waiters : (list : Inside) (place : ℕ) (ahead behind : List (CallId × ℕ)) → waiters_at list.slots (places_of ahead) ≡ ahead
-    → waiters_at list.slots (places_of behind) ≡ behind → waiters_at (list_taken list place).slots (places_of ahead ++ places_of behind) ≡ ahead ++ behind
+pub taken-waiters : (list : Inside) (place : ℕ) (ahead behind : List (CallId × ℕ))
+    → waiters_at list.slots (places_of ahead) ≡ ahead → waiters_at list.slots (places_of behind) ≡ behind
+    → waiters_at (list_taken list place).slots (places_of ahead ++ places_of behind) ≡ ahead ++ behind
 taken-waiters list place ahead behind front back =
     let new : List Slot = (list_taken list place).slots in
     map-append (λ (p : ℕ). ((slot_at new p).id, p)) (places_of ahead) (places_of behind)
@@ -184,7 +191,8 @@ taken-waiters list place ahead behind front back =
     ∙ ap (λ (l : List (CallId × ℕ)). ahead ++ l) (waiters-same list.slots new (places_of behind) (λ q on. id-taken list place q) ∙ back)
 
 -- a waiter's place stands among the places of those that wait
-pub waiter-split : (list : Inside) (p : ℕ) → IsWaitList list → 1 ≤ times p (places_of (waiters_at list.slots (waiting_places list)))
+pub waiter-split : (list : Inside) (p : ℕ) → IsWaitList list
+    → 1 ≤ times p (places_of (waiters_at list.slots (waiting_places list)))
     → (xs : List ℕ) × (ys : List ℕ) × HasPlaces list (xs ++ p ∷ ys) (vacant_places list)
 waiter-split list p h on =
     let on' : 1 ≤ times p (waiting_places list) = subst (λ (l : List ℕ). 1 ≤ times p l) (places-waiters_at list.slots (waiting_places list)) on in

@@ -12,5 +12,6 @@ for_each_mut-requires-clause-accepts g c κs within = λ i p below is.
 pub returns : goal.returns
 returns g c = all_left (IsSlotOf c.args.pool.now.queue) c.args.slots.now c.for_each_mut.new.s (omega (arith, c.for_each_mut.auto.s)) each
   where
-    each : (i : ℕ) (d : Slot) → i < length c.args.slots.now → IsSlotOf c.args.pool.now.queue (get_or c.for_each_mut.new.s i d)
+    each : (i : ℕ) (d : Slot) → i < length c.args.slots.now
+        → IsSlotOf c.args.pool.now.queue (get_or c.for_each_mut.new.s i d)
     each i d below = let at = (c.for_each_mut.ensures i d below).1 in subst (IsSlotOf c.args.pool.now.queue) at.left at.call

@@ -18,7 +18,8 @@ returns g c =
     (omega (arith, c.for_each_mut.auto.s)) (λ i d below. each i d below)
   where
     each : (i : ℕ) (d : Slot) → i < length c.args.slots.now
-        → IsRun c.args.pool.now.queue (g.G.Gate.meaning c.args.gate.now) c.args.workers c.args.jobs i (get_or c.args.slots.now i d) (get_or c.for_each_mut.new.s i d)
+        → IsRun c.args.pool.now.queue (g.G.Gate.meaning c.args.gate.now) c.args.workers c.args.jobs i
+        (get_or c.args.slots.now i d) (get_or c.for_each_mut.new.s i d)
     each i d below =
         let at = (c.for_each_mut.ensures i d below).1 in
         subst (λ y. IsRun c.args.pool.now.queue (g.G.Gate.meaning c.args.gate.now) c.args.workers c.args.jobs i (get_or c.args.slots.now i d) y) at.left

@@ -22,7 +22,8 @@ same_by_views (x ∷ xs) (y ∷ ys) e =
     let rest = same_by_views xs ys tail in
     λ i. first i ∷ rest i
 
-cases : (b : Bool) (xs ys : List HandleRecord) → MatchBool b (xs ≡ ys) (xs ≢ ys) → MatchBool b (map handle_view xs ≡ map handle_view ys) (map handle_view xs ≢ map handle_view ys)
+cases : (b : Bool) (xs ys : List HandleRecord) → MatchBool b (xs ≡ ys) (xs ≢ ys)
+    → MatchBool b (map handle_view xs ≡ map handle_view ys) (map handle_view xs ≢ map handle_view ys)
 cases true xs ys e = ap (map handle_view) e
 cases false xs ys differ = λ e. differ (same_by_views xs ys e)
 

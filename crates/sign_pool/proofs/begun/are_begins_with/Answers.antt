@@ -22,7 +22,8 @@ returns-in-Like g c =
     decides-same c.is_begin_with.result _ _ same.0 same.1 c.is_begin_with.ensures
 
 -- begins like the one at a place are of a journal that has the place
-like-inside : {K : Type 0} (call : CallId) (journal : List (Entry K)) (begins : Begins) (p : ℕ) → begins ≡ Like p → AreBegins call journal begins → p < length journal
+like-inside : {K : Type 0} (call : CallId) (journal : List (Entry K)) (begins : Begins) (p : ℕ)
+    → begins ≡ Like p → AreBegins call journal begins → p < length journal
 like-inside {K} call journal begins p is h =
     let Same : Entry K → Type 0 = λ x. (head : Head) (expires_in : Option Duration) → AreBeginsWith call journal head expires_in ↔ IsBeginWith head expires_in x.event in
     let P : Begins → Type 0 = λ b. AreBegins call journal b in

@@ -7,7 +7,8 @@ use Rattle.sign_pool.proofs.TicketClaims.{same_ticket, apart-distinct}
 use Rattle.sign_pool.proofs.index.index_list.Goals as goal
 
 -- where there was no other
-at-none : {X : Type 0} (o : Option X) (P : Type 0) (Q : X → Type 0) → ((x : X) → o ≡ Some x → ⊥) → MatchOption o P Q → P
+at-none : {X : Type 0} (o : Option X) (P : Type 0) (Q : X → Type 0) → ((x : X) → o ≡ Some x → ⊥)
+    → MatchOption o P Q → P
 at-none None P Q other h = h
 at-none (Some x) P Q other h = absurd (other x refl)
 

@@ -24,7 +24,8 @@ module _ (submitted : List (Vec PoolJob)) (es : List (Ticket × JobPlace)) (tick
     in-list : place.at < length v.items
     in-list = placed-within submitted place (λ (job : PoolJob). job.ticket ≡ ticket) at v is in-lists
 
-    is-there : (job : PoolJob) → job ≡ get_or v.items place.at job → (job.ticket ≡ ticket) × Contains (joined (lists_of submitted)) job
+    is-there : (job : PoolJob) → job ≡ get_or v.items place.at job
+        → (job.ticket ≡ ticket) × Contains (joined (lists_of submitted)) job
     is-there job read =
         let same : at.job ≡ job = placed-job submitted place (λ (j : PoolJob). j.ticket ≡ ticket) at v is in-lists job read in
         let P : PoolJob → Type 0 = λ j. (j.ticket ≡ ticket) × Contains (joined (lists_of submitted)) j in

@@ -11,7 +11,8 @@ use Rattle.sign_pool.specs.declared.seats.Worker.{Worker}
 use Rattle.sign_pool.proofs.CallNotes.{read-more}
 use Rattle.sign_pool.proofs.notes.blank_notes.Goals as goal
 
-answers-more : {K : Type 0} (workers : List (Worker K)) (i : ℕ) (w : Worker K) → i < length workers → w ≡ get_or workers i w
+answers-more : {K : Type 0} (workers : List (Worker K)) (i : ℕ) (w : Worker K) → i < length workers
+    → w ≡ get_or workers i w
     → answers_of (take (i + 1) workers) ≡ answers_of (take i workers) ++ w.answers.items
 answers-more {K} workers i w below is =
     ap answers_of (read-more workers i w below is)

@@ -32,7 +32,8 @@ loop-place-preserved g c = elim c.match-copied.branch [
       w.note_after.ensures changed.0 c.loop-place.invariant.read in
       let kept : (q : CallId) → IsSome (note_of c.args.notes.now q) → IsSome (now q) = λ q had. kept-more call w.note_after.result old now changed.0 q (c.loop-place.invariant.kept q had) in
       let P : HashMap CallId CallNote _ → Type 0 = λ m. record {
-        read : (q : CallId) → IfSome (note_of m q) (IsNoteOf (take (c.loop-place.place + 1) c.args.journal.now) q);
+        read : (q : CallId)
+            → IfSome (note_of m q) (IsNoteOf (take (c.loop-place.place + 1) c.args.journal.now) q);
         kept : (q : CallId) → IsSome (note_of c.args.notes.now q) → IsSome (note_of m q);
       } in
       subst P (sym w.notes-is) (record { read = read; kept = kept }))
@@ -43,14 +44,16 @@ loop-place-preserved g c = elim c.match-copied.branch [
       let read : (q : CallId) → IfSome (old q) (IsNoteOf (take (c.loop-place.place + 1) c.args.journal.now) q) =
       notes-same c.args.journal.now c.loop-place.place c.index-journal-place.result (omega arith) c.index-journal-place.is call old (sym c.call_of-call.ensures) none c.loop-place.invariant.read in
       let P : HashMap CallId CallNote _ → Type 0 = λ m. record {
-        read : (q : CallId) → IfSome (note_of m q) (IsNoteOf (take (c.loop-place.place + 1) c.args.journal.now) q);
+        read : (q : CallId)
+            → IfSome (note_of m q) (IsNoteOf (take (c.loop-place.place + 1) c.args.journal.now) q);
         kept : (q : CallId) → IsSome (note_of c.args.notes.now q) → IsSome (note_of m q);
       } in
       subst P (sym w.notes-is) (record { read = read; kept = c.loop-place.invariant.kept }))
 ]
 
 -- a blank note, where there is one, says what an empty journal has
-blank-here : (K : Type 0) (call : CallId) (o : Option CallNote) → IfSome o (λ n. n ≡ blank_note) → IfSome o (IsNoteOf {K = K} [] call)
+blank-here : (K : Type 0) (call : CallId) (o : Option CallNote) → IfSome o (λ n. n ≡ blank_note)
+    → IfSome o (IsNoteOf {K = K} [] call)
 blank-here K call None h = tt
 blank-here K call (Some note) h = blank-read call note h
 

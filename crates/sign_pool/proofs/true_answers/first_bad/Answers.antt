@@ -13,15 +13,17 @@ use Rattle.sign_pool.proofs.CallNotes.{read-more}
 use Rattle.sign_pool.proofs.Joined.{all-at, all-of-list, list-read, lists-length}
 use Rattle.sign_pool.proofs.true_answers.first_bad.Goals as goal
 
-all_zip-push : {A B : Type 0} (R : A → B → Type 0) (xs : List A) (ys : List B) (x : A) (y : B) → AllZip R xs ys → R x y → AllZip R (xs ++ x ∷ []) (ys ++ y ∷ [])
+all_zip-push : {A B : Type 0} (R : A → B → Type 0) (xs : List A) (ys : List B) (x : A) (y : B)
+    → AllZip R xs ys → R x y → AllZip R (xs ++ x ∷ []) (ys ++ y ∷ [])
 all_zip-push R [] [] x y h r = (r, tt)
 all_zip-push R [] (b ∷ ys) x y h r = absurd h
 all_zip-push R (a ∷ xs) [] x y h r = absurd h
 all_zip-push R (a ∷ xs) (b ∷ ys) x y h r = (h.0, all_zip-push R xs ys x y h.1 r)
 
 -- one pair more
-good-more : {A B : Type 0} (R : A → B → Type 0) (xs : List A) (ys : List B) (i : ℕ) (x : A) (y : B) → i < length xs → i < length ys → x ≡ get_or xs i x → y ≡ get_or ys i y
-    → AllZip R (take i xs) (take i ys) → R x y → AllZip R (take (i + 1) xs) (take (i + 1) ys)
+good-more : {A B : Type 0} (R : A → B → Type 0) (xs : List A) (ys : List B) (i : ℕ) (x : A) (y : B)
+    → i < length xs → i < length ys → x ≡ get_or xs i x → y ≡ get_or ys i y → AllZip R (take i xs) (take i ys)
+    → R x y → AllZip R (take (i + 1) xs) (take (i + 1) ys)
 good-more R xs ys i x y in_xs in_ys at_x at_y h r =
     let P : List _ → Type 0 = λ l. AllZip R l (take (i + 1) ys) in
     let Q : List _ → Type 0 = λ l. AllZip R (take i xs ++ x ∷ []) l in

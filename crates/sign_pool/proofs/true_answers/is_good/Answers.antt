@@ -40,7 +40,8 @@ returns g c =
     c.is_read_from.ensures
 
 -- a true answer without a receipt is that there was no memory
-ends-unbegun : {K : Type 0} (journal : List (Entry K)) (pass : List (Receipt K)) (answer : Answer) → answer.last ≡ None → IsTrueAnswer journal pass answer → answer.outcome ≡ OutOfMemory
+ends-unbegun : {K : Type 0} (journal : List (Entry K)) (pass : List (Receipt K)) (answer : Answer)
+    → answer.last ≡ None → IsTrueAnswer journal pass answer → answer.outcome ≡ OutOfMemory
 ends-unbegun {K} journal pass answer e t =
     let As : Option ℕ → Type 0 = λ last. MatchOption last (HasNoneOf answer.call journal × IsReadFrom {K = K} None answer.outcome) (λ at. IsSomeAnd (slice_get pass at) (IsReadOff journal answer)) in
     (subst As e t).1

@@ -7,7 +7,8 @@ use Rattle.signctl_driver.proofs.RunFaults.{counts-same}
 use Rattle.signctl_driver.proofs.output.write_all.Goals as goal
 
 -- what stood before the rest, the part that was written, and the new rest are the text
-regrouped : (text done rest new : List ℕ) (n : ℕ) → text ≡ done ++ rest → new ≡ drop n rest → text ≡ (done ++ take n rest) ++ new
+regrouped : (text done rest new : List ℕ) (n : ℕ) → text ≡ done ++ rest → new ≡ drop n rest
+    → text ≡ (done ++ take n rest) ++ new
 regrouped text done rest new n whole back =
     whole ∙ ap (λ (s : List ℕ). done ++ s) (sym (take-append-drop n rest)) ∙ sym (append_assoc done (take n rest) (drop n rest))
     ∙ ap (λ (s : List ℕ). (done ++ take n rest) ++ s) (sym back)

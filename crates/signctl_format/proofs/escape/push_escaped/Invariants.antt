@@ -8,7 +8,8 @@ decreases-loop-rest l = length l.rest
 
 abbrev pub invariant-loop-rest : goal.invariant-loop-rest
 invariant-loop-rest l = record {
-  whole : l.text.items ++ with_escapes (stands l.escaping) l.rest ≡ l.fn.text.items ++ with_escapes (stands l.escaping) l.bytes;
+  whole : l.text.items ++ with_escapes (stands l.escaping) l.rest
+      ≡ l.fn.text.items ++ with_escapes (stands l.escaping) l.bytes;
   capacity : vec_capacity l.fn.text ≤ vec_capacity l.text;
   grows : Grows l.fn.text.items l.text.items;
 }

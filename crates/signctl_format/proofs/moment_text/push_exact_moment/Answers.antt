@@ -19,7 +19,8 @@ use Rattle.signctl_format.proofs.ShortTexts.{on_err, short_first, short_after}
 use Rattle.signctl_format.proofs.moment_text.push_exact_moment.Goals as goal
 use Rattle.signctl_format.proofs.moment_text.push_exact_moment.Goals.{then-nanos-lt0+in_ok-push-2, else-nanos-lt0}
 
-before_1970 : (t : ℤ) → lt_z t (pos 0) ≡ true → moment_word Two t ≡ dash ∷ time_word Two (in_nanos (nat_abs t))
+before_1970 : (t : ℤ) → lt_z t (pos 0) ≡ true
+    → moment_word Two t ≡ dash ∷ time_word Two (in_nanos (nat_abs t))
 before_1970 (pos n) below = absurd (omega (arith, ltb-true n 0 below))
 before_1970 (negsuc n) below = refl
 

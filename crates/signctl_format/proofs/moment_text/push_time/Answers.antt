@@ -11,7 +11,8 @@ use Rattle.signctl_format.proofs.Texts.{grows_then, held_then, room_then}
 use Rattle.signctl_format.proofs.ShortTexts.{on_err, short_first, short_after}
 use Rattle.signctl_format.proofs.moment_text.push_time.Goals as goal
 
-short_seconds : {old new : Vec ℕ} (version : ScriptVersion) (time : Duration) → RunsShort old new (decimal time.secs) → RunsShort old new (time_word version time)
+short_seconds : {old new : Vec ℕ} (version : ScriptVersion) (time : Duration)
+    → RunsShort old new (decimal time.secs) → RunsShort old new (time_word version time)
 short_seconds One time short = short
 short_seconds Two time short = short_first _ short
 

@@ -10,7 +10,9 @@ use Rattle.signctl_format.proofs.Texts.{grows_then, held_then, held_last, room_t
 use Rattle.signctl_format.proofs.ShortTexts.{on_err, short_first, short_after}
 use Rattle.signctl_format.proofs.print.push_reply.Goals as goal
 
-words_after : (why : Why) (wake : Option CallId) → spaced_words (why_words why ++ wake_words wake) ≡ spaced_words (why_words why) ++ spaced_words (wake_words wake)
+words_after : (why : Why) (wake : Option CallId)
+    → spaced_words (why_words why ++ wake_words wake)
+    ≡ spaced_words (why_words why) ++ spaced_words (wake_words wake)
 words_after why wake = flat_map-append (λ (word : List ℕ). space ∷ word) (why_words why) (wake_words wake)
 
 pub returns-in_err-push-in-Ask-clause-err : goal.returns-in_err-push-in-Ask-clause-err

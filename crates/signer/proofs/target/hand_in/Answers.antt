@@ -12,8 +12,9 @@ use Rattle.signer.specs.DeskReplies.{AfterAccepted}
 use Rattle.signer.proofs.target.hand_in.Goals as goal
 
 -- a head that is not taken met out of memory
-out-of-memory : {K D : Type 0} (begun : BegunCall) (desk : DeskState K D) (answered : Reply K) → AfterAccepted begun answered desk
-    → ((head : Head) → answered ≡ reply.Done head → ⊥) → answered ≡ reply.OutOfMemory
+out-of-memory : {K D : Type 0} (begun : BegunCall) (desk : DeskState K D) (answered : Reply K)
+    → AfterAccepted begun answered desk → ((head : Head) → answered ≡ reply.Done head → ⊥)
+    → answered ≡ reply.OutOfMemory
 out-of-memory begun desk reply.OutOfMemory after apart = refl
 out-of-memory begun desk (reply.Done head) after apart = absurd (apart head refl)
 out-of-memory begun desk reply.Pending after apart = absurd after

@@ -4,7 +4,8 @@ use Rattle.sigv4_core.specs.SignedHead.{authorization}
 use Rattle.sigv4_core.proofs.signing.authorization.Goals as goal
 
 in_a_row : (first access scope before_names names before_signature signature : List ℕ)
-    → ((((((first ++ access) ++ 47 ∷ []) ++ scope) ++ before_names) ++ names) ++ before_signature) ++ signature
+    → ((((((first ++ access) ++ 47 ∷ []) ++ scope) ++ before_names) ++ names) ++ before_signature)
+    ++ signature
     ≡ first ++ (access ++ (47 ∷ (scope ++ (before_names ++ (names ++ (before_signature ++ signature))))))
 in_a_row first access scope before_names names before_signature signature = simp append_assoc refl
 

@@ -8,6 +8,11 @@ use Rattle.sigv4_presign.proofs.link_query.unsigned_query.Given as goal
 -- the texts so far are written, and `first` says whether there are none
 abbrev pub invariant-loop-piece : goal.invariant-loop-piece
 invariant-loop-piece l = record {
-  text : l.text.items ≡ joined_texts (codes "&") (texts_where (λ key. not (bytes_eq key signature_name)) (keyed_pieces (take l.piece-index l.pieces)));
-  first : l.first ≡ (length (texts_where (λ key. not (bytes_eq key signature_name)) (keyed_pieces (take l.piece-index l.pieces))) == 0);
+  text : l.text.items
+      ≡ joined_texts (codes "&")
+      (texts_where (λ key. not (bytes_eq key signature_name)) (keyed_pieces (take l.piece-index l.pieces)));
+  first : l.first
+      ≡ (length
+      (texts_where (λ key. not (bytes_eq key signature_name)) (keyed_pieces (take l.piece-index l.pieces)))
+      == 0);
 }

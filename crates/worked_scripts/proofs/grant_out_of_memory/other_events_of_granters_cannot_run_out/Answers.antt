@@ -17,8 +17,10 @@ use Rattle.worked_scripts.specs.GrantOutOfMemory.{CannotRunOutGrant, asking, gra
 use Rattle.worked_scripts.proofs.grant_out_of_memory.other_events_of_granters_cannot_run_out.Goals as goal
 
 -- an event that does not allocate cannot run out of memory
-cannot_run_out : (entries : List (GrantEntry Credential)) (event : GrantEvent Credential) → IsLegalGrant worked_policy (one_cache Now) entries
-    → grant_allocates worked_policy (one_cache Now) (committed_grants entries) event ≡ false → CannotRunOutGrant entries event
+cannot_run_out : (entries : List (GrantEntry Credential)) (event : GrantEvent Credential)
+    → IsLegalGrant worked_policy (one_cache Now) entries
+    → grant_allocates worked_policy (one_cache Now) (committed_grants entries) event ≡ false
+    → CannotRunOutGrant entries event
 cannot_run_out entries event before none =
     (before, λ legal. let some : false ≡ true = sym none ∙ lost_grant_allocates worked_policy (one_cache Now) entries event legal in cc)
 

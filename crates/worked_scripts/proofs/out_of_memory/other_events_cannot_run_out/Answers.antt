@@ -17,8 +17,10 @@ use Rattle.worked_scripts.specs.OutOfMemory.{CannotRunOut, asking, signing}
 use Rattle.worked_scripts.proofs.out_of_memory.other_events_cannot_run_out.Goals as goal
 
 -- an event that does not allocate cannot run out of memory
-cannot_run_out : (entries : List (Entry Credential)) (event : Event Credential) → IsLegal worked_policy (one_cache Now) entries
-    → allocates worked_policy (one_cache Now) (committed_entries entries) event ≡ false → CannotRunOut entries event
+cannot_run_out : (entries : List (Entry Credential)) (event : Event Credential)
+    → IsLegal worked_policy (one_cache Now) entries
+    → allocates worked_policy (one_cache Now) (committed_entries entries) event ≡ false
+    → CannotRunOut entries event
 cannot_run_out entries event before none =
     (before, λ legal. let some : false ≡ true = sym none ∙ lost_allocates worked_policy (one_cache Now) entries event legal in cc)
 

@@ -5,10 +5,14 @@ use Rattle.credentials.proofs.chain_load.ProvideCredentialChainProvideCredential
 -- a load that was started, or ready, is so still
 abbrev pub invariant-loop-load : goal.invariant-loop-load
 invariant-loop-load g l = record {
-  started : ChainStarted (λ p answer. g.P.ProvideCredential.gives p l.ctx answer) (λ p load. g.P.ProvideCredential.started p l.ctx load) l.self l.fn.load
-      → ChainStarted (λ p answer. g.P.ProvideCredential.gives p l.ctx answer) (λ p load. g.P.ProvideCredential.started p l.ctx load) l.self l.load;
-  ready : ChainReady (λ p load. g.P.ProvideCredential.started p l.ctx load) (λ p load. g.P.ProvideCredential.ready p l.ctx load) l.self l.fn.load
-      → ChainReady (λ p load. g.P.ProvideCredential.started p l.ctx load) (λ p load. g.P.ProvideCredential.ready p l.ctx load) l.self l.load;
+  started : ChainStarted (λ p answer. g.P.ProvideCredential.gives p l.ctx answer)
+      (λ p load. g.P.ProvideCredential.started p l.ctx load) l.self l.fn.load
+      → ChainStarted (λ p answer. g.P.ProvideCredential.gives p l.ctx answer)
+      (λ p load. g.P.ProvideCredential.started p l.ctx load) l.self l.load;
+  ready : ChainReady (λ p load. g.P.ProvideCredential.started p l.ctx load)
+      (λ p load. g.P.ProvideCredential.ready p l.ctx load) l.self l.fn.load
+      → ChainReady (λ p load. g.P.ProvideCredential.started p l.ctx load)
+      (λ p load. g.P.ProvideCredential.ready p l.ctx load) l.self l.load;
 }
 
 -- the providers that are still to be asked

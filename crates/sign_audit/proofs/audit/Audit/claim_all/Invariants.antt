@@ -10,6 +10,11 @@ use Rattle.sign_audit.proofs.audit.Audit.claim_all.Given as goal
 abbrev pub invariant-loop-place : goal.invariant-loop-place
 invariant-loop-place g l = record {
   setup : setup_of l.self.desk ≡ setup_of l.initial.self.desk;
-  accepts : (entries : List (Entry g.row.K.Denot)) → AuditRepresents (policy_of g.K.SigningCredential.valid g.K.SigningCredential.valid_at g.D.DeadlineRule.deadline) l.initial.self entries
-      → AcceptsAll (policy_of g.K.SigningCredential.valid g.K.SigningCredential.valid_at g.D.DeadlineRule.deadline) l.initial.self entries (take l.place l.claims) l.self;
+  accepts : (entries : List (Entry g.row.K.Denot))
+      → AuditRepresents
+      (policy_of g.K.SigningCredential.valid g.K.SigningCredential.valid_at g.D.DeadlineRule.deadline)
+      l.initial.self entries
+      → AcceptsAll
+      (policy_of g.K.SigningCredential.valid g.K.SigningCredential.valid_at g.D.DeadlineRule.deadline)
+      l.initial.self entries (take l.place l.claims) l.self;
 }

@@ -7,7 +7,8 @@ use Rattle.sign_base.proofs.line_buffer.LineBuffer.fill.Given as goal
 -- bytes were taken by need, with no fault; nothing was read where none was needed
 abbrev pub invariant-loop-self : goal.invariant-loop-self
 invariant-loop-self g l = record {
-  taken : (bytes : List ℕ) × Consumes (g.S.Source.left l.fn.source) (g.S.Source.left l.source) bytes × TakenByNeed l.fn.self.input bytes × (l.self.input ≡ with_taken l.fn.self.input bytes);
+  taken : (bytes : List ℕ) × Consumes (g.S.Source.left l.fn.source) (g.S.Source.left l.source) bytes
+      × TakenByNeed l.fn.self.input bytes × (l.self.input ≡ with_taken l.fn.self.input bytes);
   faults : g.S.Source.faults l.source ≡ g.S.Source.faults l.fn.source;
   still : (NeedsRead l.fn.self.input → ⊥) → l.source ≡ l.fn.source;
 }

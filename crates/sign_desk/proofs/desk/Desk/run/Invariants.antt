@@ -12,8 +12,15 @@ abbrev pub invariant-loop-event : goal.invariant-loop-event
 invariant-loop-event g l = record {
   count : length l.replies.items ≡ l.event-index;
   room : length l.events ≤ vec_capacity l.replies;
-  steps : AreSteps (policy_of g.K.SigningCredential.valid g.K.SigningCredential.valid_at g.D.DeadlineRule.deadline) (take l.event-index l.events) l.replies.items l.initial.self l.self;
+  steps : AreSteps
+      (policy_of g.K.SigningCredential.valid g.K.SigningCredential.valid_at g.D.DeadlineRule.deadline)
+      (take l.event-index l.events) l.replies.items l.initial.self l.self;
   setup : setup_of l.self ≡ setup_of l.initial.self;
-  represents : (entries : List (Entry g.row.K.Denot)) → Represents (policy_of g.K.SigningCredential.valid g.K.SigningCredential.valid_at g.D.DeadlineRule.deadline) l.initial.self entries
-      → Represents (policy_of g.K.SigningCredential.valid g.K.SigningCredential.valid_at g.D.DeadlineRule.deadline) l.self (entries ++ paired_entries (take l.event-index l.events) l.replies.items);
+  represents : (entries : List (Entry g.row.K.Denot))
+      → Represents
+      (policy_of g.K.SigningCredential.valid g.K.SigningCredential.valid_at g.D.DeadlineRule.deadline)
+      l.initial.self entries
+      → Represents
+      (policy_of g.K.SigningCredential.valid g.K.SigningCredential.valid_at g.D.DeadlineRule.deadline) l.self
+      (entries ++ paired_entries (take l.event-index l.events) l.replies.items);
 }

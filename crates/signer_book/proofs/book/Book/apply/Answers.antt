@@ -42,7 +42,8 @@ returns-then-is_out_of_memory-clause-represents g c =
     let stays : c.step-reply.new.self ≡ c.self.inside.desk = subst (λ (r : Reply g.row.K.Denot). UnchangedBy r c.self.inside.desk c.step-reply.new.self) is c.step-reply.ensures.step.unchanged in
     rw (stays, c.take_entry_room.ensures.items) c.self.invariant.represents
 
-pub returns-then-is_out_of_memory-clause-book_unchanged : goal.returns-then-is_out_of_memory-clause-book_unchanged
+pub returns-then-is_out_of_memory-clause-book_unchanged :
+    goal.returns-then-is_out_of_memory-clause-book_unchanged
 returns-then-is_out_of_memory-clause-book_unchanged g c =
     let policy = policy_of g.K.SigningCredential.valid g.K.SigningCredential.valid_at g.D.DeadlineRule.deadline in
     let is : c.step-reply.result ≡ OutOfMemory = out_of_memory-is c.step-reply.result (sym c.is_out_of_memory.ensures ∙ c.if-is_out_of_memory.true) in

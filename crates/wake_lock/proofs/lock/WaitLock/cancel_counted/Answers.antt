@@ -16,7 +16,8 @@ record Leaves (call : CallId) (place : ℕ) (old new : List (CallId × ℕ)) : T
   count : length old ≡ length new + 1
   places : (q : CallId) → lookup (same_call q) new ≡ cond (same_call call q) None (lookup (same_call q) old)
 
-leaves : (call : CallId) (place : ℕ) (old new : List (CallId × ℕ)) (next : CallId) → IsOnce (calls_of old) → lookup (same_call call) old ≡ Some place → TakesOut old place next new → Leaves call place old new
+leaves : (call : CallId) (place : ℕ) (old new : List (CallId × ℕ)) (next : CallId) → IsOnce (calls_of old)
+    → lookup (same_call call) old ≡ Some place → TakesOut old place next new → Leaves call place old new
 leaves call place old new next once is out =
     let split = place-split call old place is in
     let left : new ≡ split.0 ++ split.1 = (out split.0 (call, place) split.1 split.2 refl).1 in
@@ -54,11 +55,14 @@ invariant_of-self-in-Some g c =
     }
 
 -- a call without a place does not wait
-absent-of : (call : CallId) (waiters : List (CallId × ℕ)) (now : Lock) → calls_of waiters ≡ now.waiters → lookup (same_call call) waiters ≡ None → is_among call now.waiters ≡ false
+absent-of : (call : CallId) (waiters : List (CallId × ℕ)) (now : Lock) → calls_of waiters ≡ now.waiters
+    → lookup (same_call call) waiters ≡ None → is_among call now.waiters ≡ false
 absent-of call waiters now view none = ap (λ (l : List CallId). is_among call l) (sym view) ∙ place-among call waiters None none
 
 -- a call with a place waits
-present-of : (call : CallId) (waiters : List (CallId × ℕ)) (now : Lock) (place : ℕ) → calls_of waiters ≡ now.waiters → lookup (same_call call) waiters ≡ Some place → is_among call now.waiters ≡ true
+present-of : (call : CallId) (waiters : List (CallId × ℕ)) (now : Lock) (place : ℕ)
+    → calls_of waiters ≡ now.waiters → lookup (same_call call) waiters ≡ Some place
+    → is_among call now.waiters ≡ true
 present-of call waiters now place view found = ap (λ (l : List CallId). is_among call l) (sym view) ∙ place-among call waiters (Some place) found
 
 -- the answers of a call that stood in the lock

@@ -11,7 +11,8 @@ use Rattle.wake_lock.proofs.lock.WaitLock.release_counted.Goals as goal
 pub record IsFirst (old : List (CallId × ℕ)) (place : ℕ) (next : CallId) (new : List (CallId × ℕ)) : Type 0 where
   pub was : old ≡ (next, place) ∷ new
 
-first-is : (old : List (CallId × ℕ)) (place : ℕ) (next : CallId) (new : List (CallId × ℕ)) → first_place old ≡ Some place → TakesOut old place next new → IsFirst old place next new
+first-is : (old : List (CallId × ℕ)) (place : ℕ) (next : CallId) (new : List (CallId × ℕ))
+    → first_place old ≡ Some place → TakesOut old place next new → IsFirst old place next new
 first-is old place next new first out =
     let w = first-waiter old place first in
     let left = out [] w.0 w.1 w.2 w.3 in

@@ -13,14 +13,17 @@ use Rattle.wake_lock.proofs.Taken.{list_taken, list_taken-is, waiter, taken, wai
 use Rattle.wake_lock.proofs.wait_list.WaitList.take.Goals as goal
 
 -- where the waiter stands
-split-of : (list : Inside) (now : Waiting) (place : ℕ) → IsWaitList list → waiters_at list.slots (waiting_places list) ≡ now.waiters → 0 < times place (places_of now.waiters)
+split-of : (list : Inside) (now : Waiting) (place : ℕ) → IsWaitList list
+    → waiters_at list.slots (waiting_places list) ≡ now.waiters → 0 < times place (places_of now.waiters)
     → (xs : List ℕ) × (ys : List ℕ) × HasPlaces list (xs ++ place ∷ ys) (vacant_places list)
 split-of list now place h view on =
     waiter-split list place h (subst (λ (l : List (CallId × ℕ)). 1 ≤ times place (places_of l)) (sym view) (omega arith))
 
 -- the neighbours of a waiter stand in slots
-neighbours-below : (list : Inside) (place : ℕ) (xs ys vacant : List ℕ) → HasPlaces list (xs ++ place ∷ ys) vacant
-    → let s = slot_at list.slots place in ((t : ℕ) → s.before ≡ Some t → t < length list.slots) × ((t : ℕ) → s.after ≡ Some t → t < length list.slots)
+neighbours-below : (list : Inside) (place : ℕ) (xs ys vacant : List ℕ)
+    → HasPlaces list (xs ++ place ∷ ys) vacant
+    → let s = slot_at list.slots place in ((t : ℕ) → s.before ≡ Some t → t < length list.slots)
+    × ((t : ℕ) → s.after ≡ Some t → t < length list.slots)
 neighbours-below list place xs ys vacant h =
     let names = neighbours-on list.slots list.head list.tail xs place ys h.linked in (
       (λ t is. place-below list (xs ++ place ∷ ys) vacant h t (omega (arith, times-append t xs (place ∷ ys), names.before t is))),
