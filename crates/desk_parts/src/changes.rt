@@ -78,6 +78,8 @@ impl<K: SigningCredential, D: DeadlineRule<Credential = K>, Q: Drop, H: Drop> Ta
     }
 
     /// Keeps a credential in a cache.
+    ///
+    /// Requires a cache that is there.
     pub fn store(&mut self, cache: u32, credential: K)
         requires { cache < length self.old.caches }
         ensures { self.new ≡ record self.old { caches = slice_set self.old.caches cache (Some credential) } }

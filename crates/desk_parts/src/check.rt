@@ -13,6 +13,8 @@ impl<K: SigningCredential, D: DeadlineRule<Credential = K>, Q: Drop, H: Drop> Ta
     ghost use Rattle.desk_parts.specs.IsCheck.{IsCheck};
 
     /// How many providers a cache asks at most.
+    ///
+    /// Requires a cache that is there.
     pub fn provider_count(&self, cache: u32) -> u32
         requires { cache < length self.now.loaders }
         ensures { IfSome (slice_get self.now.loaders cache) (λ loader. result ≡ provider_count loader) }
@@ -39,6 +41,8 @@ impl<K: SigningCredential, D: DeadlineRule<Credential = K>, Q: Drop, H: Drop> Ta
     }
 
     /// What a credential that was found is good for. Whether it is fresh is not asked.
+    ///
+    /// Requires a rule that is there.
     pub fn check(&self, view: LiveCallView, now: Timestamp, found: &K) -> Result<(), Why>
         requires { view.rule < length self.now.rules }
         ensures { IsCheck (desk_check (policy_of K.valid K.valid_at D.deadline) self.now now view found.now)

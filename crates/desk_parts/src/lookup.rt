@@ -27,6 +27,8 @@ impl<K: SigningCredential, D: DeadlineRule<Credential = K>, Q: Drop, H: Drop> Ta
     ghost use Rattle.desk_parts.specs.declared.lookup.Lookup.TheVariants.{OutOfMemory};
 
     /// What its cache holds for the call now.
+    ///
+    /// Requires a cache and a rule that are there.
     pub fn look(&self, view: LiveCallView, now: Timestamp) -> Lookup<K>
         requires loader { view.cache < length self.now.loaders }
         requires cache { view.cache < length self.now.caches }

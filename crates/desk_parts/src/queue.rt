@@ -41,6 +41,8 @@ impl CallQueue {
     }
 
     /// Takes the room of a call that begins, or changes nothing.
+    ///
+    /// Requires fewer than 18,446,744,073,709,551,615 rooms that are taken.
     pub fn take_room(&mut self) -> Result<(), NoMemory<()>>
         requires { self.old.unpolled + 1 < 2 ^ 64 }
         ensures ok { OnOk result (self.new ≡ with_room self.old) }
@@ -79,6 +81,8 @@ impl CallQueue {
     }
 
     /// A first poll by which the call takes its place, in the room that was taken for it.
+    ///
+    /// Requires a room that was taken, and a call that is not in line.
     pub fn enter(&mut self, call: CallId)
         requires room { 0 < self.old.unpolled }
         requires outside { is_among call self.old.line ≡ false }
@@ -89,6 +93,8 @@ impl CallQueue {
     }
 
     /// A first poll that ends its call's hold at once, or the end of a call that was never polled.
+    ///
+    /// Requires a room that was taken.
     pub fn return_room(&mut self)
         requires { 0 < self.old.unpolled }
         ensures { self.new ≡ without_room self.old }

@@ -49,6 +49,8 @@ impl<K: SigningCredential, D: DeadlineRule<Credential = K>, H: Drop> Tables<K, D
     }
 
     /// Whether the lock of a cache is held.
+    ///
+    /// Requires a cache that is there.
     pub fn is_held(&self, cache: u32) -> bool
         requires { cache < length self.now.queues }
         ensures { result ≡ is_held_line (line_at cache self.now.queues) }
@@ -57,6 +59,8 @@ impl<K: SigningCredential, D: DeadlineRule<Credential = K>, H: Drop> Tables<K, D
     }
 
     /// Whether the call holds the lock of a cache.
+    ///
+    /// Requires a cache that is there.
     pub fn is_held_by(&self, cache: u32, call: CallId) -> bool
         requires { cache < length self.now.queues }
         ensures { result ≡ is_first call (line_at cache self.now.queues) }
@@ -65,6 +69,8 @@ impl<K: SigningCredential, D: DeadlineRule<Credential = K>, H: Drop> Tables<K, D
     }
 
     /// The call that gets its turn where this call leaves the line of a cache.
+    ///
+    /// Requires a cache that is there.
     pub fn next_after(&self, cache: u32, call: CallId) -> Option<CallId>
         requires { cache < length self.now.queues }
         ensures { result ≡ next_holder call (line_at cache self.now.queues) }
@@ -73,6 +79,8 @@ impl<K: SigningCredential, D: DeadlineRule<Credential = K>, H: Drop> Tables<K, D
     }
 
     /// Puts a call that is first polled into the line of its cache.
+    ///
+    /// Requires a cache that is there, with a room that was taken, and a call that is not in its line.
     pub fn enter(&mut self, cache: u32, call: CallId)
         requires there { cache < length self.old.queues }
         requires may { IfSome (slice_get self.old.queues cache) (MayEnter call) }
@@ -82,6 +90,8 @@ impl<K: SigningCredential, D: DeadlineRule<Credential = K>, H: Drop> Tables<K, D
     }
 
     /// Gives back the room of a call that takes no place in the line of its cache.
+    ///
+    /// Requires a cache that is there, with a room that was taken.
     pub fn return_room(&mut self, cache: u32)
         requires there { cache < length self.old.queues }
         requires counted { IfSome (slice_get self.old.queues cache) (λ queue. 0 < queue.unpolled) }
@@ -91,6 +101,8 @@ impl<K: SigningCredential, D: DeadlineRule<Credential = K>, H: Drop> Tables<K, D
     }
 
     /// Takes a call out of the line of its cache, and names the call that gets its turn by this.
+    ///
+    /// Requires a cache that is there.
     pub fn leave(&mut self, cache: u32, call: CallId) -> Option<CallId>
         requires { cache < length self.old.queues }
         ensures next_holder { result ≡ next_holder call (line_at cache self.old.queues) }

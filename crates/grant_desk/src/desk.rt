@@ -63,6 +63,8 @@ impl<K: SigningCredential, D: DeadlineRule<Credential = K>> GrantDesk<K, D> {
     /// Adds an empty cache with this loader, and returns its number.
     ///
     /// Errors: `Late` where a call was begun, `OutOfMemory`. An error changes nothing.
+    ///
+    /// Requires fewer than 4,294,967,295 caches.
     pub fn add_cache(&mut self, loader: Loader) -> Result<u32, AddError>
         requires { length self.old.loaders < 4294967295 }
         ensures answer { AddAnswer (late_refusal self.old) (length self.old.loaders) result }
@@ -82,6 +84,8 @@ impl<K: SigningCredential, D: DeadlineRule<Credential = K>> GrantDesk<K, D> {
     ///
     /// Errors: `Late` where a call was begun, `OutOfMemory`. An error changes nothing, and hands the
     /// rule back.
+    ///
+    /// Requires fewer than 4,294,967,295 rules.
     pub fn add_rule(&mut self, rule: D) -> Result<u32, AddRefused<D>>
         requires { length self.old.rules < 4294967295 }
         ensures answer { AddAnswerBack (late_refusal self.old) (length self.old.rules) result }
@@ -109,6 +113,8 @@ impl<K: SigningCredential, D: DeadlineRule<Credential = K>> GrantDesk<K, D> {
     ///
     /// Errors, the first that holds: `Late` where a call was begun, `NoCache` and `NoRule` where the
     /// desk has no such number, `OutOfMemory`. An error changes nothing.
+    ///
+    /// Requires fewer than 4,294,967,295 handles.
     pub fn add_handle(&mut self, cache: u32, rule: u32) -> Result<u32, AddError>
         requires { length self.old.handles < 4294967295 }
         ensures answer { AddAnswer (handle_refusal self.old cache rule) (length self.old.handles) result }
@@ -133,6 +139,8 @@ impl<K: SigningCredential, D: DeadlineRule<Credential = K>> GrantDesk<K, D> {
     /// Adds a rule, and a handle on this cache with it, and returns the handle's number.
     ///
     /// Errors: `Late`, `OutOfMemory`. An error changes nothing, and hands the rule back.
+    ///
+    /// Requires a cache that is there, and fewer than 4,294,967,295 rules and handles.
     pub fn add_handle_with_rule(&mut self, cache: u32, rule: D) -> Result<u32, AddRefused<D>>
         requires cache { cache < length self.old.loaders }
         requires rules { length self.old.rules < 4294967295 }
@@ -163,6 +171,8 @@ impl<K: SigningCredential, D: DeadlineRule<Credential = K>> GrantDesk<K, D> {
     /// number.
     ///
     /// Errors: `Late`, `OutOfMemory`. An error changes nothing.
+    ///
+    /// Requires a rule that is there, and fewer than 4,294,967,295 caches and handles.
     pub fn add_handle_with_cache(&mut self, loader: Loader, rule: u32) -> Result<u32, AddError>
         requires rule { rule < length self.old.rules }
         requires caches { length self.old.loaders < 4294967295 }

@@ -93,6 +93,8 @@ where
     /// A granter with handle 0: an empty cache with these providers, this context and this granting service.
     ///
     /// Where there is no memory, all three come back.
+    ///
+    /// Requires a chain of at most 4,294,967,295 providers.
     pub fn new(
         alloc: Global,
         ctx: P::Ctx,
@@ -144,6 +146,8 @@ where
     ///
     /// Errors: `Late` where a call was begun, `OutOfMemory`. An error changes nothing, and hands the
     /// context back.
+    ///
+    /// Requires a handle that is there, and fewer than 4,294,967,295 handles.
     pub fn with_context(&mut self, handle: u32, ctx: P::Ctx) -> Result<u32, AddRefused<P::Ctx>>
         requires handle { handle < length self.old.desk.handles }
         requires room { length self.old.desk.handles < 4294967295 }
@@ -184,6 +188,9 @@ where
     ///
     /// Errors: `Late` where a call was begun, `OutOfMemory`. An error changes nothing, and hands the
     /// providers back.
+    ///
+    /// Requires a handle that is there, fewer than 4,294,967,295 handles, and a chain of at most as
+    /// many providers.
     pub fn with_credential_provider(
         &mut self,
         handle: u32,
@@ -227,6 +234,8 @@ where
     ///
     /// Errors: `Late` where a call was begun, `OutOfMemory`. An error changes nothing, and hands the
     /// service back.
+    ///
+    /// Requires a handle that is there, and fewer than 4,294,967,295 handles.
     pub fn with_credential_granter(&mut self, handle: u32, granter: G) -> Result<u32, AddRefused<G>>
         requires handle { handle < length self.old.desk.handles }
         requires room { length self.old.desk.handles < 4294967295 }
@@ -258,6 +267,8 @@ where
     ///
     /// `RequestInvalid` where 18,446,744,073,709,551,615 calls were begun. `OutOfMemory` where an
     /// allocation failed. An error begins nothing.
+    ///
+    /// Requires a handle that is there.
     pub fn grant(&mut self, handle: u32, expires_in: Option<Duration>) -> Result<Grant<P, G>, Error>
         requires { handle < length self.old.desk.handles }
         ensures ok { IfOk result
@@ -290,6 +301,8 @@ where
 
     /// Goes on with a call, as far as its objects answer now. `now` is the moment of all that happens
     /// in this poll.
+    ///
+    /// Requires a state that this granter made.
     pub fn poll(&mut self, grant: Grant<P, G>, now: Timestamp) -> GrantPoll<P, G>
         requires { IsGrantIssuedBy (meanings_of P.ProvideCredential G.GrantCredential.own) self.old grant }
         ensures poll { (o : Objects P G P.Ctx) → objects_of self.old grant.begun.id.handle ≡ Some o
@@ -317,6 +330,8 @@ where
     }
 
     /// Gives a call up. It takes no memory.
+    ///
+    /// Requires a state that this granter made.
     pub fn cancel(&mut self, grant: Grant<P, G>)
         requires { IsGrantIssuedBy (meanings_of P.ProvideCredential G.GrantCredential.own) self.old grant }
         ensures step { IsGrantStep (policy_of P.Credential.valid P.Credential.valid_at G.deadline)

@@ -11,6 +11,8 @@ use wake_lock::CallId;
 /// The lists of so many jobs, one for each worker: job after job goes to the next worker.
 ///
 /// Errors: an allocation failed.
+///
+/// Requires a worker.
 pub fn pool_work(alloc: Global, workers: u32, jobs: u64) -> Result<Vec<Vec<Job>>, NoMemory<()>>
     requires { 0 < workers }
     ensures { IfOk result (λ work. map (λ l. l.items) work.items ≡ pool_work workers jobs) }

@@ -15,6 +15,8 @@ use std::thread::Threads;
 /// wait for its threads.
 ///
 /// An allocation that failed in a thread or in a job is an error, whatever finishing the pool would give.
+///
+/// Requires a worker, and a capacity of 1 to 65,536.
 pub fn serve_queue<G: Gate<ScriptCredential> + Sync, R: Threads + Wait + Sync>(
     rt: &R,
     alloc: Global,

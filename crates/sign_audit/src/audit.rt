@@ -53,6 +53,8 @@ impl<K: SigningCredential, D: DeadlineRule<Credential = K>> Audit<K, D> {
     /// The auditor of a fresh desk. It represents no claims.
     ///
     /// Errors: out of memory, with the desk as it was.
+    ///
+    /// Requires a desk to which nothing has happened.
     pub fn new(desk: Desk<K, D>) -> Result<Audit<K, D>, NoMemory<Desk<K, D>>>
         requires { Represents (policy_of K.valid K.valid_at D.deadline) desk [] }
         ensures desk { IfOk result (λ audit. audit.desk ≡ desk) }
@@ -81,6 +83,8 @@ impl<K: SigningCredential, D: DeadlineRule<Credential = K>> Audit<K, D> {
     /// happened. Else `Due`, and nothing changes.
     ///
     /// `OutOfMemory` is never the answer to a missed claim, and changes nothing.
+    ///
+    /// Requires a test that may be called at any reply.
     pub fn claim_by<F: Fn(&Reply<K>) -> bool>(
         &mut self,
         event: &Event<K>,
@@ -132,6 +136,8 @@ impl<K: SigningCredential, D: DeadlineRule<Credential = K>> Audit<K, D> {
 
     /// The counts of the claims that were accepted, of calls of this cache. Each stands
     /// still at the end of its type.
+    ///
+    /// Requires a cache that is there.
     pub fn counts(&self, cache: u32) -> Counts
         requires { cache < length self.now.desk.loaders }
         ensures kept { Some result ≡ slice_get self.now.counts cache }

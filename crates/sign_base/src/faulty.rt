@@ -75,6 +75,8 @@ impl Model for FaultySource {
 impl FaultySource {
     /// A source of these bytes that gives `piece` of them to a read, or as many as are left and fit,
     /// and fails exactly at the reads whose numbers, from 0, stand in `fails`.
+    ///
+    /// Requires pieces of at least one byte.
     pub fn new(bytes: Vec<u8>, piece: usize, fails: Vec<u64>) -> FaultySource
         requires { 0 < piece }
         ensures { result ≡ record { left = bytes.items; piece = piece; plan = record { fails = fails.items; calls = 0; faults = 0 } } }
@@ -135,6 +137,8 @@ impl FaultySink {
     /// An empty sink that takes at most `piece` bytes of a write, and fails exactly where no room is
     /// left and at the writes whose numbers, from 0, stand in `fails`. Its room is taken now; where
     /// there is no memory for it, `fails` comes back.
+    ///
+    /// Requires pieces of at least one byte.
     pub fn new(
         alloc: Global,
         room: usize,

@@ -29,6 +29,8 @@ where
     /// Errors, the first that holds: `Early`, before anything is done, where seats are missing or an
     /// allocation failed, with everything handed back; `Close`, where the signer is not closed; `Uncleared`,
     /// with the first cause for which the books do not balance.
+    ///
+    /// Requires seats of this pool.
     pub fn finish<R: Wait>(
         self,
         rt: &R,

@@ -47,6 +47,9 @@ impl<K: SigningCredential, D: DeadlineRule<Credential = K>> Pool<K, D> {
     /// A pool without seats, whose queue holds so many jobs.
     ///
     /// Errors: an allocation failed. Book and plan are handed back.
+    ///
+    /// Requires an empty journal, a plan to which nothing has happened, with the setup of the book's
+    /// desk, and a capacity of 1 to 65,536.
     pub fn new(
         book: Book<K, D>,
         plan: Desk<K, D>,

@@ -34,6 +34,8 @@ impl<K: SigningCredential, D: DeadlineRule<Credential = K>> Pool<K, D> {
     /// another thread's step at the queue.
     ///
     /// Errors: `OutOfMemory`, `Full`. Both leave the seat as it was.
+    ///
+    /// Requires a seat of this pool.
     pub fn submit<R: Wait>(
         &self,
         rt: &R,

@@ -31,6 +31,8 @@ impl<K: SigningCredential, D: DeadlineRule<Credential = K>> Pool<K, D> {
     /// on. It may wait for another thread.
     ///
     /// `Empty` and `OutOfMemory` add no answer and no receipt.
+    ///
+    /// Requires a seat of this pool.
     pub fn work<G: Gate<K>, R: Wait>(
         &self,
         rt: &R,

@@ -49,6 +49,8 @@ impl SigningRequest {
     }
 
     /// The pairs whose key passes the test, in order.
+    ///
+    /// Requires a test that may be called at any key.
     pub fn query_to_vec_with_filter<F: Fn(&str) -> bool + Drop>(
         &self,
         filter: F,

@@ -33,6 +33,8 @@ impl<C: LineCommand> Service<C> {
     ghost use Rattle.signctl_driver.specs.Serving.{HasServed};
 
     /// A command before the first line.
+    ///
+    /// Requires a command that has read no line.
     pub fn new(alloc: Global, command: C) -> Service<C>
         requires { C.represents command [] }
         ensures served { HasServed C.represents result [] }

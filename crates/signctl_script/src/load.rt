@@ -18,6 +18,8 @@ use signctl_driver::output::write_all;
 use std::alloc::Global;
 
 /// Runs so many calls, and writes the line of counts.
+///
+/// Requires at most 100,000 calls.
 pub fn run_load<D: Sink>(alloc: Global, calls: u64, sink: &mut D) -> Status
     requires { calls ≤ most_calls }
     ensures added { (added : List ℕ) × Appends (D.holds sink.old) (D.holds sink.new) added

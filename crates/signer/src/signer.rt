@@ -96,6 +96,8 @@ where
     /// A signer with handle 0: an empty cache with these providers, this context and this service.
     ///
     /// Where there is no memory, all three come back.
+    ///
+    /// Requires a chain of at most 4,294,967,295 providers.
     pub fn new(
         alloc: Global,
         ctx: P::Ctx,
@@ -153,6 +155,8 @@ where
     ///
     /// Errors: `Late` where a call was begun, `OutOfMemory`. An error changes nothing, and hands the
     /// context back.
+    ///
+    /// Requires a handle that is there, and fewer than 4,294,967,295 handles.
     pub fn with_context(&mut self, handle: u32, ctx: P::Ctx) -> Result<u32, AddRefused<P::Ctx>>
         requires handle { handle < length self.old.desk.handles }
         requires room { length self.old.desk.handles < 4294967295 }
@@ -187,6 +191,8 @@ where
     ///
     /// Errors: `Late` where a call was begun, `OutOfMemory`. An error changes nothing, and hands the
     /// service back.
+    ///
+    /// Requires a handle that is there, and fewer than 4,294,967,295 handles.
     pub fn with_request_signer(&mut self, handle: u32, builder: S) -> Result<u32, AddRefused<S>>
         requires handle { handle < length self.old.desk.handles }
         requires room { length self.old.desk.handles < 4294967295 }
@@ -218,6 +224,9 @@ where
     ///
     /// Errors: `Late` where a call was begun, `OutOfMemory`. An error changes nothing, and hands the
     /// providers back.
+    ///
+    /// Requires a handle that is there, fewer than 4,294,967,295 handles, and a chain of at most as
+    /// many providers.
     pub fn with_credential_provider(
         &mut self,
         handle: u32,
@@ -258,6 +267,8 @@ where
     ///
     /// `RequestInvalid` where the version of the request is unknown, or where 18,446,744,073,709,551,615
     /// calls were begun. `OutOfMemory` where an allocation failed. An error begins nothing.
+    ///
+    /// Requires a handle that is there.
     pub fn sign(
         &mut self,
         handle: u32,
@@ -298,6 +309,8 @@ where
     /// Goes on with a call, as far as its objects answer now. `now` is the moment of all that happens
     /// in this poll. On `Done` the request has the signed URI and headers; on every other answer it is
     /// as it was.
+    ///
+    /// Requires a state that this signer made.
     pub fn poll(&mut self, sign: Sign<P, S>, req: &mut Parts, now: Timestamp) -> SignPoll<P, S>
         requires { IsIssuedBy (meanings_of P.ProvideCredential S.SignRequest.own) self.old sign }
         ensures poll { (o : Objects P S P.Ctx) → objects_of self.old sign.begun.id.handle ≡ Some o
@@ -326,6 +339,8 @@ where
     }
 
     /// Gives a call up, and names the call that has its turn by this. It takes no memory.
+    ///
+    /// Requires a state that this signer made.
     pub fn cancel(&mut self, sign: Sign<P, S>) -> Option<CallId>
         requires { IsIssuedBy (meanings_of P.ProvideCredential S.SignRequest.own) self.old sign }
         ensures step { IsStep (policy_of P.Credential.valid P.Credential.valid_at S.deadline)

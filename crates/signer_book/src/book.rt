@@ -52,6 +52,8 @@ impl<K: SigningCredential, D: DeadlineRule<Credential = K>> Model for Book<K, D>
 
 impl<K: SigningCredential, D: DeadlineRule<Credential = K>> Book<K, D> {
     /// The book of a fresh desk, with an empty journal.
+    ///
+    /// Requires a desk to which nothing has happened.
     pub fn new(desk: Desk<K, D>) -> Book<K, D>
         requires { Represents (policy_of K.valid K.valid_at D.deadline) desk [] }
         ensures { result ≡ record { desk = desk; journal = [] } }
@@ -152,6 +154,8 @@ where
     /// and the receipts. `plan` is a desk with the setup that the book's desk should have.
     ///
     /// Errors: the first of `CloseError` that holds, with everything handed back as it was.
+    ///
+    /// Requires fewer than 4,294,967,295 passes.
     pub fn close(
         mut self,
         plan: Desk<K, D>,

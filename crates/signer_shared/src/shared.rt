@@ -34,6 +34,8 @@ impl<K: SigningCredential, D: DeadlineRule<Credential = K>> SharedSigner<K, D> {
     ghost use Rattle.sign_desk.specs.DeskState.{Represents};
 
     /// A book with its plan, to be shared.
+    ///
+    /// Requires a plan to which nothing has happened, with the setup of the book's desk.
     pub fn new(book: Book<K, D>, plan: Desk<K, D>) -> SharedSigner<K, D>
         requires fresh { Represents (policy_of K.valid K.valid_at D.deadline) plan [] }
         requires setup { setup_of plan ≡ setup_of book.desk }
@@ -91,6 +93,8 @@ where
     /// for nobody, takes no memory, and a time linear in the journal and the receipts.
     ///
     /// Errors: the first of `CloseError` that holds, with book, plan and passes handed back.
+    ///
+    /// Requires fewer than 4,294,967,295 passes.
     pub fn close(self, passes: Vec<Pass<K>>) -> Result<Settled<K, D>, CloseRefused<K, D>>
         requires { length passes.items < 4294967295 }
         ensures settled { IfOk result (λ s. IsSettled s.journal.items s.passes.items) }

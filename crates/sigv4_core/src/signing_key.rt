@@ -31,6 +31,8 @@ impl Model for SigningKey {
 
 impl SigningKey {
     /// The key for the day of this moment.
+    ///
+    /// Requires a year of four digits.
     pub fn derive(
         alloc: Global,
         credential: &SigCredential,
@@ -50,6 +52,8 @@ impl SigningKey {
     }
 
     /// Whether the key is for the day of this moment.
+    ///
+    /// Requires a year of four digits.
     pub fn is_for(&self, alloc: Global, now: Timestamp) -> Result<bool, NoMemory<()>>
         requires { IsFourDigitYear now }
         ensures { IfOk result (λ same. same ≡ bytes_eq self.now.date (date_of now)) }
@@ -59,6 +63,8 @@ impl SigningKey {
     }
 
     /// The signature of a canonical request under this key, in lower-case hexadecimal.
+    ///
+    /// Requires a year of four digits, and the day that the key is for.
     pub fn signature(
         &self,
         alloc: Global,

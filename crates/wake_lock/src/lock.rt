@@ -104,6 +104,8 @@ impl WaitLock {
     }
 
     /// Gives the lock to a call that comes, or puts it behind all waiters. It takes no memory.
+    ///
+    /// Requires room, and a call that is not in line.
     pub fn enter(&mut self, id: CallId) -> Entered
         requires room { 0 < self.old.spare }
         requires outside { is_in_line id self.old ≡ false }
@@ -121,6 +123,8 @@ impl WaitLock {
     }
 
     /// Does what `enter` does, in at most eight counted steps.
+    ///
+    /// Requires what `enter` does.
     pub fn enter_counted<L: Ledger>(&mut self, id: CallId, steps: &mut Steps<L>) -> Entered
         requires room { 0 < self.old.spare }
         requires outside { is_in_line id self.old ≡ false }
@@ -144,6 +148,8 @@ impl WaitLock {
     }
 
     /// Takes the lock from its holder, and gives it to the first waiter, who is named. It takes no memory.
+    ///
+    /// Requires a holder.
     pub fn release(&mut self) -> Option<CallId>
         requires { IsSome self.old.holder }
         ensures answer { result ≡ first_of self.old.waiters }
@@ -158,6 +164,8 @@ impl WaitLock {
     }
 
     /// Does what `release` does, in at most eight counted steps.
+    ///
+    /// Requires a holder.
     pub fn release_counted<L: Ledger>(&mut self, steps: &mut Steps<L>) -> Option<CallId>
         requires { IsSome self.old.holder }
         ensures does { Releases self.old result self.new }

@@ -53,6 +53,8 @@ impl Slots {
     }
 
     /// The slot at the place. One step.
+    ///
+    /// Requires a place that is there.
     pub fn read<L: Ledger>(&self, place: u32, steps: &mut Steps<L>) -> Slot
         requires { place < length self.now }
         ensures slot { result ≡ slot_at self.now place }
@@ -63,6 +65,8 @@ impl Slots {
     }
 
     /// Replaces the slot at the place, and no other. One step.
+    ///
+    /// Requires a place that is there.
     pub fn write<L: Ledger>(&mut self, place: u32, slot: Slot, steps: &mut Steps<L>)
         requires { place < length self.old }
         ensures slots { self.new ≡ slice_set self.old place slot }
@@ -73,6 +77,8 @@ impl Slots {
     }
 
     /// One more slot, at the end; its place. After a failed allocation nothing has changed.
+    ///
+    /// Requires fewer than 4,294,967,295 slots.
     pub fn grow(&mut self) -> Result<u32, NoMemory<()>>
         requires { length self.old < 4294967295 }
         ensures place { IfOk result (λ place. place ≡ length self.old) }
