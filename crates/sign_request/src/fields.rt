@@ -54,7 +54,7 @@ pub(crate) fn headers_of(
     }
 }
 
-// Appends the fields to an empty map.
+/// Appends the fields to an empty map.
 fn append_fields(alloc: Global, headers: &mut HeaderMap, fields: &Fields) -> Result<(), Error>
     requires { headers.old ≡ [] }
     ensures ok { OnOk result (headers.new ≡ header_map fields.now) }
@@ -67,7 +67,7 @@ fn append_fields(alloc: Global, headers: &mut HeaderMap, fields: &Fields) -> Res
     Ok(())
 }
 
-// An empty map with room for so many names, or for as many as a map can have.
+/// An empty map with room for so many names, or for as many as a map can have.
 fn map_for(alloc: Global, names: usize, keys: HeaderKeys) -> Result<HeaderMap, Error>
     ensures ok { IfOk result (λ headers. headers ≡ []) }
     ensures err { IfErr result IsOutOfMemory }

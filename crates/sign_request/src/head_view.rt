@@ -132,7 +132,7 @@ impl HeadView {
     }
 }
 
-// The refusal for this cause, or out of memory where that was the error.
+/// The refusal for this cause, or out of memory where that was the error.
 fn refused_as(cause: ViewRefusal, error: Error) -> ViewRefusal
     ensures memory { error.kind ≡ OutOfMemory → result ≡ ViewRefusal.OutOfMemory }
     ensures other { error.kind ≢ OutOfMemory → result ≡ cause }

@@ -79,7 +79,7 @@ impl SigningRequest {
     }
 }
 
-// Appends the header if its name begins with the prefix.
+/// Appends the header if its name begins with the prefix.
 fn push_with_prefix(
     found: &mut Vec<(String, String)>,
     name: &HeaderName,
@@ -108,7 +108,7 @@ fn has_prefix(name: &HeaderName, prefix: &str) -> bool
     name.as_str().starts_with(prefix)
 }
 
-// Where a value begins and ends without the spaces at its ends.
+/// Where a value begins and ends without the spaces at its ends.
 fn trimmed_range(bytes: &[u8]) -> (usize, usize)
     ensures cut { slice_range bytes.now result.0 result.1 ≡ trimmed_value bytes.now }
     ensures start { result.0 ≤ result.1 }

@@ -39,7 +39,7 @@ pub(crate) fn write_pairs(
     Ok(text)
 }
 
-// Appends one pair.
+/// Appends one pair.
 fn push_pair(
     text: &mut String,
     pair: &(String, String),
@@ -61,7 +61,7 @@ fn push_pair(
     }
 }
 
-// Appends a value decoded once.
+/// Appends a value decoded once.
 fn push_decoded(text: &mut String, value: &str) -> Result<(), AllocError>
     ensures { OnOk result (string_bytes text.new
         ≡ string_bytes text.old ++ decoded_text value.now) }

@@ -115,7 +115,7 @@ pub fn commit_keyed(
     Ok(())
 }
 
-// URI and headers, before anything is put into a head.
+/// URI and headers, before anything is put into a head.
 fn target_of(alloc: Global, head: &Head, keys: HeaderKeys) -> Result<(Uri, HeaderMap), Error>
     ensures uri { IfOk result (λ target. Spells head.now.uri target.0) }
     ensures headers { IfOk result (λ target. target.1 ≡ header_map head.now.headers) }

@@ -26,7 +26,7 @@ pub(crate) fn same_pairs(pairs: &Vec<(String, String)>, others: &Vec<(String, St
     *pairs == *others
 }
 
-// A piece cut at its first `=`, each side decoded once.
+/// A piece cut at its first `=`, each side decoded once.
 fn read_pair(alloc: Global, piece: &str) -> Result<(String, String), AllocError>
     ensures { IfOk result (λ pair. text_pair pair ≡ read_pair piece.now) }
 {

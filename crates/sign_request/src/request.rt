@@ -145,7 +145,7 @@ impl SigningRequest {
         }
     }
 
-    // Fails where this is no longer a view of the head.
+    /// Fails where this is no longer a view of the head.
     fn check(&self, parts: &Parts) -> Result<(), Error>
         ensures fits { OnOk result (StillFits parts.now self.now) }
         ensures err { IfErr result (λ e. IsOutOfMemory e
@@ -176,7 +176,7 @@ impl SigningRequest {
         self.query
     }
 
-    // Whether the head is still what the view shows, but for its headers.
+    /// Whether the head is still what the view shows, but for its headers.
     fn still_fits(&self, parts: &Parts, authority: &Authority) -> Result<bool, NoMemory<()>>
         requires { uri_authority parts.now.uri ≡ Some authority.now }
         ensures { IfOk result (λ fits. IsTrue fits ↔ StillFits parts.now self.now) }
@@ -193,7 +193,7 @@ impl SigningRequest {
     }
 }
 
-// The view of a target, which has to name an authority.
+/// The view of a target, which has to name an authority.
 fn named_target(alloc: Global, uri: &Uri) -> Result<TargetView, Error>
     ensures authority { IfOk result (λ view. Some view.authority ≡ uri_authority uri.now) }
     ensures scheme { IfOk result (λ view. view.scheme ≡ target_scheme uri.now) }
@@ -208,7 +208,7 @@ fn named_target(alloc: Global, uri: &Uri) -> Result<TargetView, Error>
     Ok(target_view(alloc, uri, authority)?)
 }
 
-// What a view copies of a head.
+/// What a view copies of a head.
 fn copies_of(parts: &Parts) -> Result<(Method, HeaderMap), NoMemory<()>>
     ensures method { IfOk result (λ copies. copies.0 ≡ parts.now.method) }
     ensures headers { IfOk result (λ copies. copies.1 ≡ parts.now.headers) }

@@ -16,7 +16,7 @@ pub(crate) fn sort_pairs(mut pairs: Vec<(String, String)>) -> Vec<(String, Strin
     pairs
 }
 
-// Sorts the values of each key.
+/// Sorts the values of each key.
 fn sort_values(pairs: &mut [(String, String)])
     requires { Ascends key_cmp (text_pairs pairs.old) }
     ensures len { length pairs.new ≡ length pairs.old }
@@ -28,7 +28,7 @@ fn sort_values(pairs: &mut [(String, String)])
     }
 }
 
-// Sorts the values of the first key, and answers how many they are.
+/// Sorts the values of the first key, and answers how many they are.
 fn sort_first_values(pairs: &mut [(String, String)]) -> usize
     requires not_empty { 0 < length pairs.old }
     requires ascends { Ascends key_cmp (text_pairs pairs.old) }
@@ -43,7 +43,7 @@ fn sort_first_values(pairs: &mut [(String, String)]) -> usize
     count
 }
 
-// How many pairs have the first key.
+/// How many pairs have the first key.
 fn count_first_key(pairs: &[(String, String)]) -> usize
     requires not_empty { 0 < length pairs.now }
     requires ascends { Ascends key_cmp (text_pairs pairs.now) }

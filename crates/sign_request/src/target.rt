@@ -47,7 +47,7 @@ pub(crate) fn target_view(
     }
 }
 
-// Scheme and authority.
+/// Scheme and authority.
 fn names_of(uri: &Uri, authority: &Authority) -> Result<(Scheme, Authority), AllocError>
     ensures scheme { IfOk result (λ names. names.0 ≡ target_scheme uri.now) }
     ensures authority { IfOk result (λ names. names.1 ≡ authority.now) }
@@ -57,7 +57,7 @@ fn names_of(uri: &Uri, authority: &Authority) -> Result<(Scheme, Authority), All
     Ok((scheme, authority))
 }
 
-// Path and pairs.
+/// Path and pairs.
 fn texts_of(alloc: Global, uri: &Uri) -> Result<(String, Vec<(String, String)>), AllocError>
     ensures path { IfOk result (λ texts. string_bytes texts.0 ≡ target_path uri.now) }
     ensures query { IfOk result (λ texts. text_pairs texts.1.items ≡ target_pairs uri.now) }

@@ -56,7 +56,7 @@ impl SigningRequest {
     }
 }
 
-// Sorts in place, which takes no memory, and writes.
+/// Sorts in place, which takes no memory, and writes.
 #[tactic(auto, unfolding(crate::specs::CanonicalText::canonical_text))]
 fn canonical(alloc: Global, pairs: Pairs, form: PairForm, sep: &str, join: &str) -> Canonical
     ensures ok { IfOk result (λ text. string_bytes text
