@@ -86,6 +86,7 @@ impl<K: SigningCredential, D: DeadlineRule<Credential = K>> Pool<K, D> {
     pub fn submitter(&mut self) -> Result<Submitter, NoMemory<()>>
         ensures seat { IfOk result
             (λ s. IsPassOf self.new.queue s.seat × (s.number ≡ self.old.submitters) × (s.jobs.items ≡ [])) }
+        ensures unused { IfOk result (λ s. view s.seat ≡ record { put = []; taken = [] }) }
         ensures pool { IfOk result
             (λ s. (self.new.shared ≡ self.old.shared) × (self.new.queue ≡ self.old.queue)) }
         ensures made { IfOk result (λ s. (self.new.submitters ≡ self.old.submitters + 1)
@@ -110,6 +111,7 @@ impl<K: SigningCredential, D: DeadlineRule<Credential = K>> Pool<K, D> {
     pub fn worker(&mut self, handle: u32) -> Result<Worker<K>, WorkerRefused>
         ensures seat { IfOk result (λ w. IsPassOf self.new.queue w.seat × (w.handle ≡ handle) × (w.pass ≡ [])
             × (w.answers.items ≡ [])) }
+        ensures unused { IfOk result (λ w. view w.seat ≡ record { put = []; taken = [] }) }
         ensures free { IfOk result (λ w. (handle < length self.old.shared.handles)
             × (slice_get self.old.taken.items handle ≡ Some false)) }
         ensures pool { IfOk result

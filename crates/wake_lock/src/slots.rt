@@ -1,6 +1,6 @@
 //! Slots in which waiters stand, each with a link to the slot before it and to the slot after it.
 //! `read` and `write` are the only ways to a slot that is there, and each of them counts one step.
-ghost use Rattle.std.specs.Prelude.{◌≡◌, ◌+◌, ◌<◌, ◌++◌, ◌∷◌, [], IfOk, OnOk, OnErr, length, slice_set};
+ghost use Rattle.std.specs.Prelude.{◌≡◌, ◌+◌, ◌<◌, ◌++◌, [], IfOk, OnOk, OnErr, length, slice_set};
 ghost use Rattle.wake_lock.specs.Slots.{slot_at, blank_slot, chained_slots, chain_start};
 
 use crate::CallId;
@@ -74,21 +74,6 @@ impl Slots {
     {
         steps.tick();
         self.kept[place as usize] = slot;
-    }
-
-    /// One more slot, at the end; its place. After a failed allocation nothing has changed.
-    ///
-    /// Requires fewer than 4,294,967,295 slots.
-    pub fn grow(&mut self) -> Result<u32, NoMemory<()>>
-        requires { length self.old < 4294967295 }
-        ensures place { IfOk result (λ place. place ≡ length self.old) }
-        ensures slots { OnOk result (self.new ≡ self.old ++ blank_slot ∷ []) }
-        ensures refused { OnErr result (self.new ≡ self.old) }
-    {
-        let place = self.len();
-        self.kept.reserve(1)?;
-        self.kept.push_reserved(blank_slot());
-        Ok(place)
     }
 
     /// So many more slots, at the end, linked to one another and to the slot given; the place where
