@@ -62,26 +62,13 @@ where
     G: GrantCredential<Credential = P::Credential, Ctx = P::Ctx>,
 {
     ghost use Rattle.granter.specs.GranterInvariant.{GranterState, IsGranter};
+    ghost use Rattle.granter.specs.GranterView.{granter_view};
 
     ghost Value = { GranterState P G P.Credential P.Ctx };
 
-    ghost view = { λ s. record {
-      desk = s.desk;
-      providers = s.providers.items;
-      provider_places = s.provider_places.items;
-      contexts = s.contexts.items;
-      context_places = s.context_places.items;
-      begun = s.begun;
-    } };
+    ghost view = { granter_view };
 
-    ghost invariant = { λ s. IsGranter (record {
-      desk = s.desk;
-      providers = s.providers.items;
-      provider_places = s.provider_places.items;
-      contexts = s.contexts.items;
-      context_places = s.context_places.items;
-      begun = s.begun;
-    }) };
+    ghost invariant = { λ s. IsGranter (granter_view s) };
 }
 
 impl<P, G> Granter<P, G>

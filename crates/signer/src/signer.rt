@@ -65,26 +65,13 @@ where
     S: SignRequest<Credential = P::Credential, Ctx = P::Ctx>,
 {
     ghost use Rattle.signer.specs.SignerInvariant.{SignerState, IsSigner};
+    ghost use Rattle.signer.specs.SignerView.{signer_view};
 
     ghost Value = { SignerState P S P.Credential P.Ctx };
 
-    ghost view = { λ s. record {
-      desk = s.desk;
-      providers = s.providers.items;
-      contexts = s.contexts.items;
-      context_places = s.context_places.items;
-      begun = s.begun;
-      keys = s.keys;
-    } };
+    ghost view = { signer_view };
 
-    ghost invariant = { λ s. IsSigner (record {
-      desk = s.desk;
-      providers = s.providers.items;
-      contexts = s.contexts.items;
-      context_places = s.context_places.items;
-      begun = s.begun;
-      keys = s.keys;
-    }) };
+    ghost invariant = { λ s. IsSigner (signer_view s) };
 }
 
 impl<P, S> Signer<P, S>
