@@ -12,7 +12,7 @@ use Rattle.desk_parts.specs.declared.call_record.Stage.{Stage}
 use Rattle.desk_parts.specs.declared.call_record.Stage.TheVariants.{Loading}
 use Rattle.desk_parts.specs.declared.tables.LiveCallView.{LiveCallView}
 use Rattle.desk_parts.proofs.ListPlaces.{place-there}
-use Rattle.desk_driver.specs.CallAt.{IsAt, IsAsking, HasProvider, LeavesOthers}
+use Rattle.desk_driver.specs.CallAt.{IsAt, IsAsking, HasProvider, loader_of, service_of, LeavesOthers}
 use Rattle.desk_driver.specs.declared.begun_call.BegunCall.{BegunCall}
 
 -- a desk that differs in its caches and queues alone
@@ -30,6 +30,11 @@ same-self old = record { loaders = refl; rules = refl; handles = refl; greatest 
 pub record DeskStep {K D Q H : Type 0} (call : CallId) (old new : DeskTables K D Q H) (After : Type 0) : Type 0 where
   pub after : After
   pub others : LeavesOthers call old new
+
+-- where the service and the loader of a handle are those before
+pub record SameObjects {K D Q H : Type 0} (handle : ℕ) (old new : DeskTables K D Q H) : Type 0 where
+  pub service : service_of new handle ≡ service_of old handle
+  pub loader : loader_of new handle ≡ loader_of old handle
 
 module _ {K D Q H : Type 0} {old new : DeskTables K D Q H} {call : CallId} where
   pub leaves : {base : DeskTables K D Q H} → SameCalls old base → {live : Option (CallRecord H)}
@@ -49,6 +54,22 @@ module _ {K D Q H : Type 0} {old new : DeskTables K D Q H} {call : CallId} where
     handles = ap (λ (d : DeskTables K D Q H). d.handles) e;
     greatest = ap (λ (d : DeskTables K D Q H). d.greatest) e;
     other_calls = λ other d. ap (λ (x : DeskTables K D Q H). find_call other x.calls) e;
+  }
+
+  pub leaves-trans : {mid : DeskTables K D Q H} → LeavesOthers call old mid → LeavesOthers call mid new
+      → LeavesOthers call old new
+  leaves-trans a b = record {
+    loaders = b.loaders ∙ a.loaders;
+    rules = b.rules ∙ a.rules;
+    handles = b.handles ∙ a.handles;
+    greatest = b.greatest ∙ a.greatest;
+    other_calls = λ other d. b.other_calls other d ∙ a.other_calls other d;
+  }
+
+  pub leaves-objects : LeavesOthers call old new → (handle : ℕ) → SameObjects handle old new
+  leaves-objects l handle = record {
+    service = rw (l.handles, l.rules) refl;
+    loader = rw (l.handles, l.loaders) refl;
   }
 
   pub provides : LeavesOthers call old new → (handle provider : ℕ) → HasProvider old handle provider

@@ -10,7 +10,8 @@ use Rattle.granter.specs.DeskReplies.{IsBegun}
 use Rattle.granter.specs.IssuedBy.{IsStateIssued, IsGrantIssuedBy}
 use Rattle.granter.specs.GranterCalls.{Begins}
 use Rattle.granter.specs.GranterInvariant.{GranterState, IsGranter}
-use Rattle.granter.specs.GranterObjects.{Meanings, Objects, call_meaning, objects_of}
+use Rattle.granter.specs.GranterObjects.{Meanings, call_meaning, objects_of}
+use Rattle.desk_driver.specs.Objects.{Objects}
 use Rattle.granter.specs.ObjectPoll.{BegunCall}
 use Rattle.granter.specs.declared.grant.Grant.{Grant}
 use Rattle.granter.specs.declared.grant.CallState.TheVariants.{Waiting}

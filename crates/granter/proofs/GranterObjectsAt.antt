@@ -2,10 +2,11 @@
 use Rattle.std.proofs.Common.{◌≡◌, ℕ, Option, Some, None, option_map, option_and_then, slice_get, refl, ◌∙◌, ap}
 use Rattle.credentials.specs.declared.providers.Providers.{Providers}
 use Rattle.sequential_signer.specs.Setup.{Handle}
-use Rattle.desk_driver.specs.CallAt.{loader_of}
+use Rattle.desk_driver.specs.CallAt.{loader_of, service_of}
 use Rattle.granter.specs.GranterInvariant.{GranterState, providers_of}
 use Rattle.desk_driver.specs.ProviderList.{loader_for}
-use Rattle.granter.specs.GranterObjects.{Objects, objects_by, objects_of, service_of}
+use Rattle.granter.specs.GranterObjects.{objects_of}
+use Rattle.desk_driver.specs.Objects.{Objects, objects_by}
 
 module _ {P G K C : Type 0} (s : GranterState P G K C) (handle : ℕ) where
   -- the objects are those of the handle

@@ -6,7 +6,8 @@ use Rattle.desk_driver.specs.CallAt.{IsLive, LeavesOthers}
 use Rattle.desk_driver.proofs.KeptCalls.{KeepsCall, keeps-other, keeps-provider}
 use Rattle.granter.specs.IssuedBy.{IsStateIssued, IsGrantIssuedBy}
 use Rattle.granter.specs.GranterInvariant.{GranterState}
-use Rattle.granter.specs.GranterObjects.{Meanings, Objects, CallMeaning, call_meaning, objects_of}
+use Rattle.granter.specs.GranterObjects.{Meanings, CallMeaning, call_meaning, objects_of}
+use Rattle.desk_driver.specs.Objects.{Objects}
 use Rattle.granter.specs.GranterCalls.{KeepsOthers, IsAnswerIssuedBy}
 use Rattle.granter.specs.Course.{IsAnswerIssued}
 use Rattle.granter.specs.declared.grant_poll.GrantPoll.{GrantPoll}

@@ -12,7 +12,8 @@ use Rattle.desk_parts.specs.Tables.{setup_of}
 use Rattle.desk_parts.specs.Adding.{with_rule, with_handle}
 use Rattle.granter.specs.GranterInvariant.{GranterState, IsGranter, with_context_handle, with_service_handle, with_cache_handle}
 use Rattle.desk_driver.specs.ProviderList.{loader_for, AreFew}
-use Rattle.granter.specs.GranterObjects.{Objects, objects_of}
+use Rattle.granter.specs.GranterObjects.{objects_of}
+use Rattle.desk_driver.specs.Objects.{Objects}
 use Rattle.desk_driver.specs.CallNumbers.{is_above_all}
 use Rattle.desk_driver.proofs.CallNumbers.{above-none-more}
 use Rattle.desk_driver.proofs.Rows.{both-longer, both-few, still-few, of-there, there-at, none-there, index-is, first-place, first-handle}

@@ -20,7 +20,8 @@ use Rattle.desk_driver.specs.declared.load_state.LoadState.TheVariants as load
 use Rattle.grant_desk.specs.GrantDeskState.{GrantState, GrantRepresents}
 use Rattle.desk_parts.specs.Memory.{ClonesAreFree}
 use Rattle.grant_desk.specs.GrantSteps.{IsGrantStep, RunsOutAtBegins}
-use Rattle.granter.specs.GranterObjects.{Meanings, Objects, CallMeaning, call_meaning}
+use Rattle.granter.specs.GranterObjects.{Meanings, CallMeaning, call_meaning}
+use Rattle.desk_driver.specs.Objects.{Objects}
 use Rattle.granter.specs.IssuedBy.{IsStateIssued}
 use Rattle.granter.specs.ObjectAnswer.{IsWorkPending, IsWorkOpen, WorkRunsOut}
 use Rattle.granter.specs.ObjectPoll.{BegunCall}

@@ -7,7 +7,8 @@ use Rattle.credentials.specs.declared.rule.DeadlineRule as DeadlineRule
 use Rattle.credentials.specs.declared.grant.GrantCredential as GrantCredential
 use Rattle.grant_desk.specs.GrantDeskState.{GrantState}
 use Rattle.granter.specs.Course.{PolledCall, polled_call, IsDriven}
-use Rattle.granter.specs.GranterObjects.{Meanings, meanings_of, service_of, with_service, call_meaning}
+use Rattle.granter.specs.GranterObjects.{Meanings, meanings_of, with_service, call_meaning}
+use Rattle.desk_driver.specs.CallAt.{service_of}
 use Rattle.granter.specs.IssuedBy.{IsStateIssued}
 use Rattle.granter.specs.ObjectPoll.{BegunCall}
 use Rattle.granter.specs.StepOutcome.{StepChange, IsStepOutcome}

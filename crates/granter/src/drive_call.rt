@@ -1,9 +1,8 @@
 //! One poll of a call: steps, one after another, as far as its objects answer now.
 ghost use Rattle.std.specs.Prelude.{◌≡◌, Some, IsSome};
-ghost use Rattle.desk_driver.specs.CallAt.{loader_of};
+ghost use Rattle.desk_driver.specs.CallAt.{loader_of, service_of};
 ghost use Rattle.desk_driver.specs.ProviderList.{loader_for};
 ghost use Rattle.granter.specs.PollContext.{poll_context, IsIssuedFor, IsDrivenFrom};
-ghost use Rattle.granter.specs.GranterObjects.{service_of};
 ghost use Rattle.granter.specs.StepOutcome.{answer_by};
 
 use crate::call_objects::CallObjects;

@@ -14,7 +14,8 @@ ghost use Rattle.granter.specs.Course.{IsGrantPoll, polled_call};
 ghost use Rattle.granter.specs.IssuedBy.{IsGrantIssuedBy};
 ghost use Rattle.granter.specs.GranterCalls.{Begins, RefusesToBegin, KeepsOthers, IsAnswerIssuedBy};
 ghost use Rattle.granter.specs.GranterInvariant.{IsNewGranter, with_context_handle, with_service_handle, with_cache_handle};
-ghost use Rattle.granter.specs.GranterObjects.{Objects, meanings_of, objects_of};
+ghost use Rattle.granter.specs.GranterObjects.{meanings_of, objects_of};
+ghost use Rattle.desk_driver.specs.Objects.{Objects};
 
 use crate::call_objects::CallObjects;
 use crate::drive::{begin_call, cancel_call};

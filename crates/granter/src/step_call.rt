@@ -1,9 +1,8 @@
 //! One step of a call: the desk is polled, or the object that was asked, whose answer goes to the desk.
 ghost use Rattle.std.specs.Prelude.{◌≡◌, Some, IsSome};
-ghost use Rattle.desk_driver.specs.CallAt.{loader_of};
+ghost use Rattle.desk_driver.specs.CallAt.{loader_of, service_of};
 ghost use Rattle.desk_driver.specs.ProviderList.{loader_for};
 ghost use Rattle.granter.specs.PollContext.{poll_context, IsIssuedFor, IsOutcomeWith};
-ghost use Rattle.granter.specs.GranterObjects.{service_of};
 ghost use Rattle.granter.specs.declared.grant.CallState.TheVariants.{Loading, Granting};
 
 use crate::call_objects::CallObjects;

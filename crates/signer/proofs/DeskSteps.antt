@@ -24,9 +24,8 @@ use Rattle.sign_desk.specs.StepPrecondition.{StepPrecondition}
 use Rattle.desk_parts.specs.Places.{HasPlaces, provider_count}
 use Rattle.sign_desk.specs.Action.{Action, Performs}
 use Rattle.sign_desk.specs.HoldAction.{Hold, first_hold, waited_hold, loading_hold, hold_action}
-use Rattle.desk_parts.specs.HoldProgress.{desk_lookup, desk_load, next_load, desk_look_input}
+use Rattle.desk_parts.specs.HoldProgress.{desk_lookup, desk_load, next_load, desk_look_input, with_answer}
 use Rattle.sign_desk.specs.Transition.{Transition, poll_action, first_poll_action, later_poll_action, load_action, provided_action, signed_action, accept_action, cancel_action, live_action}
-use Rattle.desk_parts.specs.HoldProgress.{with_answer}
 use Rattle.desk_driver.specs.CallAt.{record_of, IsAt, IsWaiting, IsSigning, IsAsking}
 use Rattle.signer.specs.DeskReplies.{AfterPoll, AfterFound, AfterNone, AfterAccepted}
 use Rattle.sign_desk.specs.Records.{CallRecord}

@@ -13,7 +13,8 @@ use Rattle.signer.specs.DeskReplies.{IsBegun}
 use Rattle.signer.specs.IssuedBy.{IsStateIssued, IsIssuedBy}
 use Rattle.signer.specs.SignerCalls.{Begins}
 use Rattle.signer.specs.SignerInvariant.{SignerState, IsSigner}
-use Rattle.signer.specs.SignerObjects.{Meanings, Objects, call_meaning, objects_of}
+use Rattle.signer.specs.SignerObjects.{Meanings, call_meaning, objects_of}
+use Rattle.desk_driver.specs.Objects.{Objects}
 use Rattle.signer.specs.BegunCall.{BegunCall}
 use Rattle.signer.specs.declared.sign.Sign.{Sign}
 use Rattle.signer.specs.declared.sign.SignState.TheVariants.{Waiting}

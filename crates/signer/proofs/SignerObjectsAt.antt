@@ -3,10 +3,11 @@ use Rattle.std.proofs.Common.{◌≡◌, ℕ, Option, Some, None, map, option_ma
 use Rattle.std.proofs.lemmas.Option.{slice_get-map}
 use Rattle.credentials.specs.declared.providers.Providers.{Providers}
 use Rattle.sequential_signer.specs.Setup.{Handle}
-use Rattle.desk_driver.specs.CallAt.{loader_of}
+use Rattle.desk_driver.specs.CallAt.{loader_of, service_of}
 use Rattle.signer.specs.SignerInvariant.{SignerState}
 use Rattle.desk_driver.specs.ProviderList.{loader_for}
-use Rattle.signer.specs.SignerObjects.{Objects, objects_by, objects_of, service_of}
+use Rattle.signer.specs.SignerObjects.{objects_of}
+use Rattle.desk_driver.specs.Objects.{Objects, objects_by}
 
 module _ {P S K C : Type 0} (s : SignerState P S K C) (handle : ℕ) where
   -- the objects are those of the handle

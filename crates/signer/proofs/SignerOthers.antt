@@ -6,7 +6,8 @@ use Rattle.desk_driver.specs.CallAt.{IsAt, IsLive, IsWaiting, LeavesOthers}
 use Rattle.desk_driver.proofs.KeptCalls.{KeepsCall, keeps-other, keeps-provider}
 use Rattle.signer.specs.IssuedBy.{IsStateIssued, IsIssuedBy}
 use Rattle.signer.specs.SignerInvariant.{SignerState}
-use Rattle.signer.specs.SignerObjects.{Meanings, Objects, CallMeaning, call_meaning, objects_of}
+use Rattle.signer.specs.SignerObjects.{Meanings, CallMeaning, call_meaning, objects_of}
+use Rattle.desk_driver.specs.Objects.{Objects}
 use Rattle.signer.specs.SignerCalls.{KeepsOthers, IsAnswerIssuedBy}
 use Rattle.signer.specs.Course.{IsAnswerIssued}
 use Rattle.signer.specs.declared.sign_poll.SignAnswer.{SignAnswer}

@@ -6,13 +6,13 @@ use Rattle.credentials.specs.declared.providers.Providers.{Providers}
 use Rattle.sign_request.specs.declared.header_keys.HeaderKeys.{HeaderKeys}
 use Rattle.sequential_signer.specs.Policy.{Policy}
 use Rattle.sequential_signer.specs.Setup.{Setup, Handle}
-use Rattle.sign_desk.specs.DeskState.{DeskState, Represents}
+use Rattle.sign_desk.specs.DeskState.{DeskState, Represents, with_cache}
 use Rattle.desk_parts.specs.Tables.{setup_of}
-use Rattle.sign_desk.specs.DeskState.{with_cache}
 use Rattle.desk_parts.specs.Adding.{with_rule, with_handle}
 use Rattle.signer.specs.SignerInvariant.{SignerState, IsSigner, with_context_handle, with_service_handle, with_cache_handle}
 use Rattle.desk_driver.specs.ProviderList.{loader_for}
-use Rattle.signer.specs.SignerObjects.{Objects, objects_of}
+use Rattle.signer.specs.SignerObjects.{objects_of}
+use Rattle.desk_driver.specs.Objects.{Objects}
 use Rattle.desk_driver.specs.CallNumbers.{is_above_all}
 use Rattle.desk_driver.proofs.CallNumbers.{above-none-more}
 use Rattle.desk_driver.proofs.Rows.{both-longer, both-few, still-few, of-there, there-at, none-there, index-is, first-place, first-handle}

@@ -27,7 +27,8 @@ use Rattle.desk_driver.specs.LoadAnswer.{IsLoadPending, LoadRunsOut, IsAnswerGiv
 use Rattle.signer.specs.ObjectAnswer.{IsWorkPending, WorkRunsOut}
 use Rattle.desk_driver.specs.CallAt.{LeavesOthers}
 use Rattle.signer.specs.IssuedBy.{IsStateIssued}
-use Rattle.signer.specs.SignerObjects.{Meanings, Objects, CallMeaning, call_meaning}
+use Rattle.signer.specs.SignerObjects.{Meanings, CallMeaning, call_meaning}
+use Rattle.desk_driver.specs.Objects.{Objects}
 use Rattle.signer.specs.declared.refusal.Refusal.{Refusal}
 use Rattle.signer.specs.declared.refusal.Refusal.TheVariants as refusal
 use Rattle.signer.specs.BegunCall.{BegunCall}

@@ -7,7 +7,8 @@ use Rattle.credentials.specs.declared.rule.DeadlineRule as DeadlineRule
 use Rattle.credentials.specs.declared.sign.SignRequest as SignRequest
 use Rattle.sign_desk.specs.DeskState.{DeskState}
 use Rattle.signer.specs.IssuedBy.{IsStateIssued}
-use Rattle.signer.specs.SignerObjects.{Meanings, meanings_of, service_of, with_service, call_meaning}
+use Rattle.signer.specs.SignerObjects.{Meanings, meanings_of, with_service, call_meaning}
+use Rattle.desk_driver.specs.CallAt.{service_of}
 use Rattle.signer.specs.Course.{PolledCall, polled_call, PollOutcome, IsDriven}
 use Rattle.signer.specs.StepOutcome.{StepChange, IsStepOutcome}
 use Rattle.signer.specs.declared.call_objects.CallObjects.{CallObjects}

@@ -5,9 +5,8 @@ use Rattle.sign_request.specs.Keys.{no_keys}
 use Rattle.sign_request.specs.declared.header_keys.HeaderKeys.{HeaderKeys}
 use Rattle.sequential_signer.specs.Setup.{Handle}
 use Rattle.sequential_signer.specs.Policy.{Policy}
-use Rattle.sign_desk.specs.DeskState.{DeskState, Represents}
+use Rattle.sign_desk.specs.DeskState.{DeskState, Represents, with_cache}
 use Rattle.desk_parts.specs.Tables.{setup_of}
-use Rattle.sign_desk.specs.DeskState.{with_cache}
 use Rattle.desk_parts.specs.Adding.{with_rule, with_handle}
 use Rattle.desk_driver.specs.CallNumbers.{is_above_all}
 use Rattle.desk_driver.specs.ProviderList.{loader_for}

@@ -1,10 +1,9 @@
 //! One poll of a call: steps, one after another, as far as its objects answer now.
 ghost use Rattle.std.specs.Prelude.{◌≡◌, Some, IsSome};
-ghost use Rattle.desk_driver.specs.CallAt.{loader_of};
+ghost use Rattle.desk_driver.specs.CallAt.{loader_of, service_of};
 ghost use Rattle.signer.specs.PollContext.{poll_context, IsIssuedFor, IsDrivenFrom};
 ghost use Rattle.signer.specs.StepOutcome.{answer_by};
 ghost use Rattle.desk_driver.specs.ProviderList.{loader_for};
-ghost use Rattle.signer.specs.SignerObjects.{service_of};
 
 use crate::call_objects::CallObjects;
 use crate::sign::{Sign, SignState};

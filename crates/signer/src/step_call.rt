@@ -1,12 +1,10 @@
 //! One step of a call: the desk is polled, or the object that was asked, whose answer goes to the desk.
 ghost use Rattle.std.specs.Prelude.{◌≡◌, None, Some, IsSome};
-ghost use Rattle.desk_driver.specs.CallAt.{loader_of};
-ghost use Rattle.desk_driver.specs.ProviderList.{loader_for};
+ghost use Rattle.desk_driver.specs.CallAt.{loader_of, service_of};
+ghost use Rattle.desk_driver.specs.ProviderList.{loader_for, provider_at};
 ghost use Rattle.http.specs.declared.request.Parts.{Parts};
 ghost use Rattle.signer.specs.PollContext.{poll_context, IsIssuedFor, IsOutcomeWith};
 ghost use Rattle.signer.specs.ObjectAnswer.{KeepsWork};
-ghost use Rattle.signer.specs.SignerObjects.{service_of};
-ghost use Rattle.desk_driver.specs.ProviderList.{provider_at};
 ghost use Rattle.signer.specs.declared.sign.SignState.TheVariants.{Loading, Signing};
 ghost use Rattle.signer.specs.declared.sign.WorkState.{WorkState};
 ghost use Rattle.signer.specs.declared.sign.WorkState.TheVariants as work_state;

@@ -1,7 +1,7 @@
 use Rattle.std.proofs.Common.{◌≡◌, refl, sym, subst, ap, ◌∙◌, Some, Option}
 use Rattle.std.specs.Option.{option_copied}
 use Rattle.granter.specs.PollContext.{poll_context, call_with}
-use Rattle.granter.specs.GranterObjects.{service_of}
+use Rattle.desk_driver.specs.CallAt.{service_of}
 use Rattle.granter.specs.ObjectAnswer.{IsWorkAnswer}
 use Rattle.granter.specs.ObjectPoll.{service_meaning}
 use Rattle.granter.specs.StepOutcome.{StepChange, IsStepOutcome}

@@ -3,10 +3,9 @@ use Rattle.sign_base.specs.Error.{ErrorParts}
 use Rattle.sign_base.specs.declared.error_kind.ErrorKind.TheVariants as kind
 use Rattle.sign_base.specs.declared.head.Head.{Head}
 use Rattle.sign_request.specs.Refusal.{IsOutOfMemory}
-use Rattle.desk_driver.specs.CallAt.{IsSigning}
+use Rattle.desk_driver.specs.CallAt.{IsSigning, service_of}
 use Rattle.signer.specs.PollContext.{poll_context, call_with}
 use Rattle.signer.specs.StepOutcome.{StepChange, IsStepOutcome}
-use Rattle.signer.specs.SignerObjects.{service_of}
 use Rattle.signer.specs.Target.{IsKept}
 use Rattle.signer.specs.declared.sign.SignState.TheVariants.{Signing}
 use Rattle.signer.specs.declared.sign.WorkState.TheVariants as work

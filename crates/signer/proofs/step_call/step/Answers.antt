@@ -1,9 +1,8 @@
 use Rattle.std.proofs.Common.{refl, sym, subst, slice_get}
-use Rattle.desk_driver.specs.CallAt.{IsWaiting}
+use Rattle.desk_driver.specs.CallAt.{IsWaiting, service_of}
 use Rattle.desk_driver.proofs.Rows.{led-from}
 use Rattle.signer.specs.PollContext.{poll_context, call_with, IsIssuedFor}
 use Rattle.signer.specs.StepOutcome.{StepChange, IsStepOutcome}
-use Rattle.signer.specs.SignerObjects.{service_of}
 use Rattle.signer.specs.declared.sign.SignState.TheVariants.{Waiting}
 use Rattle.signer.proofs.ObjectMeanings.{for-service}
 use Rattle.signer.proofs.StepOutcomes.{poll-taken}

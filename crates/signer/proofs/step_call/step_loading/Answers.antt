@@ -1,8 +1,7 @@
 use Rattle.std.proofs.Common.{◌≡◌, refl, sym, subst, ap, ◌∙◌, Some}
 use Rattle.std.specs.Option.{option_copied}
 use Rattle.signer.specs.PollContext.{poll_context, call_with}
-use Rattle.desk_driver.specs.LoadAnswer.{IsLoadAnswer}
-use Rattle.desk_driver.specs.LoadAnswer.{provider_meaning}
+use Rattle.desk_driver.specs.LoadAnswer.{IsLoadAnswer, provider_meaning}
 use Rattle.signer.specs.StepOutcome.{StepChange, IsStepOutcome}
 use Rattle.signer.specs.SignerObjects.{meanings_of, with_service}
 use Rattle.desk_driver.specs.ProviderList.{provider_at}

@@ -4,7 +4,7 @@ use Rattle.signer.specs.PollContext.{poll_context, call_with}
 use Rattle.signer.specs.ObjectAnswer.{IsWorkAnswer}
 use Rattle.signer.specs.ObjectPoll.{service_meaning}
 use Rattle.signer.specs.StepOutcome.{StepChange, IsStepOutcome}
-use Rattle.signer.specs.SignerObjects.{service_of}
+use Rattle.desk_driver.specs.CallAt.{service_of}
 use Rattle.signer.specs.declared.sign.SignState.TheVariants.{Signing}
 use Rattle.signer.proofs.StepOutcomes.{work-pending, work-without-memory, rejected-taken, fails-now}
 use Rattle.signer.proofs.step_call.step_signing.Goals as goal

@@ -7,7 +7,8 @@ use Rattle.desk_driver.proofs.Rows.{for-there, index-is, cache-is}
 use Rattle.granter.specs.Course.{polled_call, IsDriven, IsGrantPoll}
 use Rattle.granter.specs.GranterCalls.{IsAnswerIssuedBy}
 use Rattle.granter.specs.GranterInvariant.{GranterState, IsGranter}
-use Rattle.granter.specs.GranterObjects.{Objects, call_meaning, meanings_of, objects_of}
+use Rattle.granter.specs.GranterObjects.{call_meaning, meanings_of, objects_of}
+use Rattle.desk_driver.specs.Objects.{Objects}
 use Rattle.granter.specs.IssuedBy.{IsStateIssued, IsGrantIssuedBy}
 use Rattle.granter.specs.GranterView.{granter_view}
 use Rattle.granter.proofs.GranterObjectsAt.{has-objects, loads-by, serves-by}

@@ -1,11 +1,9 @@
-use Rattle.std.proofs.Common.{◌≡◌, ◌<◌, Some, length, option_map, slice_get, refl, sym, ◌∙◌, ap, subst}
+use Rattle.std.proofs.Common.{◌≡◌, ◌<◌, Some, length, option_map, slice_get, refl, sym, ◌∙◌, ap, subst, slice_index}
 use Rattle.sequential_signer.specs.Setup.{Handle}
 use Rattle.desk_parts.specs.TablesView.{handle_view}
-use Rattle.granter.specs.GranterInvariant.{GranterState}
-use Rattle.std.proofs.Common.{slice_index}
+use Rattle.granter.specs.GranterInvariant.{GranterState, with_context_handle}
 use Rattle.std.proofs.lemmas.Option.{get_or_from_slice_get}
 use Rattle.desk_driver.specs.ProviderList.{loader_for}
-use Rattle.granter.specs.GranterInvariant.{with_context_handle}
 use Rattle.granter.specs.GranterView.{granter_view}
 use Rattle.granter.proofs.GranterSetup.{provider-read, read-at, its-cache, granter-context, if-some}
 use Rattle.granter.proofs.granter.Granter.with_context.Goals as goal

@@ -7,7 +7,8 @@ use Rattle.signer.specs.Course.{PollOutcome, polled_call, IsDriven, IsPoll}
 use Rattle.signer.specs.IssuedBy.{IsStateIssued, IsIssuedBy}
 use Rattle.signer.specs.SignerInvariant.{SignerState, IsSigner}
 use Rattle.desk_driver.specs.ProviderList.{loader_for}
-use Rattle.signer.specs.SignerObjects.{Objects, call_meaning, meanings_of, objects_of}
+use Rattle.signer.specs.SignerObjects.{call_meaning, meanings_of, objects_of}
+use Rattle.desk_driver.specs.Objects.{Objects}
 use Rattle.signer.specs.SignerView.{signer_view}
 use Rattle.signer.proofs.CourseOfSteps.{course-represents}
 use Rattle.signer.specs.SignerCalls.{IsAnswerIssuedBy}
