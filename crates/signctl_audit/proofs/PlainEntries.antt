@@ -5,13 +5,13 @@ use Rattle.std.specs.Duration.{as_nanos}
 use Rattle.std.specs.declared.time.Duration.{Duration}
 use Rattle.wake_lock.specs.declared.CallId.{CallId}
 use Rattle.wake_lock.specs.Calls.{same_call}
-use Rattle.sequential_signer.specs.LawsOfCaches.{is_ask}
+use Rattle.sequential_signer.specs.Replies.{is_ask, is_sign, is_refused, is_cancelled}
 use Rattle.sequential_signer.specs.Setup.{Setup, cache_of}
 use Rattle.sequential_signer.specs.Transcript.{call_of, is_about, is_out_of_memory, entries_of, committed_entries}
 use Rattle.sequential_signer.specs.Phase.{is_poll}
 use Rattle.sequential_signer.specs.Turn.{first_of_each, before_call, is_poll_at, ends_hold, poll_order, calls_ahead, hold_is_finished}
 use Rattle.sequential_signer.specs.ExpectedReply.{expected_reply}
-use Rattle.sequential_signer.specs.Legal.{is_sign, allocates}
+use Rattle.sequential_signer.specs.Legal.{allocates}
 use Rattle.sequential_signer.specs.declared.event.Answer.TheVariants as answer
 use Rattle.sequential_signer.specs.declared.event.Entry.{Entry}
 use Rattle.sequential_signer.specs.declared.event.Event.{Event}
@@ -22,7 +22,7 @@ use Rattle.sequential_signer.proofs.Lists.{filter-same}
 use Rattle.sequential_signer.proofs.Pairwise.{Pairwise, none, more, map-pairwise, filter-pairwise, list_any-pairwise}
 use Rattle.sequential_signer.proofs.StoredDurations.{AreAlike, begins, equal, AlikeTranscripts, phase_of-alike, is_new_number-alike, expected_reply-alike, expected_reply-with_events}
 use Rattle.sign_audit.specs.Blockers.{open_ahead, blockers_of}
-use Rattle.sign_audit.specs.Counts.{is_refused, is_cancelled, is_kind_at, number_at, counts_of}
+use Rattle.sign_audit.specs.Counts.{is_kind_at, number_at, counts_of}
 use Rattle.signctl_format.specs.declared.credential.ScriptCredential.{ScriptCredential}
 use Rattle.signctl_format.specs.declared.credential.ScriptRule.{ScriptRule}
 use Rattle.signctl_format.specs.Moments.{plain_duration}
