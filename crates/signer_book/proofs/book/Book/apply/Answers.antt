@@ -21,6 +21,15 @@ use Rattle.sequential_signer.specs.Replies.{is_cancelled}
 use Rattle.signer_book.proofs.Applying.{kept-is, live-cancelled, cancel-in_memory}
 use Rattle.signer_book.proofs.book.Book.apply.Goals as goal
 
+pub take_receipt_room-requires : goal.take_receipt_room-requires
+take_receipt_room-requires g c = c.pass.invariant
+
+pub invariant_of-pass : goal.invariant_of-pass
+invariant_of-pass g c = c.take_receipt_room.ensures.before
+
+pub invariant_of-pass-then-is_out_of_memory : goal.invariant_of-pass-then-is_out_of_memory
+invariant_of-pass-then-is_out_of_memory g c = c.take_receipt_room.ensures.before
+
 pub invariant_of-self : goal.invariant_of-self
 invariant_of-self g c = record { represents = rw c.take_entry_room.ensures.items c.self.invariant.represents; room = omega (arith, c.take_entry_room.ensures.before, c.live-live.ensures) }
 
