@@ -7,3 +7,4 @@ mod Closing
 mod LoadSteps
 mod LoadLengths
 mod LoadCounts
+mod LineWords

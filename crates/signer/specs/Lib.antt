@@ -4,7 +4,6 @@ pub mod SignerInvariant
 pub mod ObjectAnswer
 pub mod ObjectPoll
 pub mod SignerObjects
-pub mod SignerView
 pub mod IssuedBy
 pub mod Course
 pub mod StepOutcome

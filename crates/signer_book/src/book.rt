@@ -106,7 +106,7 @@ impl<K: SigningCredential, D: DeadlineRule<Credential = K>> Book<K, D> {
             return Reply::OutOfMemory;
         };
         let reply = self.desk.step(event);
-        if reply.is_out_of_memory() {
+        if is_out_of_memory(&reply) {
             drop(kept);
             drop(given);
             drop(reply);
@@ -202,6 +202,12 @@ where
     }
 }
 
+fn is_out_of_memory<K>(reply: &Reply<K>) -> bool
+    ensures { result ≡ is_out_of_memory reply.now }
+{
+    matches!(reply, Reply::OutOfMemory)
+}
+
 /// The entry that a step at this event would add, unless an allocation fails.
 fn preview_entry<K: SigningCredential, D: DeadlineRule<Credential = K>>(
     desk: &Desk<K, D>,
@@ -220,7 +226,7 @@ fn preview_entry<K: SigningCredential, D: DeadlineRule<Credential = K>>(
         → (call : CallId) → event.now ≡ Cancel call → IsSome result }
 {
     let reply = desk.preview(event);
-    if reply.is_out_of_memory() {
+    if matches!(reply, Reply::OutOfMemory) {
         return None;
     }
     let event = event.try_clone(desk.alloc()).ok()?;
