@@ -35,6 +35,10 @@ IsSigning begun desk = (answers : ℕ) × IsAt begun Signing answers desk
 abbrev pub loader_of : {K D Q H : Type 0} → DeskTables K D Q H → ℕ → Option Loader
 loader_of desk handle = option_and_then (λ h. slice_get desk.loaders h.cache) (slice_get desk.handles handle)
 
+-- the service of a handle, which is a rule of the desk
+abbrev pub service_of : {K D Q H : Type 0} → DeskTables K D Q H → ℕ → Option D
+service_of desk handle = option_and_then (λ h. slice_get desk.rules h.rule) (slice_get desk.handles handle)
+
 -- the handle's cache has a provider with this number
 abbrev pub HasProvider : {K D Q H : Type 0} → DeskTables K D Q H → ℕ → ℕ → Type 0
 HasProvider desk handle provider =

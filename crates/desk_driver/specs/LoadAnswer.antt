@@ -3,6 +3,9 @@ use Rattle.std.specs.Prelude.{◌≡◌, Option, Some, None}
 use Rattle.credentials.specs.declared.polled.Polled.{Polled}
 use Rattle.credentials.specs.declared.polled.Polled.TheVariants as polled
 use Rattle.credentials.specs.declared.provide.ProvideCredential as ProvideCredential
+use Rattle.sequential_signer.specs.declared.event.Answer.{Answer}
+use Rattle.sequential_signer.specs.declared.event.Answer.TheVariants as answer
+use Rattle.sign_base.specs.Error.{ErrorParts}
 use Rattle.desk_driver.specs.declared.load_state.LoadAnswer.{LoadAnswer}
 use Rattle.desk_driver.specs.declared.load_state.LoadAnswer.TheVariants.{Pending, OutOfMemory, Found, Missing, Failed}
 use Rattle.desk_driver.specs.declared.load_state.LoadState.{LoadState}
@@ -36,6 +39,13 @@ module _ {K L : Type 0} where
   LoadRunsOut gives before load_state.Unstarted = (before ≡ load_state.Unstarted) × gives polled.OutOfMemory
   LoadRunsOut gives before (load_state.Started load) = IsLoadOpen before × gives polled.OutOfMemory
   LoadRunsOut gives before (load_state.Found credential) = ⊥
+
+  -- the answer is the credential that is kept, or one that the provider gives
+  abbrev pub IsAnswerGiven : (Polled (Option K) → Type 0) → LoadState K L → Answer K → Type 0
+  IsAnswerGiven gives (load_state.Found kept) given = given ≡ answer.Found kept
+  IsAnswerGiven gives l (answer.Found credential) = gives (polled.Ready (Some credential))
+  IsAnswerGiven gives l answer.Missing = gives (polled.Ready None)
+  IsAnswerGiven gives l (answer.Failed n) = (e : ErrorParts) × gives (polled.Failed e)
 
 -- what a provider means
 pub record ProviderMeaning (K L : Type 0) : Type 1 where

@@ -15,6 +15,12 @@ place-there [] i h = absurd (omega arith)
 place-there (x ∷ xs) zero h = refl
 place-there (x ∷ xs) (suc i) h = place-there xs i (omega arith)
 
+-- what stands there
+pub item-there : {A : Type 0} (xs : List A) (i : ℕ) → i < length xs → (x : A) × (slice_get xs i ≡ Some x)
+item-there [] i h = absurd (omega arith)
+item-there (x ∷ rest) zero h = (x, refl)
+item-there (x ∷ rest) (suc i) h = item-there rest i (omega arith)
+
 -- one more place in each of two lists
 pub both-more : {X Y : Type 0} (c : X) (xs : List X) (ys : List Y) (y : Y)
     → ((i : ℕ) → slice_get xs i ≡ option_map (λ _. c) (slice_get ys i)) → (i : ℕ)

@@ -1,7 +1,6 @@
 -- The steps of a poll, and the course that they make.
-use Rattle.std.proofs.Common.{◌≡◌, ◌++◌, ◌∷◌, [], List, refl, sym, ◌∙◌, ap, subst}
+use Rattle.std.proofs.Common.{◌≡◌, ◌++◌, ◌∷◌, [], List, refl, sym, subst}
 use Rattle.std.proofs.lemmas.List.{append-nil, append_assoc}
-use Rattle.wake_lock.specs.declared.CallId.{CallId}
 use Rattle.sequential_signer.specs.declared.grant_event.GrantEntry.{GrantEntry}
 use Rattle.sequential_signer.specs.declared.grant_event.GrantEvent.{GrantEvent}
 use Rattle.sequential_signer.specs.declared.grant_event.GrantReply.{GrantReply}
@@ -9,25 +8,12 @@ use Rattle.desk_driver.specs.CallAt.{LeavesOthers}
 use Rattle.grant_desk.specs.GrantDeskState.{GrantState, GrantRepresents}
 use Rattle.desk_parts.specs.Memory.{ClonesAreFree}
 use Rattle.grant_desk.specs.GrantSteps.{IsGrantStep, RunsOutAtBegins}
-use Rattle.granter.specs.Course.{PollEnd, PollRun, PolledCall, IsGiven, IsCourse, stops, ends, goes_on, StopsAt, EndsBy, state_after}
+use Rattle.desk_driver.proofs.CallSteps.{leaves-same, leaves-trans}
+use Rattle.granter.specs.Course.{PollEnd, PollRun, PolledCall, IsGiven, IsCourse, stops, ends, goes_on, StopsAt, EndsBy}
 use Rattle.granter.specs.IssuedBy.{IsStateIssued}
 use Rattle.granter.specs.StepOutcome.{StepChange, IsStepEnd, IsEndIssued, GoesOn, Ends}
 use Rattle.granter.specs.declared.grant.CallState.{CallState}
 use Rattle.granter.specs.declared.step_outcome.StepEnd.{StepEnd}
-
-module _ {K D : Type 0} where
-  pub leaves-self : (call : CallId) (desk : GrantState K D) → LeavesOthers call desk desk
-  leaves-self call desk = record { loaders = refl; rules = refl; handles = refl; greatest = refl; other_calls = λ other d. refl }
-
-  pub leaves-trans : {call : CallId} {old mid new : GrantState K D} → LeavesOthers call old mid
-      → LeavesOthers call mid new → LeavesOthers call old new
-  leaves-trans a b = record {
-    loaders = b.loaders ∙ a.loaders;
-    rules = b.rules ∙ a.rules;
-    handles = b.handles ∙ a.handles;
-    greatest = b.greatest ∙ a.greatest;
-    other_calls = λ other d. b.other_calls other d ∙ a.other_calls other d;
-  }
 
 module _ {K D L W : Type 0} (v : PolledCall K D L W) where
   -- a desk that represents a transcript represents it with the events of the course after it
@@ -50,7 +36,7 @@ module _ {K D L W : Type 0} (v : PolledCall K D L W) where
     course = subst (λ d. IsCourse v state d (record { entries = []; end = by }) change.new) (sym was) (subst (λ d. IsCourse v state desk (record { entries = []; end = by }) d) (sym is) (stops state desk by stop));
     ended = ended;
     issued = subst (λ d. IsEndIssued v d end) (sym is) issued;
-    others = subst (λ d. LeavesOthers v.begun.id d change.new) (sym was) (subst (λ d. LeavesOthers v.begun.id desk d) (sym is) (leaves-self v.begun.id desk));
+    others = subst (λ d. LeavesOthers v.begun.id d change.new) (sym was) (subst (λ d. LeavesOthers v.begun.id desk d) (sym is) (leaves-same refl));
   }
 
   -- a step whose event ends the poll
@@ -87,7 +73,7 @@ module _ {K D L W : Type 0} (v : PolledCall K D L W) where
   reached-start start old issued = record {
     entries = [];
     leads = λ run new course. course;
-    others = leaves-self v.begun.id old;
+    others = leaves-same refl;
     issued = issued;
   }
 

@@ -1,16 +1,13 @@
 -- What the steps of a call that a granter drives do to the call, and that they leave the others.
 use Rattle.std.specs.Duration.{as_nanos}
-use Rattle.std.proofs.Common.{◌≡◌, ◌⊎◌, inl, inr, nat_lt, option_and_then, ℕ, ℤ, ◌<◌, ◌+◌, true, false, Bool, cond, Option, Some, None, IsSome, is_some, IsSomeAnd, IfSome, IsTrue, option_map, slice_get, refl, sym, ◌∙◌, ap, subst, arith}
-use Rattle.std.proofs.lemmas.Bool.Decides.{nat_tests}
-use Rattle.wake_lock.specs.declared.CallId.{CallId}
+use Rattle.std.proofs.Common.{◌≡◌, ◌⊎◌, inl, inr, ℕ, ℤ, ◌<◌, ◌+◌, true, false, Bool, cond, Option, Some, None, IsSome, is_some, IfSome, IsTrue, option_map, slice_get, refl, sym, ◌∙◌, ap, subst}
 use Rattle.sequential_signer.specs.Policy.{Policy}
 use Rattle.sequential_signer.specs.Setup.{Handle}
-use Rattle.sequential_signer.specs.Lookup.{Outcome, HandOut, Refuse, cache_lookup, lookup_by, check_by, check_refreshed}
-use Rattle.sequential_signer.specs.SequentialCall.{Progress, Asking, Over, HoldInput, sequential_call, next_of_chain, found_progress, after_lookup, load_progress}
+use Rattle.sequential_signer.specs.Lookup.{HandOut, Refuse, check_refreshed}
+use Rattle.sequential_signer.specs.SequentialCall.{Progress, Asking, Over, sequential_call, found_progress}
 use Rattle.sequential_signer.specs.ExpectedGrantReply.{grant_why}
 use Rattle.sequential_signer.specs.declared.event.Answer.TheVariants.{Found, Missing, Failed}
 use Rattle.sequential_signer.specs.declared.event.Loader.{Loader}
-use Rattle.sequential_signer.specs.declared.event.Loader.TheVariants.{Single, Chain}
 use Rattle.sequential_signer.specs.declared.event.Why.{Why}
 use Rattle.sequential_signer.specs.declared.event.Why.TheVariants as why
 use Rattle.sequential_signer.specs.declared.grant_event.GrantEvent.TheVariants.{Poll, Provided, Granted, Cancel}
@@ -18,175 +15,41 @@ use Rattle.sequential_signer.specs.declared.grant_event.GrantReply.{GrantReply}
 use Rattle.sequential_signer.specs.declared.grant_event.GrantReply.TheVariants.{Refused, Given, Cancelled}
 use Rattle.sequential_signer.specs.declared.grant_event.GrantWhy.TheVariants as cause
 use Rattle.sequential_signer.specs.declared.grant_event.Made.TheVariants as made
-use Rattle.desk_parts.specs.Action.{as_viewed, Does, Allocates, end_effect}
-use Rattle.desk_driver.specs.CallAt.{record_of, IsAt, IsSigning, IsAsking, HasProvider, LeavesOthers}
-use Rattle.desk_parts.specs.Change.{ChangesOnlyCall, with_cached}
+use Rattle.desk_parts.specs.Action.{Does, Allocates, end_effect}
+use Rattle.desk_driver.specs.CallAt.{record_of, IsAt, IsSigning, IsAsking}
+use Rattle.desk_parts.specs.Change.{with_cached}
 use Rattle.desk_parts.specs.HoldProgress.{desk_lookup, desk_load, next_load, desk_look_input, with_answer}
 use Rattle.desk_parts.specs.LiveCallView.{stored_view, find_view}
 use Rattle.desk_parts.specs.Places.{provider_count}
-use Rattle.desk_parts.specs.Tables.{find_call}
 use Rattle.desk_parts.specs.declared.call_record.Stage.{Stage}
 use Rattle.desk_parts.specs.declared.call_record.Stage.TheVariants as stage
 use Rattle.desk_parts.specs.declared.tables.LiveCallView.{LiveCallView}
-use Rattle.desk_parts.proofs.ListPlaces.{place-there}
 use Rattle.desk_parts.proofs.Views.{find_view-is}
+use Rattle.desk_driver.specs.Causes.{is_of_look as by_look, is_of_check as by_check}
+use Rattle.desk_driver.proofs.CallSteps.{SameCalls, same-self, DeskStep, leaves, leaves-same, at, asks, for-places}
+use Rattle.desk_driver.proofs.Looks.{IsLook, IsFoundLoad, IsOtherLoad, look-is, check-found, next-other, some_load}
 use Rattle.grant_desk.specs.GrantAction.{GrantAction, GrantPerforms, GrantTransition, progress_action, look_action, grant_poll_action, grant_load_action, grant_provided_action, granted_action, live_grant_action}
-use Rattle.grant_desk.specs.GrantDeskState.{GrantState, GrantRecord}
+use Rattle.grant_desk.specs.GrantDeskState.{GrantState}
 use Rattle.grant_desk.specs.GrantPlaces.{IsGrantPlaced, GrantPrecondition}
 use Rattle.granter.specs.DeskReplies.{IsUnpolled, AfterPoll, AfterFound, AfterNone, AfterMade, is_of_look, is_of_check}
 use Rattle.granter.specs.ObjectPoll.{BegunCall}
 
--- a desk that differs in its caches alone
-record SameCalls {K D : Type 0} (old base : GrantState K D) : Type 0 where
-  loaders : base.loaders ≡ old.loaders
-  rules : base.rules ≡ old.rules
-  handles : base.handles ≡ old.handles
-  greatest : base.greatest ≡ old.greatest
-  calls : base.calls ≡ old.calls
+-- what a look and a check refuse for, in a granter's words
+look-refuses : (refused : Why) → IsTrue (by_look refused) → IsTrue (is_of_look (grant_why refused))
+look-refuses why.Missing h = refl
+look-refuses (why.Short d) h = absurd (cc)
+look-refuses why.Range h = refl
+look-refuses (why.Loader n) h = absurd (cc)
+look-refuses (why.Service n) h = absurd (cc)
 
-same-self : {K D : Type 0} (old : GrantState K D) → SameCalls old old
-same-self old = record { loaders = refl; rules = refl; handles = refl; greatest = refl; calls = refl }
-
--- how far a look gets
-abbrev IsLook : {K : Type 0} → Loader → Progress K → Type 0
-IsLook loader (Asking provider) = (provider ≡ 0) × (0 < provider_count loader)
-IsLook loader (Over (HandOut c) cache) = Unit {0}
-IsLook loader (Over (Refuse refused) cache) = IsTrue (is_of_look (grant_why refused))
-
--- how far a load gets by a source
-abbrev IsFoundLoad : {K : Type 0} → Progress K → Type 0
-IsFoundLoad (Asking provider) = ⊥
-IsFoundLoad (Over (HandOut c) cache) = Unit {0}
-IsFoundLoad (Over (Refuse refused) cache) = IsTrue (is_of_check (grant_why refused))
-
--- how far a load gets by an answer that is none
-abbrev IsOtherLoad : {K : Type 0} → Loader → ℕ → Why → Progress K → Type 0
-IsOtherLoad loader count refused (Asking provider) = (provider ≡ count) × (count < provider_count loader)
-IsOtherLoad loader count refused (Over (HandOut c) cache) = ⊥
-IsOtherLoad loader count refused (Over (Refuse other) cache) = (other ≡ why.Missing) ⊎ (other ≡ refused)
-
-module _ {K : Type 0} where
-  chain-look : (n : ℕ) (cache : Option K) → IsLook (Chain n) (next_of_chain n cache 0)
-  chain-look n cache = by_test (nat_lt 0 n) refl
-    where
-      by_test : (b : Bool) → nat_lt 0 n ≡ b
-          → IsLook (Chain n) (cond b (let p : Progress K = Asking 0 in p) (Over (Refuse why.Missing) cache))
-      by_test true e = (refl, grind (arith, nat_tests, e))
-      by_test false e = refl
-
-  after-look : (loader : Loader) (o : Option (Outcome K)) (cache : Option K) (p : Progress K)
-      → ((refused : Why) → o ≡ Some (Refuse refused) → IsTrue (is_of_look (grant_why refused)))
-      → IsLook loader p → IsLook loader (after_lookup o cache p)
-  after-look loader None cache p h q = q
-  after-look loader (Some (HandOut c)) cache p h q = tt
-  after-look loader (Some (Refuse refused)) cache p h q = h refused refl
-
-  load-look : (check : K → ℤ → Outcome K) (loader : Loader) (cache : Option K)
-      → IsLook loader (load_progress check loader cache 0 None)
-  load-look check Single cache = (refl, omega arith)
-  load-look check (Chain n) cache = chain-look n cache
-
-module _ {K D : Type 0} where
-  -- a look refuses for no other cause than a deadline out of range
-  lookup-refuses : (policy : Policy K D) (cache : Option K) (rule : D) (duration : Option ℕ) (now : ℤ)
-      (refused : Why) → cache_lookup policy cache rule duration now ≡ Some (Refuse refused)
-      → IsTrue (is_of_look (grant_why refused))
-  lookup-refuses policy None rule duration now refused e = absurd (cc)
-  lookup-refuses policy (Some c) rule duration now refused e = by_valid (policy.valid c now) (policy.deadline rule c duration now) e
-    where
-      by_lasts : (deadline : ℤ) (b : Bool)
-          → cond b (Some (let o : Outcome K = HandOut c in o)) None ≡ Some (Refuse refused)
-          → IsTrue (is_of_look (grant_why refused))
-      by_lasts deadline true e = absurd (cc)
-      by_lasts deadline false e = absurd (cc)
-
-      by_deadline : (d : Option ℤ) → lookup_by policy c now d ≡ Some (Refuse refused)
-          → IsTrue (is_of_look (grant_why refused))
-      by_deadline None e = let same : why.Range ≡ refused = cc in subst (λ w. IsTrue (is_of_look (grant_why w))) same refl
-      by_deadline (Some deadline) e = by_lasts deadline (policy.valid_at c deadline now) e
-
-      by_valid : (b : Bool) (d : Option ℤ) → cond b (lookup_by policy c now d) None ≡ Some (Refuse refused)
-          → IsTrue (is_of_look (grant_why refused))
-      by_valid true d e = by_deadline d e
-      by_valid false d e = absurd (cc)
-
-  look-is : (policy : Policy K D) (cached : Option K) (loader : Loader) (view : LiveCallView) (now : ℤ)
-      (rule : D) → IsLook loader (sequential_call policy cached loader (desk_look_input view now rule))
-  look-is policy cached loader view now rule =
-      let input : HoldInput K D = desk_look_input view now rule in
-      after-look loader (cache_lookup policy cached rule input.duration now) cached (load_progress (check_refreshed policy rule input.duration) loader cached 0 None)
-      (lookup-refuses policy cached rule input.duration now) (load-look (check_refreshed policy rule input.duration) loader cached)
-
-  check-found : (policy : Policy K D) (c : K) (now : ℤ) (d : Option ℤ)
-      → IsFoundLoad (found_progress (check_by policy c now d) None)
-  check-found policy c now None = refl
-  check-found policy c now (Some deadline) = by_lasts (policy.valid_at c deadline now)
-    where
-      by_lasts : (b : Bool)
-          → IsFoundLoad
-          (found_progress (cond b (let o : Outcome K = HandOut c in o) (Refuse (why.Short deadline))) None)
-      by_lasts true = tt
-      by_lasts false = refl
-
-module _ (K : Type 0) where
-  next-other : (loader : Loader) (count : ℕ) (refused : Why)
-      → IfSome (next_load {K = K} (Some loader) count refused) (IsOtherLoad loader count refused)
-  next-other Single count refused = inr refl
-  next-other (Chain n) count refused = by_test (nat_lt count n) refl
-    where
-      by_test : (b : Bool) → nat_lt count n ≡ b
-          → IsOtherLoad (Chain n) count refused
-          (cond b (let p : Progress K = Asking count in p) (Over (Refuse why.Missing) None))
-      by_test true e = (refl, grind (arith, nat_tests, e))
-      by_test false e = inl refl
-
--- what a step does to the call, and that it leaves the others
-pub record DeskStep {K D : Type 0} (call : CallId) (old new : GrantState K D) (After : Type 0) : Type 0 where
-  pub after : After
-  pub others : LeavesOthers call old new
-
-some_load : (K : Type 0) (loader : Loader) (count : ℕ) (refused : Why)
-    → is_some (next_load {K = K} (Some loader) count refused) ≡ true
-some_load K Single count refused = refl
-some_load K (Chain n) count refused = refl
+check-refuses : (refused : Why) → IsTrue (by_check refused) → IsTrue (is_of_check (grant_why refused))
+check-refuses why.Missing h = absurd (cc)
+check-refuses (why.Short d) h = refl
+check-refuses why.Range h = refl
+check-refuses (why.Loader n) h = absurd (cc)
+check-refuses (why.Service n) h = absurd (cc)
 
 module _ {K D : Type 0} (old new : GrantState K D) (reply : GrantReply K) (begun : BegunCall) where
-  leaves : (base : GrantState K D) → SameCalls old base → (live : Option GrantRecord)
-      → ChangesOnlyCall base begun.id live new → LeavesOthers begun.id old new
-  leaves base s live m = record {
-    loaders = m.loaders ∙ s.loaders;
-    rules = m.rules ∙ s.rules;
-    handles = m.handles ∙ s.handles;
-    greatest = m.greatest ∙ s.greatest;
-    other_calls = λ other d. m.other_calls other d ∙ ap (find_call other) s.calls;
-  }
-
-  leaves-same : new ≡ old → LeavesOthers begun.id old new
-  leaves-same e = record {
-    loaders = ap (λ (d : GrantState K D). d.loaders) e;
-    rules = ap (λ (d : GrantState K D). d.rules) e;
-    handles = ap (λ (d : GrantState K D). d.handles) e;
-    greatest = ap (λ (d : GrantState K D). d.greatest) e;
-    other_calls = λ other d. ap (λ (x : GrantState K D). find_call other x.calls) e;
-  }
-
-  provides : LeavesOthers begun.id old new → (handle provider : ℕ) → HasProvider old handle provider
-      → HasProvider new handle provider
-  provides l handle provider h =
-      subst (λ ls. IsSomeAnd (option_and_then (λ (x : Handle). slice_get ls x.cache) (slice_get new.handles handle)) (λ loader. provider < provider_count loader)) (sym l.loaders)
-      (subst (λ hs. IsSomeAnd (option_and_then (λ (x : Handle). slice_get old.loaders x.cache) (slice_get hs handle)) (λ loader. provider < provider_count loader)) (sym l.handles) h)
-
-  -- the call after an effect that leaves it live
-  at : (base : GrantState K D) → SameCalls old base → (s : Stage) (n : ℕ) → IsAt begun s n old
-      → (v : LiveCallView) → v.call ≡ begun.id
-      → ChangesOnlyCall base begun.id (option_map (as_viewed v) (find_call v.call base.calls)) new
-      → IsAt begun v.stage v.answers new
-  at base same s n found v named m =
-      m.this_call
-      ∙ ap (λ c. option_map (as_viewed v) (find_call c base.calls)) named
-      ∙ ap (λ calls. option_map (as_viewed v) (find_call begun.id calls)) same.calls
-      ∙ ap (option_map (as_viewed v)) found
-
   refuses-none : (provider : ℕ) (refused other : Why) → (other ≡ why.Missing) ⊎ (other ≡ refused)
       → AfterNone begun provider (grant_why refused) (let r : GrantReply K = Refused (grant_why other) in r)
       new
@@ -202,40 +65,28 @@ module _ {K D : Type 0} (old new : GrantState K D) (reply : GrantReply K) (begun
 
   module _ (h : Handle) (under : slice_get old.handles begun.id.handle ≡ Some h) (loader : Loader) (loads : slice_get old.loaders h.cache ≡ Some loader)
       (handed : K → GrantState K D) (same : (c : K) → SameCalls old (handed c)) (v : LiveCallView) (named : v.call ≡ begun.id) where
-    has : (provider : ℕ) → provider < provider_count loader → HasProvider old begun.id.handle provider
-    has provider b = rw (under, loads) b
-
-    asks : (s : Stage) (n : ℕ) → IsAt begun s n old
-        → ChangesOnlyCall old begun.id
-        (option_map (as_viewed (record v { stage = stage.Loading })) (find_call v.call old.calls)) new
-        → v.answers < provider_count loader → IsAsking begun v.answers new
-    asks s n found m few = (
-      at old (same-self old) s n found (record v { stage = stage.Loading }) named m,
-      provides (leaves old (same-self old) (option_map (as_viewed (record v { stage = stage.Loading })) (find_call v.call old.calls)) m) begun.id.handle v.answers (has v.answers few),
-    )
-
     looked : IsUnpolled begun old → v.answers ≡ 0 → (p : Progress K) → IsLook loader p
         → GrantPerforms (progress_action handed old v (Some p)) begun.id old reply new
         → DeskStep begun.id old new (AfterPoll begun reply new)
     looked found none (Asking provider) look m =
         let few : v.answers < provider_count loader = subst (λ n. n < provider_count loader) (sym none) look.1 in
-        let asking : IsAsking begun v.answers new = asks stage.Unpolled 0 found m.1 few in
+        let asking : IsAsking begun v.answers new = asks begun h under loader loads (same-self old) found (record v { stage = stage.Loading }) named refl m.1 few in
         let first : provider ≡ v.answers = look.0 ∙ sym none in
         record {
           after = subst (λ r. AfterPoll begun r new) (sym m.0) (look.0, subst (λ n. IsAsking begun n new) (sym first) asking);
-          others = leaves old (same-self old) (option_map (as_viewed (record v { stage = stage.Loading })) (find_call v.call old.calls)) m.1;
+          others = leaves (same-self old) m.1;
         }
     looked found none (Over (HandOut c) cache) look (inl m) = record {
-      after = subst (λ r. AfterPoll begun r new) (sym m.0) (v.answers, at (handed c) (same c) stage.Unpolled 0 found (record v { stage = stage.Signing }) named m.1);
-      others = leaves (handed c) (same c) (option_map (as_viewed (record v { stage = stage.Signing })) (find_call v.call (handed c).calls)) m.1;
+      after = subst (λ r. AfterPoll begun r new) (sym m.0) (v.answers, at begun (same c) found (record v { stage = stage.Signing }) named m.1);
+      others = leaves (same c) m.1;
     }
     looked found none (Over (HandOut c) cache) look (inr m) = record {
       after = subst (λ r. AfterPoll begun r new) (sym m.0) (subst (IsUnpolled begun) (sym m.1) found);
       others = leaves-same m.1;
     }
     looked found none (Over (Refuse refused) cache) look m = record {
-      after = subst (λ r. AfterPoll begun r new) (sym m.0) look;
-      others = leaves old (same-self old) None m.1;
+      after = subst (λ r. AfterPoll begun r new) (sym m.0) (look-refuses refused look);
+      others = leaves (same-self old) m.1;
     }
 
     found-load : (provider : ℕ) → IsAsking begun provider old → (p : Progress K) → IsFoundLoad p
@@ -243,16 +94,16 @@ module _ {K D : Type 0} (old new : GrantState K D) (reply : GrantReply K) (begun
         → DeskStep begun.id old new (AfterFound begun provider reply new)
     found-load provider asking (Asking k) load m = absurd load
     found-load provider asking (Over (HandOut c) cache) load (inl m) = record {
-      after = subst (λ r. AfterFound begun provider r new) (sym m.0) (v.answers, at (handed c) (same c) stage.Loading provider asking.0 (record v { stage = stage.Signing }) named m.1);
-      others = leaves (handed c) (same c) (option_map (as_viewed (record v { stage = stage.Signing })) (find_call v.call (handed c).calls)) m.1;
+      after = subst (λ r. AfterFound begun provider r new) (sym m.0) (v.answers, at begun (same c) asking.0 (record v { stage = stage.Signing }) named m.1);
+      others = leaves (same c) m.1;
     }
     found-load provider asking (Over (HandOut c) cache) load (inr m) = record {
       after = subst (λ r. AfterFound begun provider r new) (sym m.0) (subst (IsAsking begun provider) (sym m.1) asking);
       others = leaves-same m.1;
     }
     found-load provider asking (Over (Refuse refused) cache) load m = record {
-      after = subst (λ r. AfterFound begun provider r new) (sym m.0) load;
-      others = leaves old (same-self old) None m.1;
+      after = subst (λ r. AfterFound begun provider r new) (sym m.0) (check-refuses refused load);
+      others = leaves (same-self old) m.1;
     }
 
     none-load : (provider : ℕ) → IsAsking begun provider old → (refused : Why) → v.answers ≡ provider + 1
@@ -262,16 +113,16 @@ module _ {K D : Type 0} (old new : GrantState K D) (reply : GrantReply K) (begun
     none-load provider asking refused more None s load m = absurd (cc)
     none-load provider asking refused more (Some (Asking next)) s load m =
         let few : v.answers < provider_count loader = subst (λ n. n < provider_count loader) (sym more) load.1 in
-        let now_asking : IsAsking begun v.answers new = asks stage.Loading provider asking.0 m.1 few in
+        let now_asking : IsAsking begun v.answers new = asks begun h under loader loads (same-self old) asking.0 (record v { stage = stage.Loading }) named refl m.1 few in
         let at_next : next ≡ v.answers = load.0 ∙ sym more in
         record {
           after = subst (λ r. AfterNone begun provider (grant_why refused) r new) (sym m.0) (load.0, subst (λ n. IsAsking begun n new) (sym at_next) now_asking);
-          others = leaves old (same-self old) (option_map (as_viewed (record v { stage = stage.Loading })) (find_call v.call old.calls)) m.1;
+          others = leaves (same-self old) m.1;
         }
     none-load provider asking refused more (Some (Over (HandOut c) cache)) s load m = absurd load
     none-load provider asking refused more (Some (Over (Refuse other) cache)) s load m = record {
       after = subst (λ r. AfterNone begun provider (grant_why refused) r new) (sym m.0) (refuses-none provider refused other load);
-      others = leaves old (same-self old) None m.1;
+      others = leaves (same-self old) m.1;
     }
 
 module _ {K D : Type 0} (policy : Policy K D) (old new : GrantState K D) (reply : GrantReply K) (begun : BegunCall) (sound : GrantPrecondition old) (there : IsSome (slice_get old.handles begun.id.handle)) where
@@ -352,21 +203,11 @@ module _ {K D : Type 0} (policy : Policy K D) (old new : GrantState K D) (reply 
       → C
   by_places s n found C k = by_handle (slice_get old.handles begun.id.handle) refl there
     where
-      at_handle : (h : Handle) → slice_get old.handles begun.id.handle ≡ Some h → (l : Option Loader)
-          → slice_get old.loaders h.cache ≡ l → is_some l ≡ true → (c : Option (Option K))
-          → slice_get old.caches h.cache ≡ c → is_some c ≡ true → (r : Option D)
-          → slice_get old.rules h.rule ≡ r → is_some r ≡ true → C
-      at_handle h under None ls li c cs ci r rs ri = absurd (cc)
-      at_handle h under (Some l) ls li None cs ci r rs ri = absurd (cc)
-      at_handle h under (Some l) ls li (Some c) cs ci None rs ri = absurd (cc)
-      at_handle h under (Some l) ls li (Some c) cs ci (Some r) rs ri = k h under l ls c cs r rs
-
       by_handle : (o : Option Handle) → slice_get old.handles begun.id.handle ≡ o → is_some o ≡ true → C
       by_handle None under t = absurd (cc)
       by_handle (Some h) under t =
           let p : IsGrantPlaced old (stored_view begun.id h (record_of begun s n)) = subst (λ o. IfSome o (IsGrantPlaced old)) (find_view-is old begun.id h (record_of begun s n) under found) (sound.calls begun.id) in
-          at_handle h under (slice_get old.loaders h.cache) refl (place-there old.loaders h.cache p.loader) (slice_get old.caches h.cache) refl (place-there old.caches h.cache p.cached)
-          (slice_get old.rules h.rule) refl (place-there old.rules h.rule p.rules)
+          for-places old h p.loader p.cached p.rules C (k h under)
 
   pub after-poll : (now : ℤ) → IsUnpolled begun old → GrantTransition policy (Poll begun.id now) old reply new
       → DeskStep begun.id old new (AfterPoll begun reply new)
@@ -393,12 +234,12 @@ module _ {K D : Type 0} (policy : Policy K D) (old new : GrantState K D) (reply 
       (Does (end_effect old (Refused (cause.Stale now)))))
       begun.id old reply new
       → DeskStep begun.id old new (AfterMade begun now c reply new)
-  made_by now c granting true (inl m) = record { after = subst (λ r. AfterMade begun now c r new) (sym m.0) refl; others = leaves old new reply begun old (same-self old) None m.1 }
+  made_by now c granting true (inl m) = record { after = subst (λ r. AfterMade begun now c r new) (sym m.0) refl; others = leaves (same-self old) m.1 }
   made_by now c granting true (inr m) = record {
     after = subst (λ r. AfterMade begun now c r new) (sym m.0) (subst (IsSigning begun) (sym m.1) granting);
-    others = leaves-same old new reply begun m.1;
+    others = leaves-same m.1;
   }
-  made_by now c granting false m = record { after = subst (λ r. AfterMade begun now c r new) (sym m.0) refl; others = leaves old new reply begun old (same-self old) None m.1 }
+  made_by now c granting false m = record { after = subst (λ r. AfterMade begun now c r new) (sym m.0) refl; others = leaves (same-self old) m.1 }
 
   pub after-made : (now : ℤ) (c : K) → IsSigning begun old
       → GrantTransition policy (Granted begun.id now (made.Made c)) old reply new
@@ -414,7 +255,7 @@ module _ {K D : Type 0} (policy : Policy K D) (old new : GrantState K D) (reply 
       by_places stage.Signing granting.0 granting.1 (DeskStep begun.id old new (reply ≡ Refused (cause.Service e)))
       (λ h under l ls x cs r rs.
       let done = at_live (λ v. granted_action policy old now (made.Failed e) v.stage) h under stage.Signing granting.0 granting.1 m in
-      record { after = done.0; others = leaves old new reply begun old (same-self old) None done.1 })
+      record { after = done.0; others = leaves (same-self old) done.1 })
 
   pub after-cancel : (s : Stage) (n : ℕ) → IsAt begun s n old
       → GrantTransition policy (Cancel begun.id) old reply new → DeskStep begun.id old new (reply ≡ Cancelled)
@@ -422,4 +263,4 @@ module _ {K D : Type 0} (policy : Policy K D) (old new : GrantState K D) (reply 
       by_places s n found (DeskStep begun.id old new (reply ≡ Cancelled))
       (λ h under l ls x cs r rs.
       let done = at_live (λ v. Does (end_effect old Cancelled)) h under s n found m in
-      record { after = done.0; others = leaves old new reply begun old (same-self old) None done.1 })
+      record { after = done.0; others = leaves (same-self old) done.1 })

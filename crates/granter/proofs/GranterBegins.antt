@@ -10,12 +10,15 @@ use Rattle.granter.specs.DeskReplies.{IsBegun}
 use Rattle.granter.specs.IssuedBy.{IsStateIssued, IsGrantIssuedBy}
 use Rattle.granter.specs.GranterCalls.{Begins}
 use Rattle.granter.specs.GranterInvariant.{GranterState, IsGranter}
-use Rattle.granter.specs.GranterObjects.{Meanings, Objects, call_meaning, objects_of}
+use Rattle.granter.specs.GranterObjects.{Meanings, call_meaning, objects_of}
+use Rattle.desk_driver.specs.Objects.{Objects}
 use Rattle.granter.specs.ObjectPoll.{BegunCall}
 use Rattle.granter.specs.declared.grant.Grant.{Grant}
 use Rattle.granter.specs.declared.grant.CallState.TheVariants.{Waiting}
-use Rattle.granter.proofs.GranterOthers.{KeepsCall, differs, keeps-issued}
-use Rattle.granter.proofs.GranterSetup.{granter-desk, above-next, has-objects-at}
+use Rattle.desk_driver.proofs.CallNumbers.{above-next}
+use Rattle.desk_driver.proofs.KeptCalls.{KeepsCall, differs}
+use Rattle.granter.proofs.GranterOthers.{keeps-issued}
+use Rattle.granter.proofs.GranterSetup.{granter-desk, has-objects-at}
 
 module _ {P G K C L W : Type 0} (m : Meanings P G K C L W) (old : GranterState P G K C) (s : IsGranter old) (begun : BegunCall) (desk : GrantState K G) (b : IsBegun begun old.desk desk) where
   keeps-apart : (other : CallId) → (other ≡ begun.id → ⊥) → KeepsCall other old.desk desk

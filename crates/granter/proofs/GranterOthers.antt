@@ -1,16 +1,13 @@
 -- The states of other calls stay those that the granter issued.
-use Rattle.std.proofs.Common.{ap, ◌≡◌, ℕ, ◌<◌, Bool, true, false, Option, Some, None, IsSomeAnd, refl, sym, ◌∙◌, subst}
+use Rattle.std.proofs.Common.{ap, ◌≡◌, ℕ, Option, Some, None, IsSomeAnd, refl, sym, ◌∙◌, subst}
 use Rattle.wake_lock.specs.declared.CallId.{CallId}
-use Rattle.wake_lock.specs.Calls.{same_call}
-use Rattle.wake_lock.proofs.Calls.{same_call-eq}
-use Rattle.sequential_signer.specs.declared.event.Loader.{Loader}
 use Rattle.grant_desk.specs.GrantDeskState.{GrantState}
-use Rattle.desk_parts.specs.Tables.{find_call}
-use Rattle.desk_parts.specs.Places.{provider_count}
-use Rattle.desk_driver.specs.CallAt.{IsLive, HasProvider, loader_of, LeavesOthers}
+use Rattle.desk_driver.specs.CallAt.{IsLive, LeavesOthers}
+use Rattle.desk_driver.proofs.KeptCalls.{KeepsCall, keeps-other, keeps-provider}
 use Rattle.granter.specs.IssuedBy.{IsStateIssued, IsGrantIssuedBy}
 use Rattle.granter.specs.GranterInvariant.{GranterState}
-use Rattle.granter.specs.GranterObjects.{Meanings, Objects, CallMeaning, call_meaning, objects_of}
+use Rattle.granter.specs.GranterObjects.{Meanings, CallMeaning, call_meaning, objects_of}
+use Rattle.desk_driver.specs.Objects.{Objects}
 use Rattle.granter.specs.GranterCalls.{KeepsOthers, IsAnswerIssuedBy}
 use Rattle.granter.specs.Course.{IsAnswerIssued}
 use Rattle.granter.specs.declared.grant_poll.GrantPoll.{GrantPoll}
@@ -21,43 +18,11 @@ use Rattle.granter.specs.declared.grant.Grant.{Grant}
 use Rattle.granter.specs.declared.grant.CallState.{CallState}
 use Rattle.granter.specs.declared.grant.CallState.TheVariants.{Waiting, Loading, Granting}
 
--- names that differ are of two calls
-pub differs : (a b : CallId) → (b ≡ a → ⊥) → same_call a b ≡ false
-differs a b apart = by_test (same_call a b) refl
-  where
-    by_test : (t : Bool) → same_call a b ≡ t → t ≡ false
-    by_test false e = refl
-    by_test true e = absurd (apart (sym (same_call-eq a b e)))
-
--- the setup and the record of this call stay
-pub record KeepsCall {K D : Type 0} (call : CallId) (old new : GrantState K D) : Type 0 where
-  pub loaders : new.loaders ≡ old.loaders
-  pub rules : new.rules ≡ old.rules
-  pub handles : new.handles ≡ old.handles
-  pub record_is : find_call call new.calls ≡ find_call call old.calls
-
-pub keeps-other : {K D : Type 0} (call other : CallId) (old new : GrantState K D) → LeavesOthers call old new
-    → (other ≡ call → ⊥) → KeepsCall other old new
-keeps-other call other old new l apart = record {
-  loaders = l.loaders;
-  rules = l.rules;
-  handles = l.handles;
-  record_is = l.other_calls other (differs call other apart);
-}
-
 module _ {K D : Type 0} (old new : GrantState K D) where
-  keeps-loader : (call : CallId) → KeepsCall call old new → (handle : ℕ)
-      → loader_of new handle ≡ loader_of old handle
-  keeps-loader call k handle = rw (k.handles, k.loaders) refl
-
-  keeps-provider : (call : CallId) → KeepsCall call old new → (handle provider : ℕ)
-      → HasProvider old handle provider → HasProvider new handle provider
-  keeps-provider call k handle provider h = subst (λ o. IsSomeAnd o (λ (l : Loader). provider < provider_count l)) (sym (keeps-loader call k handle)) h
-
   pub keeps-state : {L W : Type 0} (m : CallMeaning K L W) (begun : BegunCall) → KeepsCall begun.id old new
       → (state : CallState K L W) → IsStateIssued m begun old state → IsStateIssued m begun new state
   keeps-state m begun k Waiting h = k.record_is ∙ h
-  keeps-state m begun k (Loading provider l) h = ((k.record_is ∙ h.0.0, keeps-provider begun.id k begun.id.handle provider h.0.1), h.1)
+  keeps-state m begun k (Loading provider l) h = ((k.record_is ∙ h.0.0, keeps-provider old new begun.id k begun.id.handle provider h.0.1), h.1)
   keeps-state m begun k (Granting source w) h = ((h.0.0, k.record_is ∙ h.0.1), h.1)
 
 -- a call whose state was issued is live
@@ -110,4 +75,4 @@ module _ {P G K C L W : Type 0} (m : Meanings P G K C L W) where
   pub keeps-others : (call : CallId) (old : GranterState P G K C) (desk : GrantState K G)
       → LeavesOthers call old.desk desk
       → KeepsOthers m call (record { old = old; new = record old { desk = desk } })
-  keeps-others call old desk l other apart issued = keeps-issued old desk other (keeps-other call other.begun.id old.desk desk l apart) issued
+  keeps-others call old desk l other apart issued = keeps-issued old desk other (keeps-other old.desk desk call other.begun.id l apart) issued

@@ -3,7 +3,8 @@ use Rattle.std.proofs.Common.{◌≡◌, ℕ, Option, Some, None, IsSome, IsSome
 use Rattle.credentials.specs.declared.polled.Polled.{Polled}
 use Rattle.desk_driver.specs.LoadAnswer.{IsLoadKept, IsLoadPending, LoadRunsOut}
 use Rattle.granter.specs.IssuedBy.{IsLoadMade}
-use Rattle.granter.specs.GranterObjects.{Meanings, Objects, call_meaning}
+use Rattle.granter.specs.GranterObjects.{Meanings, call_meaning}
+use Rattle.desk_driver.specs.Objects.{Objects}
 use Rattle.desk_driver.specs.ProviderList.{provider_at}
 use Rattle.granter.specs.ObjectPoll.{BegunCall}
 use Rattle.desk_driver.specs.declared.load_state.LoadState.{LoadState}

@@ -1,12 +1,8 @@
 -- A poll that has come to its end, as its caller sees it; and that a poll comes to an end.
-use Rattle.std.proofs.Common.{◌≡◌, ℕ, ◌<◌, ◌-◌, zero, suc, Some, IsSome, IsSomeAnd, refl, subst, arith}
-use Rattle.credentials.specs.declared.providers.Providers.{Providers}
-use Rattle.credentials.specs.declared.providers.Providers.TheVariants as providers
+use Rattle.std.proofs.Common.{◌≡◌, ℕ, ◌<◌, ◌-◌, suc, Some, IsSomeAnd, refl, subst, arith}
 use Rattle.sequential_signer.specs.declared.event.Loader.{Loader}
 use Rattle.desk_driver.specs.CallAt.{HasProvider, loader_of}
 use Rattle.desk_parts.specs.Places.{provider_count}
-use Rattle.desk_driver.specs.ProviderList.{loader_for, provider_at}
-use Rattle.desk_parts.proofs.ListPlaces.{place-there}
 use Rattle.grant_desk.specs.GrantDeskState.{GrantState}
 use Rattle.granter.specs.Course.{PollEnd, Pends, Gives, Refuses, RunsOut, PolledCall, IsDriven, IsEnd, IsAnswerIssued}
 use Rattle.granter.specs.IssuedBy.{IsStateIssued}
@@ -79,10 +75,3 @@ module _ {K D L W : Type 0} (v : PolledCall K D L W) (desk : GrantState K D) (lo
       omega (arith, later, h)
   fewer (Loading provider l) (Granting source w) new later = omega arith
   fewer (Granting source w) next new later = absurd later
-
--- a provider that the loader counts is there
-pub provider-there : {P : Type 0} (p : Providers P) (number : ℕ) → number < provider_count (loader_for p)
-    → IsSome (provider_at p number)
-provider-there (providers.Single provider) zero h = refl
-provider-there (providers.Single provider) (suc n) h = absurd (omega arith)
-provider-there (providers.Chain chain) number h = place-there chain number h

@@ -1,31 +1,18 @@
 -- A poll that is under way: from its beginning to each of its steps, and to its end.
-use Rattle.std.proofs.Common.{◌≡◌, ℕ, ◌<◌, Some, IsSome, refl, sym, ◌∙◌, subst}
-use Rattle.wake_lock.specs.declared.CallId.{CallId}
-use Rattle.desk_driver.specs.CallAt.{loader_of, LeavesOthers}
+use Rattle.std.proofs.Common.{◌≡◌, ◌<◌, Some, IsSome, refl, sym, ◌∙◌, subst}
+use Rattle.desk_driver.specs.CallAt.{loader_of, service_of}
 use Rattle.desk_driver.specs.ProviderList.{loader_for}
 use Rattle.grant_desk.specs.GrantDeskState.{GrantState}
 use Rattle.granter.specs.PollContext.{PollContext, call_with, IsService, IsIssuedFor, IsOutcomeWith, IsDrivenFrom}
-use Rattle.granter.specs.GranterObjects.{service_of}
 use Rattle.granter.specs.StepOutcome.{StepChange, IsStepOutcome, GoesOn, Ends, answer_by}
 use Rattle.granter.specs.declared.grant.CallState.{CallState}
 use Rattle.granter.specs.declared.step_outcome.StepEnd.{StepEnd}
 use Rattle.granter.specs.declared.step_outcome.StepFlow.{StepFlow}
 use Rattle.granter.specs.declared.step_outcome.StepFlow.TheVariants.{On, Over}
+use Rattle.desk_driver.proofs.CallSteps.{SameObjects, leaves-objects}
 use Rattle.granter.proofs.ObjectMeanings.{for-service}
 use Rattle.granter.proofs.PollEnds.{driven, steps_left, fewer}
 use Rattle.granter.proofs.CourseOfSteps.{PollPlace, Reached, reached-start, reached-on, reached-end}
-
--- where the service and the loader of a handle are those before
-pub record SameObjects {K G : Type 0} (handle : ℕ) (old new : GrantState K G) : Type 0 where
-  pub service : service_of new handle ≡ service_of old handle
-  pub loader : loader_of new handle ≡ loader_of old handle
-
-pub leaves-objects : {K G : Type 0} (old new : GrantState K G) {call : CallId} → LeavesOthers call old new
-    → (handle : ℕ) → SameObjects handle old new
-leaves-objects old new l handle = record {
-  service = rw (l.handles, l.rules) refl;
-  loader = rw (l.handles, l.loaders) refl;
-}
 
 module _ {P G K C L W : Type 0} (d : PollContext P G K C L W) (start : PollPlace K G L W) where
   -- the poll has come to this place
@@ -63,7 +50,7 @@ module _ {P G K C L W : Type 0} (d : PollContext P G K C L W) (start : PollPlace
           (λ one is. record {
             reached = λ service is'. reached-on (call_with d service) start.state start.desk place (u.reached service is') change refl next (goes service is');
             objects =
-                let o = leaves-objects place.desk new (goes one is).others d.begun.id.handle in
+                let o = leaves-objects (goes one is).others d.begun.id.handle in
                 record { service = o.service ∙ u.objects.service; loader = o.loader ∙ u.objects.loader };
           })
 
@@ -78,7 +65,7 @@ module _ {P G K C L W : Type 0} (d : PollContext P G K C L W) (start : PollPlace
           for-service (service_of start.desk d.begun.id.handle) (steps_left (loader_for d.objects.providers.now) next < steps_left (loader_for d.objects.providers.now) place.state) there
           (λ service is.
           let goes : GoesOn (call_with d service) place.state change next = subst (IsStepOutcome (call_with d service) place.state change) is_on (step service (still service is)) in
-          let o = leaves-objects place.desk new goes.others d.begun.id.handle in
+          let o = leaves-objects goes.others d.begun.id.handle in
           fewer (call_with d service) new (loader_for d.objects.providers.now) (o.loader ∙ u.objects.loader ∙ loads) place.state next goes.issued goes.later)
 
       pub invariant-end : (flow : StepFlow K L W) (end : StepEnd K L W) → flow ≡ Over end

@@ -1,5 +1,5 @@
 -- What a step of a poll is, by the reply of the desk or by what an object answered.
-use Rattle.std.proofs.Common.{◌≡◌, ℕ, Option, Some, None, IsTrue, refl, ap}
+use Rattle.std.proofs.Common.{◌≡◌, ℕ, Some, None, IsTrue, refl, ap}
 use Rattle.sign_base.specs.Error.{ErrorParts}
 use Rattle.credentials.specs.declared.polled.Polled.{Polled}
 use Rattle.credentials.specs.declared.polled.Polled.TheVariants as polled
@@ -18,7 +18,7 @@ use Rattle.desk_driver.specs.declared.load_state.LoadState.TheVariants as load
 use Rattle.desk_parts.specs.Memory.{ClonesAreFree}
 use Rattle.grant_desk.specs.GrantSteps.{IsGrantStep, RunsOutAtBegins}
 use Rattle.granter.specs.DeskReplies.{IsUnpolled, AfterPoll, AfterFound, AfterNone, AfterMade, is_of_look, is_of_check}
-use Rattle.granter.specs.Course.{PolledCall, Pends, Gives, Refuses, RunsOut, IsAnswerGiven, IsMadeGiven, IsRefusal}
+use Rattle.granter.specs.Course.{PolledCall, Pends, Gives, Refuses, RunsOut, IsMadeGiven, IsRefusal}
 use Rattle.granter.specs.IssuedBy.{IsLoadMade, IsWorkMade}
 use Rattle.granter.specs.ObjectAnswer.{IsWorkPending, KeepsWork, IsWorkOpen, WorkRunsOut}
 use Rattle.granter.specs.StepOutcome.{StepChange, IsStepOutcome, Ends}
@@ -28,26 +28,8 @@ use Rattle.granter.specs.declared.grant.WorkState.{WorkState}
 use Rattle.granter.specs.declared.grant.WorkState.TheVariants as work
 use Rattle.granter.specs.declared.refusal.GrantRefusal.TheVariants as refusal
 use Rattle.granter.specs.declared.step_outcome.StepEnd.TheVariants as end
+use Rattle.desk_driver.proofs.LoadAnswers.{found-given, missing-given, failed-given}
 use Rattle.granter.proofs.CourseOfSteps.{ends-without, ends-by}
-
-module _ {K L : Type 0} (gives : Polled (Option K) → Type 0) where
-  found-given : (l : LoadState K L) (found : K) → gives (polled.Ready (Some found))
-      → KeepsLoad l (load.Found found) → IsAnswerGiven gives l (Found found)
-  found-given load.Unstarted found h keeps = h
-  found-given (load.Started x) found h keeps = h
-  found-given (load.Found kept) found h keeps = let same : found ≡ kept = cc in ap Found same
-
-  missing-given : (l : LoadState K L) → gives (polled.Ready None) → IsLoadOpen l
-      → IsAnswerGiven gives l Missing
-  missing-given load.Unstarted h unanswered = h
-  missing-given (load.Started x) h unanswered = h
-  missing-given (load.Found kept) h unanswered = absurd unanswered
-
-  failed-given : (l : LoadState K L) (n : ℕ) (e : ErrorParts) → gives (polled.Failed e) → IsLoadOpen l
-      → IsAnswerGiven gives l (Failed n)
-  failed-given load.Unstarted n e h unanswered = (e, h)
-  failed-given (load.Started x) n e h unanswered = (e, h)
-  failed-given (load.Found kept) n e h unanswered = absurd unanswered
 
 module _ {K W : Type 0} (gives : Polled K → Type 0) where
   made-given : (w : WorkState K W) (credential : K) → gives (polled.Ready credential)

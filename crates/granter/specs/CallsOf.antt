@@ -1,5 +1,6 @@
 -- The states of all calls of a granter, kept by the numbers of the calls.
-use Rattle.std.specs.Prelude.{◌≡◌, ℕ, List, length, Option, Some, None, slice_get}
+use Rattle.std.specs.Prelude.{List, Option, Some, None}
+use Rattle.desk_driver.specs.NumberedCalls.{AreNumbered}
 use Rattle.granter.specs.GranterInvariant.{GranterState}
 use Rattle.granter.specs.GranterObjects.{Meanings}
 use Rattle.granter.specs.IssuedBy.{IsGrantIssuedBy}
@@ -16,8 +17,7 @@ module _ {P G K C L W : Type 0} where
 
   -- there are as many as were begun, and a state stands at the number of its call
   -- and was issued by this granter
-  pub record AreCallsOf (m : Meanings P G K C L W) (granter : GranterState P G K C)
-      (calls : List (Option (Grant P G K C L C W K))) : Type 0 where
-    pub begun : length calls ≡ granter.begun
-    pub at : (n : ℕ) (grant : Grant P G K C L C W K) → slice_get calls n ≡ Some (Some grant)
-        → (grant.begun.id.number ≡ n) × IsGrantIssuedBy m granter grant
+  abbrev pub AreCallsOf : Meanings P G K C L W → GranterState P G K C
+      → List (Option (Grant P G K C L C W K)) → Type 0
+  AreCallsOf m granter calls =
+      AreNumbered (λ (grant : Grant P G K C L C W K). grant.begun.id) (IsGrantIssuedBy m granter) granter.begun calls

@@ -4,8 +4,7 @@ use Rattle.sign_base.specs.Error.{ErrorParts}
 use Rattle.credentials.specs.declared.polled.Polled.{Polled}
 use Rattle.credentials.specs.declared.polled.Polled.TheVariants as polled
 use Rattle.sequential_signer.specs.Policy.{Policy}
-use Rattle.sequential_signer.specs.declared.event.Answer.{Answer}
-use Rattle.sequential_signer.specs.declared.event.Answer.TheVariants.{Found, Missing, Failed}
+use Rattle.sequential_signer.specs.declared.event.Answer.TheVariants.{Found}
 use Rattle.sequential_signer.specs.declared.grant_event.GrantEntry.{GrantEntry}
 use Rattle.sequential_signer.specs.declared.grant_event.GrantEvent.{GrantEvent}
 use Rattle.sequential_signer.specs.declared.grant_event.GrantEvent.TheVariants.{Poll, Provided, Granted}
@@ -16,13 +15,13 @@ use Rattle.sequential_signer.specs.declared.grant_event.GrantWhy.TheVariants as 
 use Rattle.sequential_signer.specs.declared.grant_event.Made.{Made}
 use Rattle.sequential_signer.specs.declared.grant_event.Made.TheVariants as made
 use Rattle.desk_driver.specs.CallAt.{LeavesOthers}
-use Rattle.desk_driver.specs.LoadAnswer.{IsLoadPending, LoadRunsOut}
-use Rattle.desk_driver.specs.declared.load_state.LoadState.{LoadState}
+use Rattle.desk_driver.specs.LoadAnswer.{IsLoadPending, LoadRunsOut, IsAnswerGiven}
 use Rattle.desk_driver.specs.declared.load_state.LoadState.TheVariants as load
 use Rattle.grant_desk.specs.GrantDeskState.{GrantState, GrantRepresents}
 use Rattle.desk_parts.specs.Memory.{ClonesAreFree}
 use Rattle.grant_desk.specs.GrantSteps.{IsGrantStep, RunsOutAtBegins}
-use Rattle.granter.specs.GranterObjects.{Meanings, Objects, CallMeaning, call_meaning}
+use Rattle.granter.specs.GranterObjects.{Meanings, CallMeaning, call_meaning}
+use Rattle.desk_driver.specs.Objects.{Objects}
 use Rattle.granter.specs.IssuedBy.{IsStateIssued}
 use Rattle.granter.specs.ObjectAnswer.{IsWorkPending, IsWorkOpen, WorkRunsOut}
 use Rattle.granter.specs.ObjectPoll.{BegunCall}
@@ -59,13 +58,6 @@ pub record PolledCall (K D L W : Type 0) : Type 1 where
   pub meaning : CallMeaning K L W
   pub begun : BegunCall
   pub now : ℤ
-
--- the answer is the source that is kept, or one that the provider gives
-abbrev pub IsAnswerGiven : {K L : Type 0} → (Polled (Option K) → Type 0) → LoadState K L → Answer K → Type 0
-IsAnswerGiven gives (load.Found kept) given = given ≡ Found kept
-IsAnswerGiven gives l (Found source) = gives (polled.Ready (Some source))
-IsAnswerGiven gives l Missing = gives (polled.Ready None)
-IsAnswerGiven gives l (Failed n) = (e : ErrorParts) × gives (polled.Failed e)
 
 -- the answer is the credential that is kept, or one that the service gives
 abbrev pub IsMadeGiven : {K W : Type 0} → (Polled K → Type 0) → WorkState K W → Made K → Type 0

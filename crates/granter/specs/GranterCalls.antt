@@ -1,5 +1,5 @@
 -- What the calls of a granter do.
-use Rattle.std.specs.Prelude.{◌≡◌, ◌⊎◌, ℕ, List, [], ◌+◌, codes}
+use Rattle.std.specs.Prelude.{◌≡◌, ◌⊎◌, ℕ, [], ◌+◌}
 use Rattle.sign_base.specs.Error.{ErrorParts, new_error}
 use Rattle.sign_base.specs.declared.error_kind.ErrorKind.TheVariants.{RequestInvalid, OutOfMemory}
 use Rattle.wake_lock.specs.declared.CallId.{CallId}
@@ -13,10 +13,7 @@ use Rattle.granter.specs.IssuedBy.{IsGrantIssuedBy}
 use Rattle.granter.specs.declared.grant.Grant.{Grant}
 use Rattle.granter.specs.declared.grant_poll.GrantPoll.{GrantPoll}
 use Rattle.granter.specs.declared.grant_poll.GrantPoll.TheVariants as answer
-
--- all call numbers are used up
-abbrev pub used_up : List ℕ
-used_up = codes "call numbers are used up"
+use Rattle.desk_driver.specs.CallNumbers.{used_up}
 
 -- why no call is begun: an allocation failed, or there is no further number
 abbrev pub RefusesToBegin : ℕ → ErrorParts → Type 0

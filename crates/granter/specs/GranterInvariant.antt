@@ -1,11 +1,11 @@
 -- What a granter keeps, and what holds of every granter.
-use Rattle.std.specs.Prelude.{◌≡◌, ℕ, ◌<◌, ◌≤◌, ◌++◌, List, [], ◌∷◌, Option, Bool, true, ◌&&◌, length, option_map, option_and_then, slice_get, IfSome}
+use Rattle.std.specs.Prelude.{◌≡◌, ℕ, ◌<◌, ◌≤◌, ◌++◌, List, [], ◌∷◌, Option, true, length, option_map, option_and_then, slice_get, IfSome}
 use Rattle.credentials.specs.declared.providers.Providers.{Providers}
-use Rattle.sequential_signer.specs.LiveCall.{is_above}
 use Rattle.sequential_signer.specs.Setup.{Handle}
 use Rattle.sequential_signer.specs.declared.event.Loader.{Loader}
 use Rattle.sequential_signer.specs.Policy.{Policy}
 use Rattle.desk_parts.specs.Adding.{with_rule, with_handle}
+use Rattle.desk_driver.specs.CallNumbers.{is_above_all}
 use Rattle.desk_driver.specs.ProviderList.{loader_for, AreFew}
 use Rattle.desk_parts.specs.WellFormedSetup.{IsWellFormedSetup}
 use Rattle.desk_parts.specs.Tables.{setup_of}
@@ -20,11 +20,6 @@ pub record GranterState (P G K C : Type 0) : Type 0 where
   pub contexts : List C
   pub context_places : List ℕ
   pub begun : ℕ
-
--- whether the number is above each of these, where there is one
-abbrev pub is_above_all : ℕ → List (Option ℕ) → Bool
-is_above_all n [] = true
-is_above_all n (x ∷ rest) = is_above n x && is_above_all n rest
 
 -- the providers of a cache
 abbrev pub providers_of : {P G K C : Type 0} → GranterState P G K C → ℕ → Option (Providers P)

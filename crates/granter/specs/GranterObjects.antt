@@ -1,12 +1,12 @@
 -- The objects of a granter: what its providers and services mean, and which of them a call works with.
-use Rattle.std.specs.Prelude.{ℕ, Option, Some, None, IsSomeAnd, option_and_then, slice_get}
+use Rattle.std.specs.Prelude.{ℕ, Option, IsSomeAnd, option_and_then, slice_get}
 use Rattle.credentials.specs.declared.grant.GrantCredential as GrantCredential
 use Rattle.credentials.specs.declared.polled.Polled.{Polled}
 use Rattle.credentials.specs.declared.provide.ProvideCredential as ProvideCredential
-use Rattle.credentials.specs.declared.providers.Providers.{Providers}
 use Rattle.credentials.specs.Operation.{Operation}
+use Rattle.desk_driver.specs.CallAt.{service_of}
+use Rattle.desk_driver.specs.Objects.{Objects, objects_by}
 use Rattle.desk_driver.specs.ProviderList.{provider_at}
-use Rattle.grant_desk.specs.GrantDeskState.{GrantState}
 use Rattle.granter.specs.GranterInvariant.{GranterState, providers_of}
 use Rattle.granter.specs.ObjectPoll.{BegunCall, operation_of}
 use Rattle.granter.specs.declared.call_objects.CallObjects.{CallObjects}
@@ -31,22 +31,6 @@ meanings_of provider service = record {
   work_ready = service.ready;
   work_gives = service.gives;
 }
-
--- the objects that a call works with: those of its handle
-pub record Objects (P G C : Type 0) : Type 0 where
-  pub providers : Providers P
-  pub ctx : C
-  pub service : G
-
--- the objects, where each is there
-abbrev pub objects_by : {P G C : Type 0} → Option (Providers P) → Option C → Option G → Option (Objects P G C)
-objects_by (Some providers) (Some ctx) (Some service) =
-    Some (record { providers = providers; ctx = ctx; service = service })
-objects_by providers ctx service = None
-
--- the service of a handle
-abbrev pub service_of : {K G : Type 0} → GrantState K G → ℕ → Option G
-service_of desk handle = option_and_then (λ h. slice_get desk.rules h.rule) (slice_get desk.handles handle)
 
 -- the objects of a handle
 abbrev pub objects_of : {P G K C : Type 0} → GranterState P G K C → ℕ → Option (Objects P G C)

@@ -3,6 +3,7 @@ pub mod GranterInvariant
 pub mod ObjectAnswer
 pub mod ObjectPoll
 pub mod GranterObjects
+pub mod GranterView
 pub mod IssuedBy
 pub mod Course
 pub mod StepOutcome

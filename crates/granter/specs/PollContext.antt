@@ -1,9 +1,14 @@
 -- A call that is polled with the objects of a granter.
 use Rattle.std.specs.Prelude.{◌≡◌, ℤ, Some}
-use Rattle.sequential_signer.specs.Policy.{Policy}
+use Rattle.sequential_signer.specs.Policy.{Policy, policy_of}
+use Rattle.credentials.specs.declared.credential.SigningCredential as SigningCredential
+use Rattle.credentials.specs.declared.provide.ProvideCredential as ProvideCredential
+use Rattle.credentials.specs.declared.rule.DeadlineRule as DeadlineRule
+use Rattle.credentials.specs.declared.grant.GrantCredential as GrantCredential
 use Rattle.grant_desk.specs.GrantDeskState.{GrantState}
 use Rattle.granter.specs.Course.{PolledCall, polled_call, IsDriven}
-use Rattle.granter.specs.GranterObjects.{Meanings, service_of, with_service, call_meaning}
+use Rattle.granter.specs.GranterObjects.{Meanings, meanings_of, with_service, call_meaning}
+use Rattle.desk_driver.specs.CallAt.{service_of}
 use Rattle.granter.specs.IssuedBy.{IsStateIssued}
 use Rattle.granter.specs.ObjectPoll.{BegunCall}
 use Rattle.granter.specs.StepOutcome.{StepChange, IsStepOutcome}
@@ -20,6 +25,19 @@ pub record PollContext (P G K C L W : Type 0) : Type 1 where
   pub objects : CallObjects P C
   pub begun : BegunCall
   pub now : ℤ
+
+-- the same by what its credentials, its providers, its rule and its services mean
+abbrev pub poll_context : {P G K C L W : Type 0} → SigningCredential.Ghosts K
+    → ProvideCredential.Ghosts P K C L → DeadlineRule.Ghosts G K → GrantCredential.Ghosts G C W K
+    → CallObjects P C → BegunCall → ℤ → PollContext P G K C L W
+poll_context credentials providers rule services objects begun now = record {
+  policy = policy_of credentials.valid credentials.valid_at rule.deadline;
+  clones_freely = credentials.clones_freely;
+  meanings = meanings_of providers services;
+  objects = objects;
+  begun = begun;
+  now = now;
+}
 
 module _ {P G K C L W : Type 0} (d : PollContext P G K C L W) where
   -- the call with this service

@@ -1,10 +1,8 @@
 //! One poll of a call: steps, one after another, as far as its objects answer now.
 ghost use Rattle.std.specs.Prelude.{◌≡◌, Some, IsSome};
-ghost use Rattle.sequential_signer.specs.Policy.{policy_of};
-ghost use Rattle.desk_driver.specs.CallAt.{loader_of};
+ghost use Rattle.desk_driver.specs.CallAt.{loader_of, service_of};
 ghost use Rattle.desk_driver.specs.ProviderList.{loader_for};
-ghost use Rattle.granter.specs.PollContext.{IsIssuedFor, IsDrivenFrom};
-ghost use Rattle.granter.specs.GranterObjects.{meanings_of, service_of};
+ghost use Rattle.granter.specs.PollContext.{poll_context, IsIssuedFor, IsDrivenFrom};
 ghost use Rattle.granter.specs.StepOutcome.{answer_by};
 
 use crate::call_objects::CallObjects;
@@ -30,22 +28,10 @@ where
     G: GrantCredential<Credential = P::Credential, Ctx = P::Ctx>,
     requires there { IsSome (service_of desk.old grant.begun.id.handle) }
     requires loads { loader_of desk.old grant.begun.id.handle ≡ Some (loader_for objects.now.providers.now) }
-    requires issued { IsIssuedFor (record {
-      policy = policy_of P.Credential.valid P.Credential.valid_at G.deadline;
-      clones_freely = P.Credential.clones_freely;
-      meanings = meanings_of P.ProvideCredential G.GrantCredential.own;
-      objects = objects.now;
-      begun = grant.begun;
-      now = now;
-    }) desk.old grant.state }
-    ensures { IsDrivenFrom (record {
-      policy = policy_of P.Credential.valid P.Credential.valid_at G.deadline;
-      clones_freely = P.Credential.clones_freely;
-      meanings = meanings_of P.ProvideCredential G.GrantCredential.own;
-      objects = objects.now;
-      begun = grant.begun;
-      now = now;
-    }) grant.state desk.old desk.new result }
+    requires issued { IsIssuedFor (poll_context P.Credential.SigningCredential P.ProvideCredential
+        G.DeadlineRule G.GrantCredential.own objects.now grant.begun now) desk.old grant.state }
+    ensures { IsDrivenFrom (poll_context P.Credential.SigningCredential P.ProvideCredential
+        G.DeadlineRule G.GrantCredential.own objects.now grant.begun now) grant.state desk.old desk.new result }
 {
     let Grant { begun, mut state } = grant;
     loop {

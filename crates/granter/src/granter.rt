@@ -14,7 +14,8 @@ ghost use Rattle.granter.specs.Course.{IsGrantPoll, polled_call};
 ghost use Rattle.granter.specs.IssuedBy.{IsGrantIssuedBy};
 ghost use Rattle.granter.specs.GranterCalls.{Begins, RefusesToBegin, KeepsOthers, IsAnswerIssuedBy};
 ghost use Rattle.granter.specs.GranterInvariant.{IsNewGranter, with_context_handle, with_service_handle, with_cache_handle};
-ghost use Rattle.granter.specs.GranterObjects.{Objects, meanings_of, objects_of};
+ghost use Rattle.granter.specs.GranterObjects.{meanings_of, objects_of};
+ghost use Rattle.desk_driver.specs.Objects.{Objects};
 
 use crate::call_objects::CallObjects;
 use crate::drive::{begin_call, cancel_call};
@@ -62,26 +63,13 @@ where
     G: GrantCredential<Credential = P::Credential, Ctx = P::Ctx>,
 {
     ghost use Rattle.granter.specs.GranterInvariant.{GranterState, IsGranter};
+    ghost use Rattle.granter.specs.GranterView.{granter_view};
 
     ghost Value = { GranterState P G P.Credential P.Ctx };
 
-    ghost view = { λ s. record {
-      desk = s.desk;
-      providers = s.providers.items;
-      provider_places = s.provider_places.items;
-      contexts = s.contexts.items;
-      context_places = s.context_places.items;
-      begun = s.begun;
-    } };
+    ghost view = { granter_view };
 
-    ghost invariant = { λ s. IsGranter (record {
-      desk = s.desk;
-      providers = s.providers.items;
-      provider_places = s.provider_places.items;
-      contexts = s.contexts.items;
-      context_places = s.context_places.items;
-      begun = s.begun;
-    }) };
+    ghost invariant = { λ s. IsGranter (granter_view s) };
 }
 
 impl<P, G> Granter<P, G>

@@ -1,10 +1,8 @@
 //! One step of a call: the desk is polled, or the object that was asked, whose answer goes to the desk.
 ghost use Rattle.std.specs.Prelude.{◌≡◌, Some, IsSome};
-ghost use Rattle.desk_driver.specs.CallAt.{loader_of};
+ghost use Rattle.desk_driver.specs.CallAt.{loader_of, service_of};
 ghost use Rattle.desk_driver.specs.ProviderList.{loader_for};
-ghost use Rattle.sequential_signer.specs.Policy.{policy_of};
-ghost use Rattle.granter.specs.PollContext.{IsIssuedFor, IsOutcomeWith};
-ghost use Rattle.granter.specs.GranterObjects.{meanings_of, service_of};
+ghost use Rattle.granter.specs.PollContext.{poll_context, IsIssuedFor, IsOutcomeWith};
 ghost use Rattle.granter.specs.declared.grant.CallState.TheVariants.{Loading, Granting};
 
 use crate::call_objects::CallObjects;
@@ -34,22 +32,10 @@ where
     G: GrantCredential<Credential = P::Credential, Ctx = P::Ctx>,
     requires there { IsSome (service_of desk.old begun.now.id.handle) }
     requires loads { loader_of desk.old begun.now.id.handle ≡ Some (loader_for objects.now.providers.now) }
-    requires issued { IsIssuedFor (record {
-      policy = policy_of P.Credential.valid P.Credential.valid_at G.deadline;
-      clones_freely = P.Credential.clones_freely;
-      meanings = meanings_of P.ProvideCredential G.GrantCredential.own;
-      objects = objects.now;
-      begun = begun.now;
-      now = now;
-    }) desk.old state }
-    ensures { IsOutcomeWith (record {
-      policy = policy_of P.Credential.valid P.Credential.valid_at G.deadline;
-      clones_freely = P.Credential.clones_freely;
-      meanings = meanings_of P.ProvideCredential G.GrantCredential.own;
-      objects = objects.now;
-      begun = begun.now;
-      now = now;
-    }) state
+    requires issued { IsIssuedFor (poll_context P.Credential.SigningCredential P.ProvideCredential
+        G.DeadlineRule G.GrantCredential.own objects.now begun.now now) desk.old state }
+    ensures { IsOutcomeWith (poll_context P.Credential.SigningCredential P.ProvideCredential
+        G.DeadlineRule G.GrantCredential.own objects.now begun.now now) state
         (record { old = desk.old; new = desk.new }) result }
 {
     match state {
@@ -78,22 +64,10 @@ where
     G: GrantCredential<Credential = P::Credential, Ctx = P::Ctx>,
     requires there { IsSome (service_of desk.old begun.now.id.handle) }
     requires loads { loader_of desk.old begun.now.id.handle ≡ Some (loader_for objects.now.providers.now) }
-    requires issued { IsIssuedFor (record {
-      policy = policy_of P.Credential.valid P.Credential.valid_at G.deadline;
-      clones_freely = P.Credential.clones_freely;
-      meanings = meanings_of P.ProvideCredential G.GrantCredential.own;
-      objects = objects.now;
-      begun = begun.now;
-      now = now;
-    }) desk.old (Loading provider load) }
-    ensures { IsOutcomeWith (record {
-      policy = policy_of P.Credential.valid P.Credential.valid_at G.deadline;
-      clones_freely = P.Credential.clones_freely;
-      meanings = meanings_of P.ProvideCredential G.GrantCredential.own;
-      objects = objects.now;
-      begun = begun.now;
-      now = now;
-    }) (Loading provider load)
+    requires issued { IsIssuedFor (poll_context P.Credential.SigningCredential P.ProvideCredential
+        G.DeadlineRule G.GrantCredential.own objects.now begun.now now) desk.old (Loading provider load) }
+    ensures { IsOutcomeWith (poll_context P.Credential.SigningCredential P.ProvideCredential
+        G.DeadlineRule G.GrantCredential.own objects.now begun.now now) (Loading provider load)
         (record { old = desk.old; new = desk.new }) result }
 {
     let asked = provider_at(objects.providers, provider).unwrap();
@@ -138,22 +112,10 @@ where
     P::Credential: SigningCredential,
     G: GrantCredential<Credential = P::Credential, Ctx = P::Ctx>,
     requires there { IsSome (service_of desk.old begun.now.id.handle) }
-    requires issued { IsIssuedFor (record {
-      policy = policy_of P.Credential.valid P.Credential.valid_at G.deadline;
-      clones_freely = P.Credential.clones_freely;
-      meanings = meanings_of P.ProvideCredential G.GrantCredential.own;
-      objects = objects.now;
-      begun = begun.now;
-      now = now;
-    }) desk.old (Granting source work) }
-    ensures { IsOutcomeWith (record {
-      policy = policy_of P.Credential.valid P.Credential.valid_at G.deadline;
-      clones_freely = P.Credential.clones_freely;
-      meanings = meanings_of P.ProvideCredential G.GrantCredential.own;
-      objects = objects.now;
-      begun = begun.now;
-      now = now;
-    }) (Granting source work)
+    requires issued { IsIssuedFor (poll_context P.Credential.SigningCredential P.ProvideCredential
+        G.DeadlineRule G.GrantCredential.own objects.now begun.now now) desk.old (Granting source work) }
+    ensures { IsOutcomeWith (poll_context P.Credential.SigningCredential P.ProvideCredential
+        G.DeadlineRule G.GrantCredential.own objects.now begun.now now) (Granting source work)
         (record { old = desk.old; new = desk.new }) result }
 {
     let service = desk.rule_of(begun.id.handle).unwrap();

@@ -7,7 +7,7 @@ use Rattle.std.proofs.lemmas.List.Sums.{length-filter, sum_by-cons}
 use Rattle.sequential_signer.specs.Policy.{Policy}
 use Rattle.sequential_signer.specs.Setup.{Setup}
 use Rattle.sequential_signer.specs.Phase.{is_not_now}
-use Rattle.sequential_signer.specs.LawsOfCaches.{is_ask}
+use Rattle.sequential_signer.specs.Replies.{is_ask, is_cancelled, is_done, is_refused}
 use Rattle.sequential_signer.specs.declared.event.Entry.{Entry}
 use Rattle.sequential_signer.specs.declared.event.Loader.TheVariants.{Single}
 use Rattle.sequential_signer.specs.declared.event.Reply.{Reply}
@@ -15,11 +15,10 @@ use Rattle.sequential_signer.specs.declared.event.Reply.TheVariants as reply
 use Rattle.wake_lock.proofs.Truth.{and_left, and_right}
 use Rattle.sequential_signer.proofs.Lists.{filter-swap}
 use Rattle.sequential_signer.proofs.Distinct.{list_all-filter_of}
-use Rattle.signer_book.specs.OpenBegins.{is_cancelled}
 use Rattle.signer_book.specs.Settled.{all_receipts}
 use Rattle.signer_book.specs.declared.pass.Receipt.{Receipt}
 use Rattle.signer_shared.specs.Gates.{GateMeaning}
-use Rattle.signer_shared.specs.Serving.{IsServing, ServesAll, is_done, is_refused, replies}
+use Rattle.signer_shared.specs.Serving.{IsServing, ServesAll, replies}
 use Rattle.signer_shared.specs.declared.job.Job.{Job}
 use Rattle.signer_shared.specs.declared.job.Served.{Served}
 use Rattle.pool_jobs.proofs.Dealt.{is_of, is_from, split_from}

@@ -4,14 +4,13 @@ use Rattle.std.proofs.lemmas.List.Sums.{length-filter, AllPass-from_list_all}
 use Rattle.sequential_signer.specs.Policy.{Policy}
 use Rattle.sequential_signer.specs.Setup.{Setup}
 use Rattle.sequential_signer.specs.Legal.{IsLegal}
-use Rattle.sequential_signer.specs.LawsOfCaches.{is_ask}
+use Rattle.sequential_signer.specs.Replies.{is_ask, is_done}
 use Rattle.sequential_signer.specs.declared.event.Entry.{Entry}
 use Rattle.sequential_signer.specs.declared.event.Loader.TheVariants.{Single}
 use Rattle.signctl_format.specs.Policy.{script_policy}
 use Rattle.signer_book.specs.Settled.{IsSettled, all_receipts}
 use Rattle.signer_book.specs.declared.pass.Receipt.{Receipt}
 use Rattle.signer_shared.specs.Gates.{GateMeaning}
-use Rattle.signer_shared.specs.Serving.{is_done}
 use Rattle.signer_shared.specs.declared.job.Job.{Job}
 use Rattle.signer_shared.specs.declared.job.Served.{Served}
 use Rattle.pool_jobs.specs.Laws.{goes_well, SignsAll, PromptCallsAreSigned, EveryPoolCallIsSigned}

@@ -14,7 +14,8 @@ use Rattle.sequential_signer.specs.Hold.{begin_of, begin_in}
 use Rattle.sequential_signer.specs.SequentialCache.{sequential_cache}
 use Rattle.sequential_signer.specs.ExpectedReply.{expected_reply, done_head}
 use Rattle.sequential_signer.specs.Legal.{IsLegalEntry}
-use Rattle.sequential_signer.specs.LawsOfCaches.{is_ask, handed_out, serves_at}
+use Rattle.sequential_signer.specs.LawsOfCaches.{handed_out, serves_at}
+use Rattle.sequential_signer.specs.Replies.{is_ask, is_done}
 use Rattle.sequential_signer.specs.declared.event.Answer.{Answer}
 use Rattle.sequential_signer.specs.declared.event.Answer.TheVariants.{Found}
 use Rattle.sequential_signer.specs.declared.event.Entry.{Entry}
@@ -36,7 +37,6 @@ use Rattle.sequential_signer.proofs.CallInvariant.{Waits, Loads, HadTurn, phase-
 use Rattle.sequential_signer.proofs.CallInvariantSteps.{run_waits, run_loads}
 use Rattle.sequential_signer.proofs.CacheRows.{one_turn}
 use Rattle.sequential_signer.proofs.HandedOut.{cache_own}
-use Rattle.signer_shared.specs.Serving.{is_done}
 use Rattle.pool_jobs.specs.Laws.{goes_well}
 use Rattle.pool_jobs.proofs.CallPhases.{waiting_idles, queued_signing, begun_signs_not, phase-own, phase_is-in}
 use Rattle.pool_jobs.proofs.ExpectedAtOneProvider.{expected_begin, expected_wait, expected_done, asks_look, signs_look, signs_answer}

@@ -3,7 +3,7 @@ use Rattle.std.specs.Prelude.{◌≡◌, ℕ, ℤ, ◌<◌, min, Bool, true, fal
 use Rattle.sequential_signer.specs.Policy.{Policy}
 use Rattle.sequential_signer.specs.Setup.{Setup}
 use Rattle.sequential_signer.specs.Legal.{IsLegal}
-use Rattle.sequential_signer.specs.LawsOfCaches.{is_ask}
+use Rattle.sequential_signer.specs.Replies.{is_ask, is_done}
 use Rattle.sequential_signer.specs.declared.event.Entry.{Entry}
 use Rattle.sequential_signer.specs.declared.event.Loader.TheVariants.{Single}
 use Rattle.sequential_signer.specs.declared.event.Reply.{Reply}
@@ -13,7 +13,6 @@ use Rattle.signer_book.specs.Settled.{IsSettled}
 use Rattle.signer_book.specs.declared.pass.Receipt.{Receipt}
 use Rattle.signer_shared.specs.Gates.{GateMeaning}
 use Rattle.signer_shared.specs.Pools.{ServesLists}
-use Rattle.signer_shared.specs.Serving.{is_done}
 use Rattle.signer_shared.specs.declared.job.Job.{Job}
 use Rattle.signer_shared.specs.declared.job.Served.{Served}
 use Rattle.pool_jobs.specs.Meaning.{pool_meaning}

@@ -1,6 +1,6 @@
 -- A run of a pool: its journal and its passes.
 use Rattle.std.specs.Prelude.{◌≡◌, ℕ, List, All, count_by, false}
-use Rattle.sequential_signer.specs.LawsOfCaches.{is_ask}
+use Rattle.sequential_signer.specs.Replies.{is_ask, is_done}
 use Rattle.sequential_signer.specs.Legal.{IsLegal}
 use Rattle.sequential_signer.specs.declared.event.Entry.{Entry}
 use Rattle.signctl_format.specs.Policy.{script_policy}
@@ -9,7 +9,6 @@ use Rattle.signer_book.specs.Settled.{IsSettled}
 use Rattle.signer_book.specs.declared.pass.Receipt.{Receipt}
 use Rattle.signer_shared.specs.Gates.{GateMeaning}
 use Rattle.signer_shared.specs.Pools.{ServesLists}
-use Rattle.signer_shared.specs.Serving.{is_done}
 use Rattle.signer_shared.specs.declared.job.Served.{Served}
 use Rattle.pool_jobs.specs.Setup.{pool_setup}
 use Rattle.pool_jobs.specs.Work.{pool_work}

@@ -8,7 +8,7 @@ use Rattle.sequential_signer.specs.Transcript.{call_of, is_about, entries_of}
 use Rattle.sequential_signer.specs.Phase.{Phase, Unknown, Unpolled, Queued, Loading, Signing, Ended, is_mark, is_poll, is_begun, is_waiting_poll, is_loading, phase_by, phase_in, phase_of}
 use Rattle.sequential_signer.specs.Turn.{is_fitting_poll, is_poll_at, ends_hold, serves, hold_is_finished, is_served, has_turn}
 use Rattle.sequential_signer.specs.Hold.{BeginInput, begin_in, begin_of, answer_in, answers_in, answers_of, turn_moment, is_poll_at_turn}
-use Rattle.sequential_signer.specs.LawsOfCaches.{is_ask}
+use Rattle.sequential_signer.specs.Replies.{is_ask}
 use Rattle.sequential_signer.specs.declared.event.Entry.{Entry}
 use Rattle.sequential_signer.specs.declared.event.Event.{Event}
 use Rattle.sequential_signer.specs.declared.event.Reply.TheVariants.{NotNow}

@@ -13,7 +13,8 @@ use Rattle.sequential_signer.specs.Turn.{has_turn}
 use Rattle.sequential_signer.specs.Hold.{BeginInput, begin_of}
 use Rattle.sequential_signer.specs.SequentialCache.{sequential_cache}
 use Rattle.sequential_signer.specs.ExpectedReply.{expected_reply, progress_reply, with_wake, waking}
-use Rattle.sequential_signer.specs.Legal.{IsLegalEntry, is_sign}
+use Rattle.sequential_signer.specs.Legal.{IsLegalEntry}
+use Rattle.sequential_signer.specs.Replies.{is_sign}
 use Rattle.sequential_signer.specs.LawsOfHandOver.{begins_load, LoadsExactlyWhereTheLookFails}
 use Rattle.sequential_signer.specs.declared.event.Entry.{Entry}
 use Rattle.sequential_signer.specs.declared.event.Event.TheVariants.{Poll}

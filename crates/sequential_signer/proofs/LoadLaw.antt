@@ -11,7 +11,7 @@ use Rattle.sequential_signer.specs.Phase.{phase_of, phase_in, is_mark, is_loadin
 use Rattle.sequential_signer.specs.Turn.{serves, hold_is_finished, is_served, has_turn}
 use Rattle.sequential_signer.specs.Hold.{answers_of, hold_input}
 use Rattle.sequential_signer.specs.SequentialCache.{sequential_cache}
-use Rattle.sequential_signer.specs.LawsOfCaches.{is_ask}
+use Rattle.sequential_signer.specs.Replies.{is_ask}
 use Rattle.sequential_signer.specs.declared.event.Entry.{Entry}
 use Rattle.sequential_signer.specs.declared.event.Event.{Event}
 use Rattle.sequential_signer.specs.declared.event.Loader.{Loader}

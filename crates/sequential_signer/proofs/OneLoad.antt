@@ -14,7 +14,8 @@ use Rattle.sequential_signer.specs.Turn.{has_turn}
 use Rattle.sequential_signer.specs.Hold.{BeginInput, begin_of, input_by}
 use Rattle.sequential_signer.specs.SequentialCache.{sequential_cache}
 use Rattle.sequential_signer.specs.Legal.{IsLegal, IsLegalAfter, IsLegalEntry}
-use Rattle.sequential_signer.specs.LawsOfCaches.{lasts_to, serves_at, ServesLook, ServesLooks, is_ask, OneLoadServesAll, found_entry}
+use Rattle.sequential_signer.specs.LawsOfCaches.{lasts_to, serves_at, ServesLook, ServesLooks, OneLoadServesAll, found_entry}
+use Rattle.sequential_signer.specs.Replies.{is_ask}
 use Rattle.sequential_signer.specs.declared.event.Answer.TheVariants.{Found}
 use Rattle.sequential_signer.specs.declared.event.Entry.{Entry}
 use Rattle.sequential_signer.specs.declared.event.Event.{Event}

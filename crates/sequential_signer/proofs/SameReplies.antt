@@ -10,7 +10,8 @@ use Rattle.sequential_signer.specs.Hold.{begin_of, turn_moment, answers_of, inpu
 use Rattle.sequential_signer.specs.SequentialCache.{sequential_cache}
 use Rattle.sequential_signer.specs.Wake.{call_to_wake}
 use Rattle.sequential_signer.specs.ExpectedReply.{progress_reply, with_wake, waking, hold_progress, hold_reply, progress_at, done_head, fitting_reply, reply_at, expected_reply}
-use Rattle.sequential_signer.specs.Legal.{IsLegalEntry, is_sign, takes_memory, allocates}
+use Rattle.sequential_signer.specs.Legal.{IsLegalEntry, takes_memory, allocates}
+use Rattle.sequential_signer.specs.Replies.{is_sign}
 use Rattle.sequential_signer.specs.LawsOfCancel.{is_answer}
 use Rattle.sequential_signer.specs.declared.event.Answer.TheVariants as answer
 use Rattle.sequential_signer.specs.declared.event.Entry.{Entry}

@@ -1,6 +1,6 @@
 -- Laws of legal transcripts: caches stand apart, a credential that lasts is loaded once, and a cache
 -- holds what was last handed out.
-use Rattle.std.specs.Prelude.{◌≡◌, ℕ, ℤ, Bool, true, false, not, ◌&&◌, List, [], ◌∷◌, ◌++◌, Option, Some, None, IsTrue, filter, filter_map}
+use Rattle.std.specs.Prelude.{◌≡◌, ℕ, ℤ, Bool, false, not, ◌&&◌, List, [], ◌∷◌, ◌++◌, Option, Some, None, IsTrue, filter, filter_map}
 use Rattle.std.specs.List.{list_all}
 use Rattle.wake_lock.specs.declared.CallId.{CallId}
 use Rattle.sequential_signer.specs.Policy.{Policy}
@@ -16,8 +16,9 @@ use Rattle.sequential_signer.specs.declared.event.Answer.TheVariants.{Found}
 use Rattle.sequential_signer.specs.declared.event.Entry.{Entry}
 use Rattle.sequential_signer.specs.declared.event.Event.TheVariants.{Poll, Provided}
 use Rattle.sequential_signer.specs.declared.event.Reply.{Reply}
-use Rattle.sequential_signer.specs.declared.event.Reply.TheVariants.{Ask, Sign, Refused}
+use Rattle.sequential_signer.specs.declared.event.Reply.TheVariants.{Sign, Refused}
 use Rattle.sequential_signer.specs.declared.event.Why.{Why}
+use Rattle.sequential_signer.specs.Replies.{is_ask}
 
 -- the entries about calls of cache i
 abbrev pub entries_at : {K D : Type 0} → Setup D → ℕ → List (Entry K) → List (Entry K)
@@ -57,11 +58,6 @@ ServesLooks serves setup i before [] = Unit {0}
 ServesLooks serves setup i before (entry ∷ rest) =
     ServesLook serves setup i (committed_entries before) entry
     × ServesLooks serves setup i (before ++ entry ∷ []) rest
-
--- whether the reply asks a provider
-abbrev pub is_ask : {K : Type 0} → Reply K → Bool
-is_ask (Ask provider) = true
-is_ask _ = false
 
 -- a provider found a credential, with this reply
 abbrev pub found_entry : {K : Type 0} → CallId → ℤ → K → Reply K → Entry K

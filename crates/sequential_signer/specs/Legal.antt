@@ -10,13 +10,9 @@ use Rattle.sequential_signer.specs.declared.event.Entry.{Entry}
 use Rattle.sequential_signer.specs.declared.event.Event.{Event}
 use Rattle.sequential_signer.specs.declared.event.Event.TheVariants.{Begin, Poll, Provided, Signed, Cancel}
 use Rattle.sequential_signer.specs.declared.event.Reply.{Reply}
-use Rattle.sequential_signer.specs.declared.event.Reply.TheVariants.{OutOfMemory, Sign}
+use Rattle.sequential_signer.specs.declared.event.Reply.TheVariants.{OutOfMemory}
 use Rattle.sequential_signer.specs.declared.event.Verdict.TheVariants.{Accepted}
-
--- whether the reply hands out a credential
-abbrev pub is_sign : {K : Type 0} → Reply K → Bool
-is_sign (Sign credential wake) = true
-is_sign _ = false
+use Rattle.sequential_signer.specs.Replies.{is_sign}
 
 -- whether a fitting event takes memory: a begin, a look that hands out, a credential found, a head accepted
 abbrev pub takes_memory : {K D : Type 0} → Policy K D → Setup D → List (Entry K) → Event K → Bool

@@ -9,6 +9,7 @@ pub mod Hold
 pub mod SequentialCache
 pub mod Wake
 pub mod ExpectedReply
+pub mod Replies
 pub mod Legal
 pub mod LiveCall
 pub mod Clones

@@ -3,7 +3,8 @@ use Rattle.std.proofs.Common.{◌≡◌, ℕ, zero, suc, ◌<◌, ◌&&◌, true
 use Rattle.wake_lock.specs.declared.CallId.{CallId}
 use Rattle.wake_lock.specs.Calls.{is_among}
 use Rattle.sequential_signer.specs.ExpectedReply.{expected_reply}
-use Rattle.sequential_signer.specs.Legal.{allocates, is_sign, IsLegalEntry}
+use Rattle.sequential_signer.specs.Legal.{allocates, IsLegalEntry}
+use Rattle.sequential_signer.specs.Replies.{is_sign}
 use Rattle.sequential_signer.specs.Phase.{Unpolled, phase_of, is_live}
 use Rattle.sequential_signer.specs.Policy.{Policy}
 use Rattle.sequential_signer.specs.Setup.{Setup, Handle, cache_of}

@@ -1,8 +1,7 @@
 -- The counts after one more reply.
 use Rattle.std.proofs.Common.{◌≡◌, ◌==◌, ℕ, ◌+◌, Bool, true, false, if◌then◌else◌, List, [], ◌∷◌, ◌++◌, Option, Some, None, filter, length, option_map, slice_get, refl, sym, ◌∙◌, ap, subst, arith}
 use Rattle.std.proofs.lemmas.List.{length_push}
-use Rattle.sequential_signer.specs.Legal.{is_sign}
-use Rattle.sequential_signer.specs.LawsOfCaches.{is_ask}
+use Rattle.sequential_signer.specs.Replies.{is_sign, is_ask, is_refused, is_cancelled}
 use Rattle.sequential_signer.specs.Setup.{Setup, cache_of, is_of_cache, is_number}
 use Rattle.sequential_signer.specs.Transcript.{call_of, is_out_of_memory}
 use Rattle.sequential_signer.specs.declared.event.Entry.{Entry}
@@ -12,7 +11,7 @@ use Rattle.sequential_signer.proofs.Lists.{filter-more_yes, filter-more_no}
 use Rattle.wake_lock.proofs.Truth.{number_refl, same_number}
 use Rattle.desk_parts.specs.Queue.{with_changed}
 use Rattle.desk_parts.proofs.ChangedAt.{changed-same, changed-other}
-use Rattle.sign_audit.specs.Counts.{is_refused, is_cancelled, is_kind_at, number_at, counts_of, up_to_end, counts_up_to_end, counted}
+use Rattle.sign_audit.specs.Counts.{is_kind_at, number_at, counts_of, up_to_end, counts_up_to_end, counted}
 use Rattle.sign_audit.specs.declared.counts.Counts.{Counts}
 
 -- counts that have the same numbers

@@ -2,8 +2,7 @@
 -- the type.
 use Rattle.std.proofs.Common.{◌≡◌, ◌<◌, ◌≤◌, ◌^◌, ℕ, Bool, true, false, List, [], ◌∷◌, Option, Some, None, option_map, slice_get, length, filter, refl, ◌∙◌, arith}
 use Rattle.std.proofs.lemmas.Option.{slice_get_within, slice_get-get_or}
-use Rattle.sequential_signer.specs.Legal.{is_sign}
-use Rattle.sequential_signer.specs.LawsOfCaches.{is_ask}
+use Rattle.sequential_signer.specs.Replies.{is_sign, is_ask, is_refused, is_cancelled}
 use Rattle.sequential_signer.specs.Policy.{Policy}
 use Rattle.sequential_signer.specs.Setup.{Setup}
 use Rattle.sequential_signer.specs.Transcript.{is_out_of_memory}
@@ -11,7 +10,7 @@ use Rattle.sequential_signer.specs.declared.event.Entry.{Entry}
 use Rattle.sequential_signer.specs.declared.event.Reply.{Reply}
 use Rattle.desk_parts.specs.Tables.{setup_of}
 use Rattle.sign_audit.specs.AuditState.{AuditState, AuditRepresents}
-use Rattle.sign_audit.specs.Counts.{is_refused, is_cancelled, is_kind_at, number_at, counts_of, up_to_end, counts_up_to_end}
+use Rattle.sign_audit.specs.Counts.{is_kind_at, number_at, counts_of, up_to_end, counts_up_to_end}
 use Rattle.sign_audit.specs.declared.counts.Counts.{Counts}
 use Rattle.sign_audit.proofs.Counting.{same_counts}
 

@@ -4,7 +4,8 @@ use Rattle.std.specs.declared.time.Duration.{Duration}
 use Rattle.sign_base.specs.declared.head.Head.{Head}
 use Rattle.wake_lock.specs.declared.CallId.{CallId}
 use Rattle.sequential_signer.specs.ExpectedReply.{expected_reply, reply_at}
-use Rattle.sequential_signer.specs.Legal.{allocates, is_sign, IsLegalEntry}
+use Rattle.sequential_signer.specs.Legal.{allocates, IsLegalEntry}
+use Rattle.sequential_signer.specs.Replies.{is_sign}
 use Rattle.sequential_signer.specs.Phase.{phase_of, is_new_number, is_live, is_loading, is_signing, begin_fits}
 use Rattle.sequential_signer.specs.Policy.{Policy}
 use Rattle.sequential_signer.specs.Setup.{Setup, cache_of}

@@ -1,23 +1,12 @@
 -- How often calls of a cache were replied to, by the kind of the reply.
-use Rattle.std.specs.Prelude.{ℕ, ◌+◌, Bool, true, false, ◌&&◌, List, filter, length, min}
-use Rattle.sequential_signer.specs.Legal.{is_sign}
-use Rattle.sequential_signer.specs.LawsOfCaches.{is_ask}
+use Rattle.std.specs.Prelude.{ℕ, ◌+◌, Bool, ◌&&◌, List, filter, length, min}
+use Rattle.sequential_signer.specs.Replies.{is_sign, is_ask, is_cancelled, is_refused}
 use Rattle.sequential_signer.specs.Setup.{Setup, is_of_cache}
 use Rattle.sequential_signer.specs.Transcript.{call_of, is_out_of_memory}
 use Rattle.sequential_signer.specs.declared.event.Entry.{Entry}
 use Rattle.sequential_signer.specs.declared.event.Reply.{Reply}
 use Rattle.sequential_signer.specs.declared.event.Reply.TheVariants.{OutOfMemory, Ask, Sign, Refused, Cancelled}
 use Rattle.sign_audit.specs.declared.counts.Counts.{Counts}
-
--- whether the reply refuses a call, by whatever cause
-abbrev pub is_refused : {K : Type 0} → Reply K → Bool
-is_refused (Refused why wake) = true
-is_refused _ = false
-
--- whether the reply ends a call by its cancel
-abbrev pub is_cancelled : {K : Type 0} → Reply K → Bool
-is_cancelled (Cancelled wake) = true
-is_cancelled _ = false
 
 -- whether an entry is of a call of cache i, and its reply of this kind
 abbrev pub is_kind_at : {K D : Type 0} → Setup D → ℕ → (Reply K → Bool) → Entry K → Bool

@@ -1,10 +1,10 @@
 //! The auditor: a desk that is given each event whose claim is legal, with the counts of its caches and the
 //! calls in line at each.
-ghost use Rattle.std.specs.Prelude.{◌≡◌, ◌<◌, ◌^◌, [], Bool, true, List, Some, OnOk, IfOk, IfErr, IsTrue, length, slice_get};
+ghost use Rattle.std.specs.Prelude.{◌≡◌, ◌<◌, ◌^◌, [], true, List, Some, OnOk, IfOk, IfErr, IsTrue, length, slice_get};
 ghost use Rattle.std.specs.Fn.{FnReturnsAt};
 ghost use Rattle.sequential_signer.specs.Legal.{IsLegalEntry, allocates};
 ghost use Rattle.sequential_signer.specs.Policy.{policy_of};
-ghost use Rattle.sequential_signer.specs.Transcript.{committed_entries, call_of, is_out_of_memory};
+ghost use Rattle.sequential_signer.specs.Transcript.{committed_entries};
 ghost use Rattle.sequential_signer.specs.declared.event.Entry.{Entry};
 ghost use Rattle.sequential_signer.specs.declared.event.Reply.{Reply};
 ghost use Rattle.desk_parts.specs.Queue.{with_changed};
@@ -25,7 +25,6 @@ use sequential_signer::{Entry, Event, Reply};
 use sign_base::{EqualByValue, NoMemory};
 use sign_desk::{Desk, same_reply};
 use std::marker::Model;
-use wake_lock::CallId;
 
 /// An auditor of the events of one desk. It represents the claims that it accepted.
 #[derive(Drop)]
@@ -102,7 +101,7 @@ impl<K: SigningCredential, D: DeadlineRule<Credential = K>> Audit<K, D> {
             return self.miss(event);
         }
         let reply = self.desk.preview(event);
-        if is_out_of_memory(&reply) {
+        if reply.is_out_of_memory() {
             return Claim::OutOfMemory;
         }
         if !fits(&reply) {
@@ -166,7 +165,7 @@ impl<K: SigningCredential, D: DeadlineRule<Credential = K>> Audit<K, D> {
         if !allocates(&self.desk, event) {
             return Claim::Due(self.desk.preview(event));
         }
-        let call = call_of(event);
+        let call = event.call();
         let Some(cache) = self.desk.cache_of(call.handle) else {
             // An event of no cache is counted nowhere.
             return Claim::Legal;
@@ -189,7 +188,7 @@ impl<K: SigningCredential, D: DeadlineRule<Credential = K>> Audit<K, D> {
             (record { event = event.now; reply = expected.now }) result self.new }
         ensures setup { setup_of self.new.desk ≡ setup_of self.old.desk }
     {
-        let call = call_of(event);
+        let call = event.call();
         let Some(cache) = self.desk.cache_of(call.handle) else {
             // Such an event does not fit, and is of no cache.
             let _not_now = self.desk.step(event);
@@ -200,7 +199,7 @@ impl<K: SigningCredential, D: DeadlineRule<Credential = K>> Audit<K, D> {
             return Claim::OutOfMemory;
         }
         let reply = self.desk.step(event);
-        if is_out_of_memory(&reply) {
+        if reply.is_out_of_memory() {
             return Claim::OutOfMemory;
         }
         self.lines.after_step(change, cache, call);
@@ -222,7 +221,7 @@ impl<K: SigningCredential + EqualByValue, D: DeadlineRule<Credential = K>> Audit
             (record { event = event.now; reply = claimed.now }) result self.new }
         ensures setup { setup_of self.new.desk ≡ setup_of self.old.desk }
     {
-        let missed = is_out_of_memory(claimed);
+        let missed = claimed.is_out_of_memory();
         self.claim_by(event, missed, |reply| same_reply(reply, claimed))
     }
 
@@ -257,24 +256,4 @@ fn count<K>(counts: &mut Vec<Counts>, cache: u32, reply: &Reply<K>)
     ensures { counts.new.items ≡ with_changed (counted reply.now) cache counts.old.items }
 {
     counts[cache as usize].add(reply);
-}
-
-/// The call of an event.
-fn call_of<K>(event: &Event<K>) -> CallId
-    ensures { result ≡ call_of event.now }
-{
-    match event {
-        Event::Begin { call, .. }
-        | Event::Poll { call, .. }
-        | Event::Provided { call, .. }
-        | Event::Signed { call, .. }
-        | Event::Cancel { call } => *call,
-    }
-}
-
-/// Whether the reply says that an allocation failed.
-fn is_out_of_memory<K>(reply: &Reply<K>) -> bool
-    ensures { result ≡ is_out_of_memory reply.now }
-{
-    matches!(reply, Reply::OutOfMemory)
 }

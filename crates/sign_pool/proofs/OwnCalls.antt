@@ -10,7 +10,7 @@ use Rattle.wake_lock.proofs.Truth.{and_left, and_right}
 use Rattle.sequential_signer.specs.Transcript.{call_of}
 use Rattle.sequential_signer.specs.declared.event.Reply.{Reply}
 use Rattle.sequential_signer.specs.declared.event.Reply.TheVariants as reply
-use Rattle.signer_book.specs.OpenBegins.{is_cancelled}
+use Rattle.sequential_signer.specs.Replies.{is_cancelled}
 use Rattle.signer_book.specs.declared.pass.Receipt.{Receipt}
 use Rattle.signer_shared.specs.Gates.{GateMeaning}
 use Rattle.signer_shared.specs.Serving.{replies, IsNext, next_after, IsStep, goes_on, gives_up, runs_out, IsCourse, ServesAll, StopsAtAJob, IsServing}

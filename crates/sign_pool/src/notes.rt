@@ -1,5 +1,5 @@
 //! What the journal has of calls: the last entry of each, and how it was begun. The journal is read once.
-ghost use Rattle.std.specs.Prelude.{◌≡◌, ◌<◌, ◌+◌, IfOk, IsSome, IsSomeAnd, MatchBool, length, slice_get, take};
+ghost use Rattle.std.specs.Prelude.{◌≡◌, ◌<◌, ◌+◌, IfOk, IsSome, IsSomeAnd, MatchBool, slice_get, take};
 ghost use Rattle.sequential_signer.specs.Transcript.{call_of};
 ghost use Rattle.wake_lock.specs.declared.CallId.{CallId};
 ghost use Rattle.sign_pool.specs.Notes.{AreBegins, AreBlank, AreRead, HaveNotes, IsBeginWith, IsNoteOf, answers_of, note_of};
@@ -72,7 +72,7 @@ pub(crate) fn note_journal<K>(notes: &mut CallNotes, journal: &[Entry<K>])
     ensures kept { (call : CallId) → IsSome (note_of notes.old call) → IsSome (note_of notes.new call) }
 {
     for (place, entry) in journal.iter().enumerate() {
-        let call = call_of(&entry.event);
+        let call = entry.event.call();
         if let Some(note) = notes.get(&call).copied() {
             let _before = notes.insert(call, note_after(note, call, journal, place));
         }
@@ -125,18 +125,5 @@ pub(crate) fn is_begin_with<K>(event: &Event<K>, head: &Head, expires_in: Option
             ..
         } => *how_long == expires_in && same_head(mine, head),
         _ => false,
-    }
-}
-
-/// The call of an event.
-fn call_of<K>(event: &Event<K>) -> CallId
-    ensures { result ≡ call_of event.now }
-{
-    match event {
-        Event::Begin { call, .. }
-        | Event::Poll { call, .. }
-        | Event::Provided { call, .. }
-        | Event::Signed { call, .. }
-        | Event::Cancel { call } => *call,
     }
 }

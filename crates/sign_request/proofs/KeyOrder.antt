@@ -32,14 +32,16 @@ not_above Less h = inl refl
 not_above Equal h = inr refl
 not_above Greater h = cc
 
-below_another : (x y : List ℕ) → is_gt (text_cmp x y) ≡ false → y ≢ x → text_cmp x y ≡ Less
+-- a text that is not above another one is below it
+pub below_another : (x y : List ℕ) → is_gt (text_cmp x y) ≡ false → y ≢ x → text_cmp x y ≡ Less
 below_another x y h other =
     elim (not_above (text_cmp x y) h) [
       | inl less ↦ less
       | inr tied ↦ absurd (other (sym (same_text x y tied)))
     ]
 
-below_upto : (x y z : List ℕ) → text_cmp x y ≡ Less → is_gt (text_cmp y z) ≡ false → text_cmp x z ≡ Less
+-- a text below one that is not above a third is below that
+pub below_upto : (x y z : List ℕ) → text_cmp x y ≡ Less → is_gt (text_cmp y z) ≡ false → text_cmp x z ≡ Less
 below_upto x y z below h =
     elim (not_above (text_cmp y z) h) [
       | inl less ↦ nat_list_cmp_total.trans x y z below less

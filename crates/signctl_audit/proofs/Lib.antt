@@ -6,7 +6,6 @@ pub mod NextLine
 pub mod LineGood
 pub mod ClaimChecks
 pub mod RightClaims
-pub mod LineWords
 pub mod Sessions
 pub mod CountLines
 pub mod LegalLogs

@@ -1,17 +1,15 @@
 -- Entries as lines have them, and those that the audit was given, are alike: they differ in how durations are
 -- stored alone.
-use Rattle.std.proofs.Common.{◌≡◌, ℕ, suc, Bool, true, false, not, List, [], ◌∷◌, length, filter, Option, Some, None, option_map, refl, ap, ◌∙◌, arith}
-use Rattle.std.specs.Duration.{as_nanos}
-use Rattle.std.specs.declared.time.Duration.{Duration}
+use Rattle.std.proofs.Common.{◌≡◌, ℕ, suc, Bool, true, false, not, List, [], ◌∷◌, length, filter, Option, Some, None, refl, ap, ◌∙◌}
 use Rattle.wake_lock.specs.declared.CallId.{CallId}
 use Rattle.wake_lock.specs.Calls.{same_call}
-use Rattle.sequential_signer.specs.LawsOfCaches.{is_ask}
+use Rattle.sequential_signer.specs.Replies.{is_ask, is_sign, is_refused, is_cancelled}
 use Rattle.sequential_signer.specs.Setup.{Setup, cache_of}
 use Rattle.sequential_signer.specs.Transcript.{call_of, is_about, is_out_of_memory, entries_of, committed_entries}
 use Rattle.sequential_signer.specs.Phase.{is_poll}
 use Rattle.sequential_signer.specs.Turn.{first_of_each, before_call, is_poll_at, ends_hold, poll_order, calls_ahead, hold_is_finished}
 use Rattle.sequential_signer.specs.ExpectedReply.{expected_reply}
-use Rattle.sequential_signer.specs.Legal.{is_sign, allocates}
+use Rattle.sequential_signer.specs.Legal.{allocates}
 use Rattle.sequential_signer.specs.declared.event.Answer.TheVariants as answer
 use Rattle.sequential_signer.specs.declared.event.Entry.{Entry}
 use Rattle.sequential_signer.specs.declared.event.Event.{Event}
@@ -22,26 +20,15 @@ use Rattle.sequential_signer.proofs.Lists.{filter-same}
 use Rattle.sequential_signer.proofs.Pairwise.{Pairwise, none, more, map-pairwise, filter-pairwise, list_any-pairwise}
 use Rattle.sequential_signer.proofs.StoredDurations.{AreAlike, begins, equal, AlikeTranscripts, phase_of-alike, is_new_number-alike, expected_reply-alike, expected_reply-with_events}
 use Rattle.sign_audit.specs.Blockers.{open_ahead, blockers_of}
-use Rattle.sign_audit.specs.Counts.{is_refused, is_cancelled, is_kind_at, number_at, counts_of}
+use Rattle.sign_audit.specs.Counts.{is_kind_at, number_at, counts_of}
 use Rattle.signctl_format.specs.declared.credential.ScriptCredential.{ScriptCredential}
 use Rattle.signctl_format.specs.declared.credential.ScriptRule.{ScriptRule}
-use Rattle.signctl_format.specs.Moments.{plain_duration}
 use Rattle.signctl_format.specs.Policy.{script_policy}
 use Rattle.signctl_format.specs.ScriptEvents.{plain_event}
+use Rattle.signctl_format.proofs.PlainEvents.{plain_event-alike}
 use Rattle.signctl_audit.specs.SessionState.{plain_entries}
 
 -- ---- events
-
-same_nanos : (d : Option Duration) → option_map as_nanos (option_map plain_duration d) ≡ option_map as_nanos d
-same_nanos None = refl
-same_nanos (Some d) = let same : as_nanos (plain_duration d) ≡ as_nanos d = omega arith in ap (λ n. Some n) same
-
-plain_event-alike : (event : Event ScriptCredential) → AreAlike (plain_event event) event
-plain_event-alike (Begin call head d) = begins call head (option_map plain_duration d) d (same_nanos d)
-plain_event-alike (Poll call now) = equal (Poll call now)
-plain_event-alike (Provided call now given) = equal (Provided call now given)
-plain_event-alike (Signed call given) = equal (Signed call given)
-plain_event-alike (Cancel call) = equal (Cancel call)
 
 -- the call is the same
 pub call_of-plain : (event : Event ScriptCredential) → call_of (plain_event event) ≡ call_of event

@@ -2,7 +2,6 @@
 ghost use Rattle.std.specs.Prelude.{◌≡◌, ◌&&◌, IfOk};
 ghost use Rattle.std.specs.Str.{bytes_eq};
 ghost use Rattle.sequential_signer.specs.Phase.{is_pending};
-ghost use Rattle.sequential_signer.specs.Transcript.{call_of, is_out_of_memory};
 ghost use Rattle.signctl_audit.specs.AuditCauses.{due_line};
 ghost use Rattle.signctl_audit.specs.Account.{Account, reply_due};
 ghost use Rattle.signctl_audit.specs.AuditReading.{is_missed, may_miss, behind_of, due_error, subject_error};
@@ -11,7 +10,7 @@ ghost use Rattle.signctl_audit.specs.declared.audit_line.Subject.TheVariants.{Ev
 
 use crate::audit_error::{AuditError, Due, push_due};
 use crate::claimed_reply::ClaimedReply;
-use sequential_signer::{Event, Reply};
+use sequential_signer::Reply;
 use sign_audit::Audit;
 use sign_base::NoMemory;
 use signctl_format::{ScriptCredential, ScriptEvent, ScriptRule};
@@ -80,7 +79,7 @@ fn due_reply(
         (λ reply. (so_far : Account) → IsAudited audit.now so_far → reply ≡ reply_due so_far event.now) }
 {
     let reply = audit.due(event.as_event());
-    if is_out_of_memory(&reply) {
+    if reply.is_out_of_memory() {
         return Err(NoMemory { back: () });
     }
     Ok(reply)
@@ -96,7 +95,7 @@ fn behind(
         → result ≡ behind_of so_far (Happened event.now) }
 {
     if is_pending(reply) {
-        audit.first_blocker(call_of(event.as_event()))
+        audit.first_blocker(event.as_event().call())
     } else {
         None
     }
@@ -111,28 +110,9 @@ fn is_line_of(alloc: Global, due: &Due, text: &[u8]) -> Result<bool, NoMemory<()
     Ok(text == line.as_slice())
 }
 
-/// Whether a reply says that an allocation failed.
-fn is_out_of_memory(reply: &Reply<ScriptCredential>) -> bool
-    ensures { result ≡ is_out_of_memory reply.now }
-{
-    matches!(reply, Reply::OutOfMemory)
-}
-
 /// Whether a reply is to wait.
 fn is_pending(reply: &Reply<ScriptCredential>) -> bool
     ensures { result ≡ is_pending reply.now }
 {
     matches!(reply, Reply::Pending)
-}
-
-fn call_of(event: &Event<ScriptCredential>) -> CallId
-    ensures { result ≡ call_of event.now }
-{
-    match event {
-        Event::Begin { call, .. }
-        | Event::Poll { call, .. }
-        | Event::Provided { call, .. }
-        | Event::Signed { call, .. }
-        | Event::Cancel { call } => *call,
-    }
 }

@@ -18,6 +18,8 @@ pub mod Spellings
 pub mod Texts
 pub mod ShortTexts
 pub mod Escaped
+pub mod LineWords
+pub mod PlainEvents
 pub mod SetupIn
 pub mod Failures
 pub mod NextBytes

@@ -1,5 +1,5 @@
 -- How the output of `grant` closes.
-use Rattle.std.proofs.Common.{◌≡◌, ◌<◌, ℕ, zero, suc, List, [], ◌∷◌, ◌++◌, length, slice_get, Option, Some, option_map, refl, sym, ap, ◌∙◌, arith}
+use Rattle.std.proofs.Common.{◌≡◌, ◌<◌, ℕ, suc, List, [], ◌∷◌, ◌++◌, length, slice_get, Option, option_map, refl, sym, ap, ◌∙◌}
 use Rattle.std.specs.Option.{option_and_then}
 use Rattle.sequential_signer.specs.Setup.{Setup}
 use Rattle.sequential_signer.specs.GrantTranscript.{committed_grants}
@@ -18,6 +18,7 @@ use Rattle.signctl_grant.specs.GrantEvents.{GrantItem}
 use Rattle.signctl_grant.specs.GrantOutput.{final_line_of, final_lines_of, transcript_of}
 use Rattle.signctl_grant.specs.GrantSessionState.{GrantSessionState, GrantSessionRepresents}
 use Rattle.signctl_grant.proofs.PlainGrants.{plain-source}
+use Rattle.desk_parts.proofs.ListPlaces.{item-there}
 
 -- no final lines yet
 pub finals-none : (items : List GrantItem) → final_lines_of items 0 ≡ []
@@ -30,18 +31,13 @@ pub finals-more : (items : List GrantItem) (n : ℕ)
 unfolding final_lines_of
 finals-more items n = refl
 
-there : {A : Type 0} (xs : List A) (i : ℕ) → i < length xs → (x : A) × (slice_get xs i ≡ Some x)
-there [] i h = absurd (omega arith)
-there (x ∷ rest) zero h = (x, refl)
-there (x ∷ rest) (suc i) h = there rest i (omega arith)
-
 -- what the desk caches is the source
 pub cached-is : (session : GrantSessionState) (items : List GrantItem) → GrantSessionRepresents session items
     → (i : ℕ) → i < length session.desk.loaders
     → option_and_then (λ (held : Option ScriptCredential). held) (slice_get session.desk.caches i)
     ≡ grant_source (setup_in items) (transcript_of items) i
 cached-is session items stands i h =
-    let loader = there session.desk.loaders i h in
+    let loader = item-there session.desk.loaders i h in
     let stepped : List (GrantEntry ScriptCredential) = expected_grant_entries script_policy (setup_in items) stands.stepped in
     ap (λ (o : Option (Option ScriptCredential)). option_and_then (λ (held : Option ScriptCredential). held) o)
     (stands.represents.caches i

@@ -1,5 +1,5 @@
 -- A session after one more item represents the items with this one after them.
-use Rattle.std.proofs.Common.{◌≡◌, ◌<◌, ℕ, arith, None, Result, Ok, Err, nat_lt, append_assoc, Bool, true, false, not, List, [], ◌∷◌, ◌++◌, length, refl, sym, ap, ◌∙◌, subst, inl, inr, map}
+use Rattle.std.proofs.Common.{◌≡◌, ◌<◌, ℕ, arith, None, Result, Ok, Err, nat_lt, Bool, true, false, not, List, [], ◌∷◌, ◌++◌, length, refl, sym, ap, ◌∙◌, subst, inl, inr, map}
 use Rattle.std.proofs.lemmas.List.{append-nil, map-append}
 use Rattle.sequential_signer.specs.Setup.{Setup, Handle}
 use Rattle.sequential_signer.specs.Transcript.{is_out_of_memory}
@@ -21,11 +21,9 @@ use Rattle.signctl_format.specs.declared.credential.ScriptCredential.{ScriptCred
 use Rattle.signctl_format.specs.declared.credential.ScriptRule.{ScriptRule}
 use Rattle.signctl_format.specs.declared.credential.ScriptRule.TheVariants.{Now, Cred}
 use Rattle.signctl_format.specs.declared.item.Item.TheVariants as item
-use Rattle.signctl_format.specs.Lines.{with_newline}
 use Rattle.signctl_format.specs.Policy.{script_policy}
 use Rattle.signctl_format.specs.ScriptSetup.{is_empty, place_of_rule, setup_in, events_in, item_error}
 use Rattle.signctl_grant.specs.GrantEvents.{GrantItem, plain_grant_event}
-use Rattle.sign_base.specs.Bytes.{newline}
 use Rattle.sign_base.specs.Lines.{input_limit}
 use Rattle.signctl_grant.specs.GrantOutput.{transcript_of}
 use Rattle.signctl_grant.specs.GrantSessionState.{GrantSessionState, GrantSessionRepresents}
@@ -225,12 +223,6 @@ module _ (session : GrantSessionState) (items : List GrantItem) (stands : GrantS
       (Ok n)
       → n ≡ length (setup_in items).handles
   handle-number cache rule n good h = handle-answer cache rule good (Ok n) h ∙ ap (λ (v : List Handle). length v) handles-same
-
--- a line that is added and ended
-pub line-with_newline : (old mid new line : List ℕ) → mid ≡ old ++ line → new ≡ mid ++ newline ∷ []
-    → new ≡ old ++ with_newline line
-line-with_newline old mid new line added end =
-    end ∙ ap (λ (v : List ℕ). v ++ newline ∷ []) added ∙ append_assoc old line (newline ∷ [])
 
 first-line : (session : GrantSessionState)
     → setup_of session.desk ≡ record { loaders = []; rules = Now ∷ Cred ∷ []; handles = [] }

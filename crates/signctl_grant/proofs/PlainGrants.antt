@@ -1,7 +1,5 @@
 -- An event as a line has it, and the event that the desk is stepped with, get the same.
-use Rattle.std.proofs.Common.{◌≡◌, ℕ, List, map, Option, Some, None, option_map, refl, ap, arith}
-use Rattle.std.specs.Duration.{as_nanos}
-use Rattle.std.specs.declared.time.Duration.{Duration}
+use Rattle.std.proofs.Common.{◌≡◌, ℕ, List, map, option_map}
 use Rattle.sequential_signer.specs.Setup.{Setup}
 use Rattle.sequential_signer.specs.ExpectedGrantReply.{expected_grant_reply}
 use Rattle.sequential_signer.specs.GrantSource.{grant_source}
@@ -13,15 +11,8 @@ use Rattle.signctl_format.specs.declared.credential.ScriptCredential.{ScriptCred
 use Rattle.signctl_format.specs.declared.credential.ScriptRule.{ScriptRule}
 use Rattle.signctl_format.specs.Moments.{plain_duration}
 use Rattle.signctl_format.specs.Policy.{script_policy}
+use Rattle.signctl_format.proofs.PlainEvents.{same_nanos}
 use Rattle.signctl_grant.specs.GrantEvents.{plain_grant_event}
-
--- a duration as its calls see it has the same nanoseconds
-as_nanos-plain : (d : Duration) → as_nanos (plain_duration d) ≡ as_nanos d
-as_nanos-plain d = omega arith
-
-same_nanos : (d : Option Duration) → option_map as_nanos (option_map plain_duration d) ≡ option_map as_nanos d
-same_nanos None = refl
-same_nanos (Some d) = ap (λ n. Some n) (as_nanos-plain d)
 
 plain_event-alike : (event : GrantEvent ScriptCredential) → AreAlikeGrants (plain_grant_event event) event
 plain_event-alike (Begin call d) = begins_so call (option_map plain_duration d) d (same_nanos d)

@@ -1,7 +1,6 @@
 //! The line of a pool: how many calls there were, how many were signed, and how often the provider was asked.
 ghost use Rattle.std.specs.Prelude.{◌≡◌, ◌++◌, ◌∷◌, [], IfOk, OnOk, decimal};
-ghost use Rattle.sequential_signer.specs.LawsOfCaches.{is_ask};
-ghost use Rattle.signer_shared.specs.Serving.{is_done};
+ghost use Rattle.sequential_signer.specs.Replies.{is_ask, is_done};
 ghost use Rattle.signctl_format.specs.Words.{spaced_words};
 ghost use Rattle.pool_jobs.specs.Run.{signed, loads};
 ghost use Rattle.signctl_pool.specs.Line.{pool_line};

@@ -1,5 +1,5 @@
 -- How the output to a script closes.
-use Rattle.std.proofs.Common.{◌≡◌, ◌<◌, ℕ, zero, suc, List, [], ◌∷◌, ◌++◌, length, slice_get, Option, Some, option_map, refl, sym, ap, ◌∙◌, arith}
+use Rattle.std.proofs.Common.{◌≡◌, ◌<◌, ℕ, suc, List, [], ◌∷◌, ◌++◌, length, slice_get, Option, option_map, refl, sym, ap, ◌∙◌}
 use Rattle.std.specs.Option.{option_and_then}
 use Rattle.sequential_signer.specs.Setup.{Setup}
 use Rattle.sequential_signer.specs.Transcript.{committed_entries}
@@ -19,6 +19,7 @@ use Rattle.signctl_script.specs.ScriptOutput.{final_line_of, final_lines_of, tra
 use Rattle.signctl_script.specs.SessionState.{SessionState, RepresentsItems}
 use Rattle.signctl_script.proofs.PlainEvents.{plain-cache}
 use Rattle.signctl_script.specs.declared.script_line.ScriptLine.{ScriptLine}
+use Rattle.desk_parts.proofs.ListPlaces.{item-there}
 
 -- no final lines yet
 pub finals-none : (lines : List ScriptLine) → final_lines_of lines 0 ≡ []
@@ -31,18 +32,13 @@ pub finals-more : (lines : List ScriptLine) (n : ℕ)
 unfolding final_lines_of
 finals-more lines n = refl
 
-there : {A : Type 0} (xs : List A) (i : ℕ) → i < length xs → (x : A) × (slice_get xs i ≡ Some x)
-there [] i h = absurd (omega arith)
-there (x ∷ rest) zero h = (x, refl)
-there (x ∷ rest) (suc i) h = there rest i (omega arith)
-
 -- what the desk caches is what the sequential signer does
 pub cached-is : (session : SessionState) (items : List ScriptItem) → RepresentsItems session items → (i : ℕ)
     → i < length session.desk.loaders
     → option_and_then (λ (held : Option ScriptCredential). held) (slice_get session.desk.caches i)
     ≡ sequential_cache script_policy (setup_in items) (transcript_of items) i
 cached-is session items stands i h =
-    let loader = there session.desk.loaders i h in
+    let loader = item-there session.desk.loaders i h in
     let stepped : List (Entry ScriptCredential) = expected_entries script_policy (setup_in items) stands.stepped in
     ap (λ (o : Option (Option ScriptCredential)). option_and_then (λ (held : Option ScriptCredential). held) o)
     (stands.represents.caches i

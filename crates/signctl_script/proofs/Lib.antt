@@ -7,4 +7,3 @@ mod Closing
 mod LoadSteps
 mod LoadLengths
 mod LoadCounts
-mod LineWords

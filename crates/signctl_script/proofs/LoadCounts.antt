@@ -3,11 +3,11 @@ use Rattle.std.proofs.Common.{◌≡◌, ◌<◌, ◌+◌, ◌-◌, ◌^◌, ℕ
 use Rattle.std.specs.List.{count_by}
 use Rattle.std.proofs.lemmas.List.Sums.{sum_by-append, count_by-le-length}
 use Rattle.sequential_signer.specs.Phase.{is_begun, is_pending, is_not_now}
-use Rattle.sequential_signer.specs.Legal.{is_sign}
+use Rattle.sequential_signer.specs.Replies.{is_sign, is_ask, is_done, is_refused, is_cancelled}
 use Rattle.sequential_signer.specs.declared.event.Entry.{Entry}
 use Rattle.sequential_signer.specs.declared.event.Reply.{Reply}
 use Rattle.signctl_format.specs.declared.credential.ScriptCredential.{ScriptCredential}
-use Rattle.signctl_script.specs.Load.{is_ask, is_done, is_refused, is_cancelled, count_of, counts_of}
+use Rattle.signctl_script.specs.Load.{count_of, counts_of}
 use Rattle.signctl_script.specs.LoadState.{counted, with_reply, AreCounts}
 use Rattle.signctl_script.specs.declared.load.counts.Counts.{Counts}
 

@@ -6,7 +6,8 @@ use Rattle.wake_lock.specs.declared.CallId.{CallId}
 use Rattle.sequential_signer.specs.Setup.{Setup}
 use Rattle.sequential_signer.specs.Transcript.{call_of, committed_entries, is_out_of_memory}
 use Rattle.sequential_signer.specs.ExpectedReply.{expected_reply}
-use Rattle.sequential_signer.specs.Legal.{IsLegalEntry, is_sign}
+use Rattle.sequential_signer.specs.Legal.{IsLegalEntry}
+use Rattle.sequential_signer.specs.Replies.{is_sign}
 use Rattle.sequential_signer.specs.declared.event.Entry.{Entry}
 use Rattle.sequential_signer.specs.declared.event.Event.{Event}
 use Rattle.sequential_signer.specs.declared.event.Reply.{Reply}

@@ -1,5 +1,5 @@
 -- A session after one more item represents the items with this one after them.
-use Rattle.std.proofs.Common.{◌≡◌, ◌<◌, ℕ, arith, Option, Some, None, Result, Ok, Err, nat_lt, append_assoc, Bool, true, false, not, List, [], ◌∷◌, ◌++◌, length, refl, sym, ap, ◌∙◌, subst, inl, inr, map}
+use Rattle.std.proofs.Common.{◌≡◌, ◌<◌, ℕ, arith, Option, Some, None, Result, Ok, Err, nat_lt, Bool, true, false, not, List, [], ◌∷◌, ◌++◌, length, refl, sym, ap, ◌∙◌, subst, inl, inr, map}
 use Rattle.std.proofs.lemmas.List.{append-nil, map-append}
 use Rattle.sequential_signer.specs.Setup.{Setup, Handle}
 use Rattle.sequential_signer.specs.Transcript.{committed_entries, is_out_of_memory}
@@ -11,9 +11,8 @@ use Rattle.sequential_signer.specs.declared.event.Loader.{Loader}
 use Rattle.sequential_signer.specs.declared.event.Reply.{Reply}
 use Rattle.sequential_signer.specs.declared.event.Reply.TheVariants.{OutOfMemory}
 use Rattle.sequential_signer.proofs.ExpectedReplies.{committed_entries-expected, expected_entries-more}
-use Rattle.sign_desk.specs.DeskState.{DeskState, Represents}
+use Rattle.sign_desk.specs.DeskState.{DeskState, Represents, with_cache}
 use Rattle.desk_parts.specs.Tables.{setup_of, was_begun}
-use Rattle.sign_desk.specs.DeskState.{with_cache}
 use Rattle.desk_parts.specs.Adding.{with_handle, AddAnswer, late_refusal, handle_refusal}
 use Rattle.desk_parts.specs.declared.adding.AddError.{AddError}
 use Rattle.desk_parts.proofs.AddAnswers.{cache-allowed, handle-allowed}
@@ -24,11 +23,9 @@ use Rattle.signctl_format.specs.declared.item.Item.TheVariants as item
 use Rattle.signctl_format.specs.declared.script_version.ScriptVersion.{ScriptVersion}
 use Rattle.signctl_format.specs.Policy.{script_policy}
 use Rattle.signctl_format.specs.ScriptEvents.{ScriptItem, plain_event}
-use Rattle.sign_base.specs.Bytes.{newline}
 use Rattle.sign_base.specs.Lines.{input_limit}
 use Rattle.signctl_format.specs.ScriptSetup.{is_empty, place_of_rule, setup_in, events_in, item_error}
 use Rattle.signctl_script.specs.Script.{items_in, version_in}
-use Rattle.signctl_format.specs.Lines.{with_newline}
 use Rattle.signctl_script.specs.ScriptOutput.{transcript_of}
 use Rattle.signctl_script.specs.SessionState.{SessionState, RepresentsItems, SessionRepresents}
 use Rattle.signctl_script.specs.declared.script_line.ScriptLine.{ScriptLine}
@@ -229,12 +226,6 @@ module _ (session : SessionState) (items : List ScriptItem) (stands : Represents
       (Ok n)
       → n ≡ length (setup_in items).handles
   handle-number cache rule n good h = handle-answer cache rule good (Ok n) h ∙ ap (λ (v : List Handle). length v) handles-same
-
--- a line that is added and ended
-pub line-with_newline : (old mid new line : List ℕ) → mid ≡ old ++ line → new ≡ mid ++ newline ∷ []
-    → new ≡ old ++ with_newline line
-line-with_newline old mid new line added end =
-    end ∙ ap (λ (v : List ℕ). v ++ newline ∷ []) added ∙ append_assoc old line (newline ∷ [])
 
 -- a desk with the two rules alone stands before the first line
 pub first-line : (session : SessionState)

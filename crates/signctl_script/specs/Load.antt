@@ -1,5 +1,5 @@
 -- What `load N` writes: how often each kind of reply comes in the transcript of its events.
-use Rattle.std.specs.Prelude.{◌≡◌, ℕ, zero, suc, ◌+◌, ◌/◌, Bool, true, false, List, [], ◌∷◌, ◌++◌, Option, Some, None, if◌then◌else◌, codes, filter_map}
+use Rattle.std.specs.Prelude.{◌≡◌, ℕ, zero, suc, ◌+◌, ◌/◌, Bool, List, [], ◌∷◌, ◌++◌, Option, Some, None, if◌then◌else◌, codes, filter_map}
 use Rattle.std.specs.List.{count_by}
 use Rattle.std.specs.Fmt.{decimal}
 use Rattle.std.specs.Io.{StartsWith}
@@ -8,7 +8,7 @@ use Rattle.sequential_signer.specs.Setup.{Setup}
 use Rattle.sequential_signer.specs.Transcript.{call_of}
 use Rattle.sequential_signer.specs.Phase.{is_begun, is_pending, is_not_now}
 use Rattle.sequential_signer.specs.ExpectedReply.{expected_reply}
-use Rattle.sequential_signer.specs.Legal.{is_sign}
+use Rattle.sequential_signer.specs.Replies.{is_sign, is_ask, is_cancelled, is_done, is_refused}
 use Rattle.sequential_signer.specs.declared.event.Entry.{Entry}
 use Rattle.sequential_signer.specs.declared.event.Event.{Event}
 use Rattle.sequential_signer.specs.declared.event.Loader.TheVariants.{Single}
@@ -75,26 +75,6 @@ transcript_of_rounds n (suc round) =
 -- the transcript of n calls, in rounds of eight
 abbrev pub load_transcript : ℕ → List (Entry ScriptCredential)
 load_transcript n = transcript_of_rounds n ((n + 7) / 8)
-
--- whether the reply asks a provider
-abbrev pub is_ask : {K : Type 0} → Reply K → Bool
-is_ask (reply.Ask provider) = true
-is_ask _ = false
-
--- whether the reply is a signed head
-abbrev pub is_done : {K : Type 0} → Reply K → Bool
-is_done (reply.Done head) = true
-is_done _ = false
-
--- whether the reply is a refusal
-abbrev pub is_refused : {K : Type 0} → Reply K → Bool
-is_refused (reply.Refused why wake) = true
-is_refused _ = false
-
--- whether the reply says that the call was cancelled
-abbrev pub is_cancelled : {K : Type 0} → Reply K → Bool
-is_cancelled (reply.Cancelled wake) = true
-is_cancelled _ = false
 
 -- how often a kind of reply comes
 abbrev pub count_of : (Reply ScriptCredential → Bool) → List (Entry ScriptCredential) → ℕ

@@ -2,7 +2,7 @@
 use Rattle.std.specs.Prelude.{◌≡◌, ◌<◌, ◌^◌, ◌++◌, ℕ, Bool, true, false, List, length}
 use Rattle.sign_base.specs.Faults.{one_more}
 use Rattle.sequential_signer.specs.Phase.{is_begun, is_pending, is_not_now}
-use Rattle.sequential_signer.specs.Legal.{is_sign}
+use Rattle.sequential_signer.specs.Replies.{is_sign, is_ask, is_done, is_refused, is_cancelled}
 use Rattle.sequential_signer.specs.declared.event.Event.{Event}
 use Rattle.sequential_signer.specs.declared.event.Reply.{Reply}
 use Rattle.sequential_signer.specs.Transcript.{committed_entries}
@@ -11,7 +11,7 @@ use Rattle.sign_desk.specs.DeskState.{Represents}
 use Rattle.desk_parts.specs.Tables.{setup_of}
 use Rattle.signctl_format.specs.declared.credential.ScriptCredential.{ScriptCredential}
 use Rattle.signctl_format.specs.Policy.{script_policy}
-use Rattle.signctl_script.specs.Load.{load_setup, is_ask, is_done, is_refused, is_cancelled, counts_of, entries_after, signed_calls}
+use Rattle.signctl_script.specs.Load.{load_setup, counts_of, entries_after, signed_calls}
 use Rattle.signctl_script.specs.declared.load.counts.Counts.{Counts}
 use Rattle.signctl_script.specs.declared.load.rounds.Rounds.{Rounds}
 

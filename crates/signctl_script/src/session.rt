@@ -1,7 +1,6 @@
 //! `signctl script`, line by line: the desk that the cache and handle lines set up, and what is kept
 //! of the lines so far.
 ghost use Rattle.std.specs.Prelude.{◌≡◌, ◌++◌, ◌∷◌, ◌<◌, [], List, length, not, OnOk, IfOk, unwrap_or};
-ghost use Rattle.sequential_signer.specs.Transcript.{is_out_of_memory};
 ghost use Rattle.sign_desk.specs.DeskState.{Represents};
 ghost use Rattle.desk_parts.specs.Adding.{with_rule};
 ghost use Rattle.sign_base.specs.Bytes.{newline};
@@ -16,7 +15,7 @@ ghost use Rattle.signctl_script.specs.Answering.{CanAnswer, AnswersItem};
 ghost use Rattle.signctl_script.specs.declared.script_line.ScriptLine.{ScriptLine};
 
 use crate::script_line::ScriptLine;
-use sequential_signer::{Loader, Reply};
+use sequential_signer::Loader;
 use sign_base::NoMemory;
 use sign_desk::{AddError, Desk};
 use signctl_driver::LineCommand;
@@ -132,7 +131,7 @@ impl Session {
         ensures version { self.new.version ≡ self.old.version }
     {
         let reply = self.desk.step_owned(event.into_event());
-        if is_out_of_memory(&reply) {
+        if reply.is_out_of_memory() {
             return Err(NoMemory { back: () });
         }
         self.had_event = true;
@@ -265,13 +264,6 @@ fn out_of_memory(refusal: AddError) -> NoMemory<()>
 {
     let _ = refusal;
     NoMemory { back: () }
-}
-
-/// Whether a reply says that an allocation failed.
-fn is_out_of_memory(reply: &Reply<ScriptCredential>) -> bool
-    ensures { result ≡ is_out_of_memory reply.now }
-{
-    matches!(reply, Reply::OutOfMemory)
 }
 
 /// Ends a line of the text.

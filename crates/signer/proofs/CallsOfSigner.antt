@@ -1,13 +1,9 @@
 -- Calls that are kept by their numbers stay those of their signer, whatever is done with one of them.
-use Rattle.std.proofs.Common.{◌≡◌, ◌<◌, ◌+◌, ◌⊎◌, ℕ, zero, suc, true, false, List, [], ◌∷◌, ◌++◌, length, Option, Some, None, slice_get, slice_set, ◌≢◌, inl, inr, refl, sym, ◌∙◌, ap, subst, arith}
-use Rattle.std.proofs.Math.Dec.{eqb}
-use Rattle.std.proofs.lemmas.Bool.Decides.{eqb_tells}
-use Rattle.std.proofs.lemmas.List.{length-append, length-set}
-use Rattle.std.proofs.lemmas.Option.{slice_get_within}
-use Rattle.sequential_signer.proofs.Places.{slice_get-set_other}
+use Rattle.std.proofs.Common.{◌≡◌, ◌+◌, ℕ, List, [], ◌∷◌, ◌++◌, Option, Some, None, slice_get, slice_set, ap, subst}
 use Rattle.http.specs.declared.request.Parts.{Parts}
 use Rattle.wake_lock.specs.declared.CallId.{CallId}
 use Rattle.sequential_signer.specs.Policy.{Policy}
+use Rattle.desk_driver.proofs.NumberedCalls.{numbered-none, numbered-begun, numbered-without, numbered-set}
 use Rattle.signer.specs.IssuedBy.{IsIssuedBy}
 use Rattle.signer.specs.CallsOf.{AreCallsOf, state_back}
 use Rattle.signer.specs.SignerCalls.{Begins, KeepsOthers, IsAnswerIssuedBy}
@@ -17,96 +13,26 @@ use Rattle.signer.specs.declared.sign.Sign.{Sign}
 use Rattle.signer.specs.declared.sign_poll.SignAnswer.{SignAnswer}
 use Rattle.signer.specs.declared.sign_poll.SignAnswer.TheVariants as answer
 
--- what stands at a place that was written is what was written
-written : {A : Type 0} (xs : List A) (i : ℕ) (x y : A) → slice_get (slice_set xs i x) i ≡ Some y → x ≡ y
-written [] i x y e = absurd (cc)
-written (z ∷ zs) zero x y e = cc
-written (z ∷ zs) (suc i) x y e = written zs i x y e
-
--- an item of a list with one more stands in the list, or is that one
-appended : {A : Type 0} (xs : List A) (x y : A) (k : ℕ) → slice_get (xs ++ x ∷ []) k ≡ Some y
-    → (slice_get xs k ≡ Some y) ⊎ ((k ≡ length xs) × (x ≡ y))
-appended [] x y zero e = inr (refl, cc)
-appended [] x y (suc k) e = absurd (cc)
-appended (z ∷ zs) x y zero e = inl e
-appended (z ∷ zs) x y (suc k) e = elim (appended zs x y k e) [ inl h ↦ inl h | inr h ↦ inr (ap suc h.0, h.1) ]
-
 module _ {P S K C L W : Type 0} (m : Meanings P S K C L W) where
+  -- the call of a state
+  abbrev call_of : Sign P S K C L C W K → CallId
+  call_of x = x.begun.id
+
   -- a new signer has none
   pub calls-none : (signer : SignerState P S K C) → signer.begun ≡ 0 → AreCallsOf m signer []
-  calls-none signer none = record {
-    begun = sym none;
-    at = λ n sign is. absurd (cc);
-  }
+  calls-none signer none = numbered-none call_of (IsIssuedBy m signer) signer.begun none
 
   -- `sign` begins the next one
   pub calls-begun : (policy : Policy K S) (old new : SignerState P S K C) (parts : Parts)
       (calls : List (Option (Sign P S K C L C W K))) (sign : Sign P S K C L C W K) → AreCallsOf m old calls
       → Begins m policy (record { old = old; new = new }) parts sign
       → AreCallsOf m new (calls ++ Some sign ∷ [])
-  calls-begun policy old new parts calls sign all b = record {
-    begun = length-append calls (Some sign ∷ []) ∙ ap (λ n. n + 1) all.begun ∙ sym (ap (λ (s : SignerState P S K C). s.begun) b.next);
-    at = λ n other is. by_place n other (appended calls (Some sign) (Some other) n is);
-  }
-    where
-      by_place : (n : ℕ) (other : Sign P S K C L C W K)
-          → (slice_get calls n ≡ Some (Some other))
-          ⊎ ((n ≡ length calls) × ((let x : Option (Sign P S K C L C W K) = Some sign in x) ≡ Some other))
-          → (other.begun.id.number ≡ n) × IsIssuedBy m new other
-      by_place n other (inl h) =
-          let was = all.at n other h in
-          let below : n < length calls = slice_get_within calls n (Some other) h in (
-            was.0,
-            b.others other (λ same.
-                let e : n ≡ length calls = sym was.0 ∙ ap (λ (c : CallId). c.number) same ∙ b.number ∙ sym all.begun in
-                absurd (omega arith)) was.1,
-          )
-      by_place n other (inr h) =
-          let same : sign ≡ other = cc in
-          subst (λ (x : Sign P S K C L C W K). (x.begun.id.number ≡ n) × IsIssuedBy m new x) same (b.number ∙ sym all.begun ∙ sym h.0, b.issued)
-
-  -- what is done with one call leaves the others where they are, and at its place its state or none
-  changed : (old new : SignerState P S K C) (calls next : List (Option (Sign P S K C L C W K))) (n : ℕ)
-      (sign : Sign P S K C L C W K) → AreCallsOf m old calls → slice_get calls n ≡ Some (Some sign)
-      → new ≡ record old { desk = new.desk } → KeepsOthers m sign.begun.id (record { old = old; new = new })
-      → length next ≡ length calls → ((k : ℕ) → (n ≡ k → ⊥) → slice_get next k ≡ slice_get calls k)
-      → ((left : Sign P S K C L C W K) → slice_get next n ≡ Some (Some left)
-      → (left.begun.id ≡ sign.begun.id) × IsIssuedBy m new left)
-      → AreCallsOf m new next
-  changed old new calls next n sign all is same keeps len apart here = record {
-    begun = len ∙ all.begun ∙ sym (ap (λ (s : SignerState P S K C). s.begun) same);
-    at = λ k left there. by_place k left there (eqb_tells n k);
-  }
-    where
-      number : sign.begun.id.number ≡ n
-      number = (all.at n sign is).0
-
-      by_place : (k : ℕ) (left : Sign P S K C L C W K) → slice_get next k ≡ Some (Some left)
-          → ((eqb n k ≡ true) × (n ≡ k)) ⊎ ((eqb n k ≡ false) × (n ≢ k))
-          → (left.begun.id.number ≡ k) × IsIssuedBy m new left
-      by_place k left there (inl h) =
-          let own = here left (ap (λ j. slice_get next j) h.1 ∙ there) in
-          (ap (λ (c : CallId). c.number) own.0 ∙ number ∙ h.1, own.1)
-      by_place k left there (inr h) =
-          let was = all.at k left (sym (apart k h.1) ∙ there) in
-          (was.0, keeps left (λ own. h.1 (sym number ∙ sym (ap (λ (c : CallId). c.number) own) ∙ was.0)) was.1)
+  calls-begun policy old new parts calls sign all b = numbered-begun call_of calls sign all b.others b.number (ap (λ (s : SignerState P S K C). s.begun) b.next) b.issued
 
   -- a call that is over, or is not kept
   pub calls-without : (signer : SignerState P S K C) (calls : List (Option (Sign P S K C L C W K))) (n : ℕ)
       → AreCallsOf m signer calls → AreCallsOf m signer (slice_set calls n None)
-  calls-without signer calls n all = record {
-    begun = length-set calls n None ∙ all.begun;
-    at = λ k sign is. by_place k sign is (eqb_tells n k);
-  }
-    where
-      by_place : (k : ℕ) (sign : Sign P S K C L C W K)
-          → slice_get (slice_set calls n None) k ≡ Some (Some sign)
-          → ((eqb n k ≡ true) × (n ≡ k)) ⊎ ((eqb n k ≡ false) × (n ≢ k))
-          → (sign.begun.id.number ≡ k) × IsIssuedBy m signer sign
-      by_place k sign is (inl h) =
-          let e : (let x : Option (Sign P S K C L C W K) = None in x) ≡ Some sign = written calls n None (Some sign) (ap (λ j. slice_get (slice_set calls n None) j) h.1 ∙ is) in
-          absurd (cc)
-      by_place k sign is (inr h) = all.at k sign (sym (slice_get-set_other calls n k None h.1) ∙ is)
+  calls-without signer calls n all = numbered-without call_of calls n all
 
   -- `cancel` ends one of them
   pub calls-cancelled : (old new : SignerState P S K C) (calls : List (Option (Sign P S K C L C W K))) (n : ℕ)
@@ -114,11 +40,7 @@ module _ {P S K C L W : Type 0} (m : Meanings P S K C L W) where
       → new ≡ record old { desk = new.desk } → KeepsOthers m sign.begun.id (record { old = old; new = new })
       → AreCallsOf m new (slice_set calls n None)
   calls-cancelled old new calls n sign all is same keeps =
-      changed old new calls (slice_set calls n None) n sign all is same keeps (length-set calls n None)
-      (λ k apart. slice_get-set_other calls n k None apart)
-      (λ left there.
-      let e : (let x : Option (Sign P S K C L C W K) = None in x) ≡ Some left = written calls n None (Some left) there in
-      absurd (cc))
+      numbered-set call_of calls sign all keeps n is (ap (λ (s : SignerState P S K C). s.begun) same) None (λ left none. absurd (cc))
 
   handed_back : (signer : SignerState P S K C) (call : CallId) (a : SignAnswer P S K C L C W K)
       → IsAnswerIssuedBy m signer call a → (sign : Sign P S K C L C W K) → state_back a ≡ Some sign
@@ -139,6 +61,4 @@ module _ {P S K C L W : Type 0} (m : Meanings P S K C L W) where
       → KeepsOthers m sign.begun.id (record { old = old; new = new }) → IsAnswerIssuedBy m new sign.begun.id a
       → AreCallsOf m new (slice_set calls n (state_back a))
   calls-polled old new calls n sign a all is same keeps issued =
-      changed old new calls (slice_set calls n (state_back a)) n sign all is same keeps (length-set calls n (state_back a))
-      (λ k apart. slice_get-set_other calls n k (state_back a) apart)
-      (λ left there. handed_back new sign.begun.id a issued left (written calls n (state_back a) (Some left) there))
+      numbered-set call_of calls sign all keeps n is (ap (λ (s : SignerState P S K C). s.begun) same) (state_back a) (λ left back. handed_back new sign.begun.id a issued left back)

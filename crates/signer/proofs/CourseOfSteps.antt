@@ -12,6 +12,7 @@ use Rattle.desk_parts.specs.Memory.{ClonesAreFree}
 use Rattle.sign_desk.specs.Memory.{RunsOutAtHeads}
 use Rattle.sign_desk.specs.Steps.{IsStep}
 use Rattle.desk_driver.specs.CallAt.{LeavesOthers}
+use Rattle.desk_driver.proofs.CallSteps.{leaves-same, leaves-trans}
 use Rattle.signer.specs.IssuedBy.{IsStateIssued}
 use Rattle.signer.specs.Course.{PollEnd, PollRun, PolledCall, IsGiven, IsCourse, stops, ends, goes_on, StopsAt, EndsBy, candidate_of, state_after, wake_in, wakes_in}
 use Rattle.signer.specs.StepOutcome.{StepChange, ComesLater, NamesNobody, IsStepEnd, IsEndIssued, GoesOn, Ends}
@@ -20,20 +21,6 @@ use Rattle.signer.specs.declared.sign.SignState.{SignState}
 use Rattle.signer.specs.declared.sign.SignState.TheVariants.{Waiting, Loading, Signing}
 use Rattle.signer.specs.declared.sign.WorkState.TheVariants as work
 use Rattle.signer.specs.declared.step_outcome.StepEnd.{StepEnd}
-
-module _ {K D : Type 0} where
-  pub leaves-self : (call : CallId) (desk : DeskState K D) → LeavesOthers call desk desk
-  leaves-self call desk = record { loaders = refl; rules = refl; handles = refl; greatest = refl; other_calls = λ other d. refl }
-
-  pub leaves-trans : {call : CallId} {old mid new : DeskState K D} → LeavesOthers call old mid
-      → LeavesOthers call mid new → LeavesOthers call old new
-  leaves-trans a b = record {
-    loaders = b.loaders ∙ a.loaders;
-    rules = b.rules ∙ a.rules;
-    handles = b.handles ∙ a.handles;
-    greatest = b.greatest ∙ a.greatest;
-    other_calls = λ other d. b.other_calls other d ∙ a.other_calls other d;
-  }
 
 module _ {K : Type 0} where
   pub wakes-append : (xs ys : List (Entry K)) → wakes_in (xs ++ ys) ≡ wakes_in xs ++ wakes_in ys
@@ -64,7 +51,7 @@ module _ {K D L W : Type 0} (v : PolledCall K D L W) where
     named = refl;
     quiet = names-nobody state;
     issued = subst (λ d. IsEndIssued v d end) (sym is) issued;
-    others = subst (λ d. LeavesOthers v.begun.id d change.new) (sym was) (subst (λ d. LeavesOthers v.begun.id desk d) (sym is) (leaves-self v.begun.id desk));
+    others = subst (λ d. LeavesOthers v.begun.id d change.new) (sym was) (subst (λ d. LeavesOthers v.begun.id desk d) (sym is) (leaves-same refl));
   }
     where
       names-nobody : (s : SignState K L W) → NamesNobody s None
@@ -164,7 +151,7 @@ module _ {K D L W : Type 0} (v : PolledCall K D L W) where
     named = refl;
     leads = λ run new course. course;
     before = tt;
-    others = leaves-self v.begun.id old;
+    others = leaves-same refl;
     issued = issued;
   }
 

@@ -1,16 +1,12 @@
 -- A poll that has come to its end, as its caller sees it; and that a poll comes to an end.
-use Rattle.std.proofs.Common.{◌≡◌, ℕ, ◌<◌, ◌-◌, zero, suc, Option, Some, IsSome, IsSomeAnd, refl, subst, arith}
+use Rattle.std.proofs.Common.{◌≡◌, ℕ, ◌<◌, ◌-◌, suc, Option, Some, IsSomeAnd, refl, subst, arith}
 use Rattle.http.specs.declared.request.Parts.{Parts}
 use Rattle.wake_lock.specs.declared.CallId.{CallId}
-use Rattle.credentials.specs.declared.providers.Providers.{Providers}
-use Rattle.credentials.specs.declared.providers.Providers.TheVariants as providers
 use Rattle.sequential_signer.specs.declared.event.Loader.{Loader}
 use Rattle.sign_desk.specs.DeskState.{DeskState}
 use Rattle.desk_parts.specs.Places.{provider_count}
 use Rattle.desk_driver.specs.CallAt.{HasProvider, loader_of}
 use Rattle.signer.specs.IssuedBy.{IsStateIssued}
-use Rattle.desk_driver.specs.ProviderList.{loader_for}
-use Rattle.desk_driver.specs.ProviderList.{provider_at}
 use Rattle.signer.specs.Course.{PollEnd, Pends, Finishes, Refuses, RunsOut, PolledCall, IsDriven, IsEnd, IsAnswerIssued}
 use Rattle.signer.specs.StepOutcome.{StepChange, ComesLater, IsStepEnd, IsEndIssued, answer_by}
 use Rattle.signer.specs.BegunCall.{BegunCall}
@@ -18,7 +14,6 @@ use Rattle.signer.specs.declared.sign.SignState.{SignState}
 use Rattle.signer.specs.declared.sign.SignState.TheVariants.{Waiting, Loading, Signing}
 use Rattle.signer.specs.declared.step_outcome.StepEnd.{StepEnd}
 use Rattle.signer.specs.declared.step_outcome.StepEnd.TheVariants.{Pending, Done, Refused, OutOfMemory}
-use Rattle.desk_parts.proofs.ListPlaces.{place-there}
 use Rattle.signer.proofs.CourseOfSteps.{CourseEnds}
 
 module _ (P S C : Type 0) {K L W : Type 0} (begun : BegunCall) where
@@ -84,10 +79,3 @@ module _ {K D L W : Type 0} (v : PolledCall K D L W) (desk : DeskState K D) (loa
       omega (arith, later, h)
   fewer (Loading candidate provider l) (Signing credential w) new later = omega arith
   fewer (Signing credential w) next new later = absurd later
-
--- a provider that the loader counts is there
-pub provider-there : {P : Type 0} (p : Providers P) (number : ℕ) → number < provider_count (loader_for p)
-    → IsSome (provider_at p number)
-provider-there (providers.Single provider) zero h = refl
-provider-there (providers.Single provider) (suc n) h = absurd (omega arith)
-provider-there (providers.Chain chain) number h = place-there chain number h

@@ -1,12 +1,10 @@
 -- A poll that is under way: from its beginning to each of its steps, and to its end.
-use Rattle.std.proofs.Common.{◌≡◌, ℕ, ◌<◌, Some, None, IsSome, refl, sym, ◌∙◌, subst}
+use Rattle.std.proofs.Common.{◌≡◌, ◌<◌, Some, None, IsSome, refl, sym, ◌∙◌, subst}
 use Rattle.std.specs.Option.{option_or}
 use Rattle.http.specs.declared.request.Parts.{Parts}
-use Rattle.wake_lock.specs.declared.CallId.{CallId}
 use Rattle.sign_desk.specs.DeskState.{DeskState}
-use Rattle.desk_driver.specs.CallAt.{loader_of, LeavesOthers}
+use Rattle.desk_driver.specs.CallAt.{loader_of, service_of}
 use Rattle.desk_driver.specs.ProviderList.{loader_for}
-use Rattle.signer.specs.SignerObjects.{service_of}
 use Rattle.signer.specs.Course.{IsDriven}
 use Rattle.signer.specs.StepOutcome.{StepChange, Goes, GoesOn, Ends, answer_by}
 use Rattle.signer.specs.PollContext.{PollContext, call_with, IsService, IsIssuedFor, IsOutcomeWith, IsDrivenFrom}
@@ -14,6 +12,7 @@ use Rattle.signer.specs.declared.sign.SignState.{SignState}
 use Rattle.signer.specs.declared.step_outcome.StepEnd.{StepEnd}
 use Rattle.signer.specs.declared.step_outcome.StepOutcome.{StepOutcome}
 use Rattle.signer.specs.declared.step_outcome.StepFlow.TheVariants.{On, Over}
+use Rattle.desk_driver.proofs.CallSteps.{SameObjects, leaves-objects}
 use Rattle.signer.proofs.CourseOfSteps.{PollPlace, Reached, reached-start, reached-on, reached-end}
 use Rattle.signer.proofs.PollEnds.{driven, steps_left, fewer}
 use Rattle.signer.proofs.ObjectMeanings.{for-service}
@@ -23,18 +22,6 @@ pub record PollStart (K S L W : Type 0) : Type 0 where
   pub state : SignState K L W
   pub desk : DeskState K S
   pub request : Parts
-
--- where the service and the loader of a handle are those before
-pub record SameObjects {K S : Type 0} (handle : ℕ) (old new : DeskState K S) : Type 0 where
-  pub service : service_of new handle ≡ service_of old handle
-  pub loader : loader_of new handle ≡ loader_of old handle
-
-pub leaves-objects : {K S : Type 0} (old new : DeskState K S) {call : CallId} → LeavesOthers call old new
-    → (handle : ℕ) → SameObjects handle old new
-leaves-objects old new l handle = record {
-  service = rw (l.handles, l.rules) refl;
-  loader = rw (l.handles, l.loaders) refl;
-}
 
 module _ {P S K C L W : Type 0} (d : PollContext P S K C L W) (start : PollStart K S L W) where
   -- the poll has come to this place, and the request is as it was
@@ -77,7 +64,7 @@ module _ {P S K C L W : Type 0} (d : PollContext P S K C L W) (start : PollStart
             reached = λ service is'. reached-on (call_with d service) start.state start.desk place (u.reached service is') change refl taken.wake next (goes service is');
             same = (goes one is).same ∙ u.same;
             objects =
-                let o = leaves-objects place.desk new (goes one is).others d.begun.id.handle in
+                let o = leaves-objects (goes one is).others d.begun.id.handle in
                 record { service = o.service ∙ u.objects.service; loader = o.loader ∙ u.objects.loader };
           })
 
@@ -93,7 +80,7 @@ module _ {P S K C L W : Type 0} (d : PollContext P S K C L W) (start : PollStart
           for-service (service_of start.desk d.begun.id.handle) (steps_left (loader_for d.objects.providers.now) next < steps_left (loader_for d.objects.providers.now) place.state) there
           (λ service is.
           let goes : GoesOn (call_with d service) place.state change taken.wake next = subst (Goes (call_with d service) place.state change taken.wake) flow (step service (still service is)) in
-          let o = leaves-objects place.desk new goes.others d.begun.id.handle in
+          let o = leaves-objects goes.others d.begun.id.handle in
           fewer (call_with d service) new (loader_for d.objects.providers.now) (o.loader ∙ u.objects.loader ∙ loads) place.state next goes.issued goes.later)
 
       pub invariant-end : (taken : StepOutcome K L W) (end : StepEnd K L W) → taken.flow ≡ Over end

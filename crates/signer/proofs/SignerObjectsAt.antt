@@ -1,13 +1,13 @@
 -- The objects of a handle, by the lists of a signer that hold them.
-use Rattle.std.proofs.Common.{◌≡◌, ℕ, Option, Some, None, IsSomeAnd, List, map, option_map, option_and_then, slice_get, refl, sym, ◌∙◌, ap}
-use Rattle.std.specs.List.{slice_index_or}
-use Rattle.std.proofs.lemmas.Option.{slice_get-map, get_or_from_slice_get}
+use Rattle.std.proofs.Common.{◌≡◌, ℕ, Option, Some, None, map, option_map, option_and_then, slice_get, refl, ◌∙◌, ap}
+use Rattle.std.proofs.lemmas.Option.{slice_get-map}
 use Rattle.credentials.specs.declared.providers.Providers.{Providers}
 use Rattle.sequential_signer.specs.Setup.{Handle}
-use Rattle.desk_driver.specs.CallAt.{loader_of}
+use Rattle.desk_driver.specs.CallAt.{loader_of, service_of}
 use Rattle.signer.specs.SignerInvariant.{SignerState}
 use Rattle.desk_driver.specs.ProviderList.{loader_for}
-use Rattle.signer.specs.SignerObjects.{Objects, objects_by, objects_of, service_of}
+use Rattle.signer.specs.SignerObjects.{objects_of}
+use Rattle.desk_driver.specs.Objects.{Objects, objects_by}
 
 module _ {P S K C : Type 0} (s : SignerState P S K C) (handle : ℕ) where
   -- the objects are those of the handle
@@ -67,21 +67,3 @@ module _ {P S K C : Type 0} (s : SignerState P S K C) (handle : ℕ) where
   -- the service of the handle is the one among the objects
   pub serves-by : (o : Objects P S C) → HasObjects o → service_of s.desk handle ≡ Some o.service
   serves-by o h = rw h.handle_is h.service_is
-
--- what holds of an object that is there holds of one
-pub for-objects : {A : Type 0} (found : Option A) (Q : A → Type 0) (R : Type 0) → IsSomeAnd found Q
-    → ((o : A) → found ≡ Some o → Q o → R) → R
-for-objects None Q R h k = absurd h
-for-objects (Some o) Q R h k = k o refl h
-
--- what stands at a place of a list that is read
-pub index-is : {X : Type 0} (xs : List X) (i j : ℕ) (x d got : X) → slice_get xs j ≡ Some x → i ≡ j
-    → got ≡ slice_index_or xs i d → got ≡ x
-index-is xs i j x d got is same e = e ∙ ap (λ n. slice_index_or xs n d) same ∙ get_or_from_slice_get xs j x d is
-
--- the cache of a handle that is read
-pub cache-is : (handles : Option Handle) (at : Handle) (got : Option ℕ) (cache : ℕ) → handles ≡ Some at
-    → got ≡ option_map (λ (x : Handle). x.cache) handles → got ≡ Some cache → cache ≡ at.cache
-cache-is handles at got cache h g is =
-    let e : (let o : Option ℕ = Some cache in o) ≡ Some at.cache = sym is ∙ g ∙ ap (option_map (λ (x : Handle). x.cache)) h in
-    cc

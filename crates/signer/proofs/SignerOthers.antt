@@ -1,16 +1,13 @@
 -- The states of other calls stay those that the signer issued.
-use Rattle.std.proofs.Common.{ap, ◌≡◌, inl, inr, ℕ, ◌<◌, Bool, true, false, Option, Some, None, IsSomeAnd, refl, sym, ◌∙◌, subst}
+use Rattle.std.proofs.Common.{ap, ◌≡◌, inl, inr, ℕ, Option, Some, None, IsSomeAnd, refl, sym, ◌∙◌, subst}
 use Rattle.wake_lock.specs.declared.CallId.{CallId}
-use Rattle.wake_lock.specs.Calls.{same_call}
-use Rattle.wake_lock.proofs.Calls.{same_call-eq}
-use Rattle.sequential_signer.specs.declared.event.Loader.{Loader}
 use Rattle.sign_desk.specs.DeskState.{DeskState}
-use Rattle.desk_parts.specs.Tables.{find_call}
-use Rattle.desk_parts.specs.Places.{provider_count}
-use Rattle.desk_driver.specs.CallAt.{IsAt, IsLive, IsWaiting, HasProvider, loader_of, LeavesOthers}
+use Rattle.desk_driver.specs.CallAt.{IsAt, IsLive, IsWaiting, LeavesOthers}
+use Rattle.desk_driver.proofs.KeptCalls.{KeepsCall, keeps-other, keeps-provider}
 use Rattle.signer.specs.IssuedBy.{IsStateIssued, IsIssuedBy}
 use Rattle.signer.specs.SignerInvariant.{SignerState}
-use Rattle.signer.specs.SignerObjects.{Meanings, Objects, CallMeaning, call_meaning, objects_of}
+use Rattle.signer.specs.SignerObjects.{Meanings, CallMeaning, call_meaning, objects_of}
+use Rattle.desk_driver.specs.Objects.{Objects}
 use Rattle.signer.specs.SignerCalls.{KeepsOthers, IsAnswerIssuedBy}
 use Rattle.signer.specs.Course.{IsAnswerIssued}
 use Rattle.signer.specs.declared.sign_poll.SignAnswer.{SignAnswer}
@@ -22,39 +19,7 @@ use Rattle.signer.specs.declared.sign.Sign.{Sign}
 use Rattle.signer.specs.declared.sign.SignState.{SignState}
 use Rattle.signer.specs.declared.sign.SignState.TheVariants.{Waiting, Loading, Signing}
 
--- names that differ are of two calls
-pub differs : (a b : CallId) → (b ≡ a → ⊥) → same_call a b ≡ false
-differs a b apart = by_test (same_call a b) refl
-  where
-    by_test : (t : Bool) → same_call a b ≡ t → t ≡ false
-    by_test false e = refl
-    by_test true e = absurd (apart (sym (same_call-eq a b e)))
-
--- the setup and the record of this call stay
-pub record KeepsCall {K D : Type 0} (call : CallId) (old new : DeskState K D) : Type 0 where
-  pub loaders : new.loaders ≡ old.loaders
-  pub rules : new.rules ≡ old.rules
-  pub handles : new.handles ≡ old.handles
-  pub record_is : find_call call new.calls ≡ find_call call old.calls
-
-pub keeps-other : {K D : Type 0} (call other : CallId) (old new : DeskState K D) → LeavesOthers call old new
-    → (other ≡ call → ⊥) → KeepsCall other old new
-keeps-other call other old new l apart = record {
-  loaders = l.loaders;
-  rules = l.rules;
-  handles = l.handles;
-  record_is = l.other_calls other (differs call other apart);
-}
-
 module _ {K D : Type 0} (old new : DeskState K D) where
-  keeps-loader : (call : CallId) → KeepsCall call old new → (handle : ℕ)
-      → loader_of new handle ≡ loader_of old handle
-  keeps-loader call k handle = rw (k.handles, k.loaders) refl
-
-  keeps-provider : (call : CallId) → KeepsCall call old new → (handle provider : ℕ)
-      → HasProvider old handle provider → HasProvider new handle provider
-  keeps-provider call k handle provider h = subst (λ o. IsSomeAnd o (λ (l : Loader). provider < provider_count l)) (sym (keeps-loader call k handle)) h
-
   keeps-at : (begun : BegunCall) → KeepsCall begun.id old new → (s : Stage) (n : ℕ) → IsAt begun s n old
       → IsAt begun s n new
   keeps-at begun k s n h = k.record_is ∙ h
@@ -66,7 +31,7 @@ module _ {K D : Type 0} (old new : DeskState K D) where
   pub keeps-state : {L W : Type 0} (m : CallMeaning K L W) (begun : BegunCall) → KeepsCall begun.id old new
       → (state : SignState K L W) → IsStateIssued m begun old state → IsStateIssued m begun new state
   keeps-state m begun k (Waiting candidate) h = (keeps-waiting begun k h.0, h.1)
-  keeps-state m begun k (Loading candidate provider l) h = ((k.record_is ∙ h.0.0, keeps-provider begun.id k begun.id.handle provider h.0.1), h.1, h.2)
+  keeps-state m begun k (Loading candidate provider l) h = ((k.record_is ∙ h.0.0, keeps-provider old new begun.id k begun.id.handle provider h.0.1), h.1, h.2)
   keeps-state m begun k (Signing credential w) h = ((h.0.0, k.record_is ∙ h.0.1), h.1)
 
 -- a call whose state was issued is live
@@ -123,4 +88,4 @@ module _ {P S K C L W : Type 0} (m : Meanings P S K C L W) where
   pub keeps-others : (call : CallId) (old : SignerState P S K C) (desk : DeskState K S)
       → LeavesOthers call old.desk desk
       → KeepsOthers m call (record { old = old; new = record old { desk = desk } })
-  keeps-others call old desk l other apart issued = keeps-issued old desk other (keeps-other call other.begun.id old.desk desk l apart) issued
+  keeps-others call old desk l other apart issued = keeps-issued old desk other (keeps-other old.desk desk call other.begun.id l apart) issued

@@ -1,8 +1,7 @@
 -- What a step of a poll is, by the reply of the desk or by what an object answered.
-use Rattle.std.proofs.Common.{◌≡◌, ℕ, inl, inr, Option, Some, None, IsTrue, refl, ap, subst}
+use Rattle.std.proofs.Common.{◌≡◌, ℕ, inl, inr, Some, None, IsTrue, refl, subst}
 use Rattle.sign_base.specs.Error.{ErrorParts}
 use Rattle.sign_base.specs.declared.head.Head.{Head}
-use Rattle.credentials.specs.declared.polled.Polled.{Polled}
 use Rattle.credentials.specs.declared.polled.Polled.TheVariants as polled
 use Rattle.credentials.specs.Operation.{SignOutcome}
 use Rattle.sequential_signer.specs.declared.event.Answer.TheVariants.{Found, Missing, Failed}
@@ -19,11 +18,12 @@ use Rattle.desk_parts.specs.Memory.{ClonesAreFree}
 use Rattle.sign_desk.specs.Memory.{RunsOutAtHeads}
 use Rattle.sign_desk.specs.Steps.{IsStep}
 use Rattle.desk_driver.specs.CallAt.{IsWaiting, IsAsking, IsSigning, LeavesOthers}
-use Rattle.signer.specs.DeskReplies.{AfterPoll, AfterFound, AfterNone, is_of_look, is_of_check}
+use Rattle.signer.specs.DeskReplies.{AfterPoll, AfterFound, AfterNone}
+use Rattle.desk_driver.specs.Causes.{is_of_look, is_of_check}
 use Rattle.desk_driver.specs.LoadAnswer.{IsLoadPending, KeepsLoad, IsLoadOpen, LoadRunsOut}
 use Rattle.signer.specs.ObjectAnswer.{IsWorkPending, KeepsWork, IsWorkOpen, WorkRunsOut}
 use Rattle.signer.specs.IssuedBy.{IsLoadMade, IsWorkMade}
-use Rattle.signer.specs.Course.{PolledCall, Pends, Finishes, Refuses, RunsOut, IsAnswerGiven, IsVerdictGiven, IsRefusal, FailsWith}
+use Rattle.signer.specs.Course.{PolledCall, Pends, Finishes, Refuses, RunsOut, IsVerdictGiven, IsRefusal, FailsWith}
 use Rattle.signer.specs.StepOutcome.{StepChange, IsStepOutcome, Ends}
 use Rattle.signer.specs.OutcomeByReply.{plain_refusal, outcome_after_poll, outcome_after_found, outcome_after_none}
 use Rattle.signer.specs.declared.refusal.Refusal.TheVariants as refusal
@@ -33,26 +33,8 @@ use Rattle.signer.specs.declared.sign.WorkState.{WorkState}
 use Rattle.signer.specs.declared.sign.WorkState.TheVariants as work
 use Rattle.signer.specs.declared.sign.SignState.TheVariants.{Waiting, Loading, Signing}
 use Rattle.signer.specs.declared.step_outcome.StepEnd.TheVariants as end
+use Rattle.desk_driver.proofs.LoadAnswers.{found-given, missing-given, failed-given}
 use Rattle.signer.proofs.CourseOfSteps.{ends-without, ends-by}
-
-module _ {K L : Type 0} (gives : Polled (Option K) → Type 0) where
-  found-given : (l : LoadState K L) (found : K) → gives (polled.Ready (Some found))
-      → KeepsLoad l (load.Found found) → IsAnswerGiven gives l (Found found)
-  found-given load.Unstarted found h keeps = h
-  found-given (load.Started x) found h keeps = h
-  found-given (load.Found kept) found h keeps = let same : found ≡ kept = cc in ap Found same
-
-  missing-given : (l : LoadState K L) → gives (polled.Ready None) → IsLoadOpen l
-      → IsAnswerGiven gives l Missing
-  missing-given load.Unstarted h unanswered = h
-  missing-given (load.Started x) h unanswered = h
-  missing-given (load.Found kept) h unanswered = absurd unanswered
-
-  failed-given : (l : LoadState K L) (n : ℕ) (e : ErrorParts) → gives (polled.Failed e) → IsLoadOpen l
-      → IsAnswerGiven gives l (Failed n)
-  failed-given load.Unstarted n e h unanswered = (e, h)
-  failed-given (load.Started x) n e h unanswered = (e, h)
-  failed-given (load.Found kept) n e h unanswered = absurd unanswered
 
 module _ {W : Type 0} (gives : SignOutcome → Type 0) where
   accepted-given : (w : WorkState W) (candidate : Head)

@@ -1,5 +1,6 @@
 -- The states of all calls of a signer, kept by the numbers of the calls.
-use Rattle.std.specs.Prelude.{◌≡◌, ℕ, List, length, Option, Some, None, slice_get}
+use Rattle.std.specs.Prelude.{List, Option, Some, None}
+use Rattle.desk_driver.specs.NumberedCalls.{AreNumbered}
 use Rattle.signer.specs.IssuedBy.{IsIssuedBy}
 use Rattle.signer.specs.SignerInvariant.{SignerState}
 use Rattle.signer.specs.SignerObjects.{Meanings}
@@ -16,8 +17,7 @@ module _ {P S K C L W : Type 0} where
 
   -- there are as many as were begun, and a state stands at the number of its call
   -- and was issued by this signer
-  pub record AreCallsOf (m : Meanings P S K C L W) (signer : SignerState P S K C)
-      (calls : List (Option (Sign P S K C L C W K))) : Type 0 where
-    pub begun : length calls ≡ signer.begun
-    pub at : (n : ℕ) (sign : Sign P S K C L C W K) → slice_get calls n ≡ Some (Some sign)
-        → (sign.begun.id.number ≡ n) × IsIssuedBy m signer sign
+  abbrev pub AreCallsOf : Meanings P S K C L W → SignerState P S K C
+      → List (Option (Sign P S K C L C W K)) → Type 0
+  AreCallsOf m signer calls =
+      AreNumbered (λ (sign : Sign P S K C L C W K). sign.begun.id) (IsIssuedBy m signer) signer.begun calls

@@ -4,12 +4,10 @@ use Rattle.http.specs.declared.request.Parts.{Parts}
 use Rattle.sign_base.specs.Error.{ErrorParts}
 use Rattle.sign_base.specs.declared.head.Head.{Head}
 use Rattle.wake_lock.specs.declared.CallId.{CallId}
-use Rattle.credentials.specs.declared.polled.Polled.{Polled}
 use Rattle.credentials.specs.declared.polled.Polled.TheVariants as polled
 use Rattle.credentials.specs.Operation.{SignOutcome}
 use Rattle.sequential_signer.specs.Policy.{Policy}
-use Rattle.sequential_signer.specs.declared.event.Answer.{Answer}
-use Rattle.sequential_signer.specs.declared.event.Answer.TheVariants.{Found, Missing, Failed}
+use Rattle.sequential_signer.specs.declared.event.Answer.TheVariants.{Found}
 use Rattle.sequential_signer.specs.declared.event.Entry.{Entry}
 use Rattle.sequential_signer.specs.declared.event.Event.{Event}
 use Rattle.sequential_signer.specs.declared.event.Event.TheVariants.{Poll, Provided, Signed}
@@ -25,15 +23,15 @@ use Rattle.sign_desk.specs.DeskState.{DeskState, Represents}
 use Rattle.desk_parts.specs.Memory.{ClonesAreFree}
 use Rattle.sign_desk.specs.Memory.{RunsOutAtHeads}
 use Rattle.sign_desk.specs.Steps.{IsStep}
-use Rattle.desk_driver.specs.LoadAnswer.{IsLoadPending, LoadRunsOut}
+use Rattle.desk_driver.specs.LoadAnswer.{IsLoadPending, LoadRunsOut, IsAnswerGiven}
 use Rattle.signer.specs.ObjectAnswer.{IsWorkPending, WorkRunsOut}
 use Rattle.desk_driver.specs.CallAt.{LeavesOthers}
 use Rattle.signer.specs.IssuedBy.{IsStateIssued}
-use Rattle.signer.specs.SignerObjects.{Meanings, Objects, CallMeaning, call_meaning}
+use Rattle.signer.specs.SignerObjects.{Meanings, CallMeaning, call_meaning}
+use Rattle.desk_driver.specs.Objects.{Objects}
 use Rattle.signer.specs.declared.refusal.Refusal.{Refusal}
 use Rattle.signer.specs.declared.refusal.Refusal.TheVariants as refusal
 use Rattle.signer.specs.BegunCall.{BegunCall}
-use Rattle.desk_driver.specs.declared.load_state.LoadState.{LoadState}
 use Rattle.desk_driver.specs.declared.load_state.LoadState.TheVariants as load
 use Rattle.signer.specs.declared.sign.WorkState.{WorkState}
 use Rattle.signer.specs.declared.sign.WorkState.TheVariants as work
@@ -67,13 +65,6 @@ pub record PolledCall (K D L W : Type 0) : Type 1 where
   pub meaning : CallMeaning K L W
   pub begun : BegunCall
   pub now : ℤ
-
--- the answer is the credential that is kept, or one that the provider gives
-abbrev pub IsAnswerGiven : {K L : Type 0} → (Polled (Option K) → Type 0) → LoadState K L → Answer K → Type 0
-IsAnswerGiven gives (load.Found kept) given = given ≡ Found kept
-IsAnswerGiven gives l (Found credential) = gives (polled.Ready (Some credential))
-IsAnswerGiven gives l Missing = gives (polled.Ready None)
-IsAnswerGiven gives l (Failed n) = (e : ErrorParts) × gives (polled.Failed e)
 
 -- `http` does not accept the URI or the headers of the head that is kept, or the service gives this error, or
 -- a head that `http` does not accept

@@ -1,5 +1,5 @@
 -- What a step of a call that a signer drives replies, and where the call is after it.
-use Rattle.std.specs.Prelude.{◌≡◌, ℕ, ◌+◌, Bool, true, false, IsTrue, Option, Some, None, slice_set}
+use Rattle.std.specs.Prelude.{◌≡◌, ℕ, ◌+◌, false, IsTrue, Option, Some, None, slice_set}
 use Rattle.wake_lock.specs.declared.CallId.{CallId}
 use Rattle.wake_lock.specs.Calls.{same_call}
 use Rattle.sequential_signer.specs.declared.event.Answer.{Answer}
@@ -11,25 +11,14 @@ use Rattle.sequential_signer.specs.declared.event.Reply.TheVariants.{Pending, Ou
 use Rattle.sequential_signer.specs.declared.event.Verdict.{Verdict}
 use Rattle.sequential_signer.specs.declared.event.Verdict.TheVariants as verdict
 use Rattle.sequential_signer.specs.declared.event.Why.{Why}
-use Rattle.sequential_signer.specs.declared.event.Why.TheVariants.{Missing, Short, Range}
+use Rattle.sequential_signer.specs.declared.event.Why.TheVariants.{Missing}
 use Rattle.sign_base.specs.declared.head.Head.{Head}
 use Rattle.sign_desk.specs.DeskState.{DeskState}
 use Rattle.desk_parts.specs.Tables.{find_call}
 use Rattle.desk_driver.specs.CallAt.{IsAt, IsWaiting, IsSigning, IsAsking}
 use Rattle.desk_parts.specs.declared.call_record.Stage.TheVariants.{Unpolled}
+use Rattle.desk_driver.specs.Causes.{is_of_look, is_of_check}
 use Rattle.signer.specs.BegunCall.{BegunCall}
-
--- whether a look can refuse for this cause
-abbrev pub is_of_look : Why → Bool
-is_of_look Missing = true
-is_of_look Range = true
-is_of_look _ = false
-
--- whether the check of a credential that was found can refuse for this cause
-abbrev pub is_of_check : Why → Bool
-is_of_check (Short deadline) = true
-is_of_check Range = true
-is_of_check _ = false
 
 -- a call that was begun: its record is there, its number is its handle's greatest, and the rest stays
 pub record IsBegun {K D : Type 0} (begun : BegunCall) (old new : DeskState K D) : Type 0 where

@@ -4,6 +4,7 @@ pub mod SignerInvariant
 pub mod ObjectAnswer
 pub mod ObjectPoll
 pub mod SignerObjects
+pub mod SignerView
 pub mod IssuedBy
 pub mod Course
 pub mod StepOutcome

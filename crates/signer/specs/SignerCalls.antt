@@ -1,5 +1,5 @@
 -- What the calls of a signer do.
-use Rattle.std.specs.Prelude.{◌≡◌, ◌⊎◌, ℕ, List, ◌+◌, codes}
+use Rattle.std.specs.Prelude.{◌≡◌, ◌⊎◌, ℕ, ◌+◌}
 use Rattle.http.specs.declared.request.Parts.{Parts}
 use Rattle.sign_base.specs.Error.{ErrorParts}
 use Rattle.wake_lock.specs.declared.CallId.{CallId}
@@ -15,10 +15,7 @@ use Rattle.signer.specs.SignerObjects.{Meanings}
 use Rattle.signer.specs.declared.sign.Sign.{Sign}
 use Rattle.signer.specs.declared.sign_poll.SignAnswer.{SignAnswer}
 use Rattle.signer.specs.declared.sign_poll.SignAnswer.TheVariants as answer
-
--- all call numbers are used up
-abbrev pub used_up : List ℕ
-used_up = codes "call numbers are used up"
+use Rattle.desk_driver.specs.CallNumbers.{used_up}
 
 -- why no call is begun: an allocation failed, the version is unknown, or there is no further number
 abbrev pub RefusesToBegin : Parts → ℕ → ErrorParts → Type 0

@@ -1,15 +1,14 @@
 -- What a signer keeps, and what holds of every signer.
-use Rattle.std.specs.Prelude.{◌≡◌, ℕ, ◌<◌, ◌≤◌, ◌++◌, List, [], ◌∷◌, Option, Bool, true, ◌&&◌, length, map, slice_get, IfSome}
+use Rattle.std.specs.Prelude.{◌≡◌, ℕ, ◌<◌, ◌≤◌, ◌++◌, List, [], ◌∷◌, true, length, map, slice_get, IfSome}
 use Rattle.credentials.specs.declared.providers.Providers.{Providers}
 use Rattle.sign_request.specs.Keys.{no_keys}
 use Rattle.sign_request.specs.declared.header_keys.HeaderKeys.{HeaderKeys}
-use Rattle.sequential_signer.specs.LiveCall.{is_above}
 use Rattle.sequential_signer.specs.Setup.{Handle}
 use Rattle.sequential_signer.specs.Policy.{Policy}
-use Rattle.sign_desk.specs.DeskState.{DeskState, Represents}
+use Rattle.sign_desk.specs.DeskState.{DeskState, Represents, with_cache}
 use Rattle.desk_parts.specs.Tables.{setup_of}
-use Rattle.sign_desk.specs.DeskState.{with_cache}
 use Rattle.desk_parts.specs.Adding.{with_rule, with_handle}
+use Rattle.desk_driver.specs.CallNumbers.{is_above_all}
 use Rattle.desk_driver.specs.ProviderList.{loader_for}
 use Rattle.desk_parts.specs.WellFormedSetup.{IsWellFormedSetup}
 
@@ -22,11 +21,6 @@ pub record SignerState (P S K C : Type 0) : Type 0 where
   pub context_places : List ℕ
   pub begun : ℕ
   pub keys : HeaderKeys
-
--- whether the number is above each of these, where there is one
-abbrev pub is_above_all : ℕ → List (Option ℕ) → Bool
-is_above_all n [] = true
-is_above_all n (x ∷ rest) = is_above n x && is_above_all n rest
 
 -- each cache has its providers, each handle its cache, its service and its context, and the number
 -- of the next call is above all

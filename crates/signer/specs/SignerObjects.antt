@@ -1,13 +1,13 @@
 -- The objects of a signer: what its providers and services mean, and which of them a call works with.
-use Rattle.std.specs.Prelude.{ℕ, Option, Some, None, IsSomeAnd, option_and_then, slice_get}
+use Rattle.std.specs.Prelude.{ℕ, Option, IsSomeAnd, option_and_then, slice_get}
 use Rattle.sign_base.specs.declared.head.Head.{Head}
 use Rattle.credentials.specs.declared.polled.Polled.{Polled}
 use Rattle.credentials.specs.declared.provide.ProvideCredential as ProvideCredential
-use Rattle.credentials.specs.declared.providers.Providers.{Providers}
 use Rattle.credentials.specs.declared.sign.SignRequest as SignRequest
 use Rattle.credentials.specs.Operation.{Operation, SignOutcome}
+use Rattle.desk_driver.specs.CallAt.{service_of}
+use Rattle.desk_driver.specs.Objects.{Objects, objects_by}
 use Rattle.desk_driver.specs.ProviderList.{provider_at}
-use Rattle.sign_desk.specs.DeskState.{DeskState}
 use Rattle.signer.specs.ObjectPoll.{operation_of}
 use Rattle.signer.specs.BegunCall.{BegunCall}
 use Rattle.signer.specs.declared.call_objects.CallObjects.{CallObjects}
@@ -33,22 +33,6 @@ meanings_of provider service = record {
   work_ready = service.ready;
   work_gives = service.gives;
 }
-
--- the objects that a call works with: those of its handle
-pub record Objects (P S C : Type 0) : Type 0 where
-  pub providers : Providers P
-  pub ctx : C
-  pub service : S
-
--- the objects, where each is there
-abbrev pub objects_by : {P S C : Type 0} → Option (Providers P) → Option C → Option S → Option (Objects P S C)
-objects_by (Some providers) (Some ctx) (Some service) =
-    Some (record { providers = providers; ctx = ctx; service = service })
-objects_by providers ctx service = None
-
--- the service of a handle
-abbrev pub service_of : {K S : Type 0} → DeskState K S → ℕ → Option S
-service_of desk handle = option_and_then (λ h. slice_get desk.rules h.rule) (slice_get desk.handles handle)
 
 -- the objects of a handle
 abbrev pub objects_of : {P S K C : Type 0} → SignerState P S K C → ℕ → Option (Objects P S C)

@@ -1,11 +1,9 @@
 //! One poll of a call: steps, one after another, as far as its objects answer now.
 ghost use Rattle.std.specs.Prelude.{◌≡◌, Some, IsSome};
-ghost use Rattle.sequential_signer.specs.Policy.{policy_of};
-ghost use Rattle.desk_driver.specs.CallAt.{loader_of};
-ghost use Rattle.signer.specs.PollContext.{IsIssuedFor, IsDrivenFrom};
+ghost use Rattle.desk_driver.specs.CallAt.{loader_of, service_of};
+ghost use Rattle.signer.specs.PollContext.{poll_context, IsIssuedFor, IsDrivenFrom};
 ghost use Rattle.signer.specs.StepOutcome.{answer_by};
 ghost use Rattle.desk_driver.specs.ProviderList.{loader_for};
-ghost use Rattle.signer.specs.SignerObjects.{meanings_of, service_of};
 
 use crate::call_objects::CallObjects;
 use crate::sign::{Sign, SignState};
@@ -32,22 +30,10 @@ where
     S: SignRequest<Credential = P::Credential, Ctx = P::Ctx>,
     requires there { IsSome (service_of desk.old sign.begun.id.handle) }
     requires loads { loader_of desk.old sign.begun.id.handle ≡ Some (loader_for objects.now.providers.now) }
-    requires issued { IsIssuedFor (record {
-      policy = policy_of P.Credential.valid P.Credential.valid_at S.deadline;
-      clones_freely = P.Credential.clones_freely;
-      meanings = meanings_of P.ProvideCredential S.SignRequest.own;
-      objects = objects.now;
-      begun = sign.begun;
-      now = now;
-    }) desk.old sign.state }
-    ensures { IsDrivenFrom (record {
-      policy = policy_of P.Credential.valid P.Credential.valid_at S.deadline;
-      clones_freely = P.Credential.clones_freely;
-      meanings = meanings_of P.ProvideCredential S.SignRequest.own;
-      objects = objects.now;
-      begun = sign.begun;
-      now = now;
-    }) sign.state desk.old desk.new
+    requires issued { IsIssuedFor (poll_context P.Credential.SigningCredential P.ProvideCredential
+        S.DeadlineRule S.SignRequest.own objects.now sign.begun now) desk.old sign.state }
+    ensures { IsDrivenFrom (poll_context P.Credential.SigningCredential P.ProvideCredential
+        S.DeadlineRule S.SignRequest.own objects.now sign.begun now) sign.state desk.old desk.new
         (record { poll = result; before = req.old; after = req.new }) }
 {
     let Sign { begun, mut state } = sign;

@@ -7,14 +7,14 @@ ghost use Rattle.sequential_signer.specs.Policy.{policy_of};
 ghost use Rattle.sequential_signer.specs.declared.event.Event.TheVariants.{Cancel};
 ghost use Rattle.sequential_signer.specs.declared.event.Reply.TheVariants.{Cancelled};
 ghost use Rattle.desk_parts.specs.Adding.{late_refusal, AddAnswer, AddAnswerBack, with_handle, with_rule};
-ghost use Rattle.sign_desk.specs.DeskState.{with_cache};
+ghost use Rattle.sign_desk.specs.DeskState.{with_cache, Represents};
 ghost use Rattle.signer.specs.Course.{IsPoll, polled_call};
-ghost use Rattle.sign_desk.specs.DeskState.{Represents};
 ghost use Rattle.signer.specs.IssuedBy.{IsIssuedBy};
 ghost use Rattle.signer.specs.SignerCalls.{Begins, RefusesToBegin, KeepsOthers, IsAnswerIssuedBy};
 ghost use Rattle.desk_driver.specs.ProviderList.{AreFew, loader_for};
 ghost use Rattle.signer.specs.SignerInvariant.{IsNewSigner, with_context_handle, with_service_handle, with_cache_handle};
-ghost use Rattle.signer.specs.SignerObjects.{Objects, meanings_of, objects_of};
+ghost use Rattle.signer.specs.SignerObjects.{meanings_of, objects_of};
+ghost use Rattle.desk_driver.specs.Objects.{Objects};
 ghost use Rattle.sign_desk.specs.Steps.{IsStep};
 
 use crate::call_objects::CallObjects;
@@ -65,26 +65,13 @@ where
     S: SignRequest<Credential = P::Credential, Ctx = P::Ctx>,
 {
     ghost use Rattle.signer.specs.SignerInvariant.{SignerState, IsSigner};
+    ghost use Rattle.signer.specs.SignerView.{signer_view};
 
     ghost Value = { SignerState P S P.Credential P.Ctx };
 
-    ghost view = { λ s. record {
-      desk = s.desk;
-      providers = s.providers.items;
-      contexts = s.contexts.items;
-      context_places = s.context_places.items;
-      begun = s.begun;
-      keys = s.keys;
-    } };
+    ghost view = { signer_view };
 
-    ghost invariant = { λ s. IsSigner (record {
-      desk = s.desk;
-      providers = s.providers.items;
-      contexts = s.contexts.items;
-      context_places = s.context_places.items;
-      begun = s.begun;
-      keys = s.keys;
-    }) };
+    ghost invariant = { λ s. IsSigner (signer_view s) };
 }
 
 impl<P, S> Signer<P, S>

@@ -1,13 +1,10 @@
 //! One step of a call: the desk is polled, or the object that was asked, whose answer goes to the desk.
 ghost use Rattle.std.specs.Prelude.{◌≡◌, None, Some, IsSome};
-ghost use Rattle.desk_driver.specs.CallAt.{loader_of};
-ghost use Rattle.desk_driver.specs.ProviderList.{loader_for};
+ghost use Rattle.desk_driver.specs.CallAt.{loader_of, service_of};
+ghost use Rattle.desk_driver.specs.ProviderList.{loader_for, provider_at};
 ghost use Rattle.http.specs.declared.request.Parts.{Parts};
-ghost use Rattle.sequential_signer.specs.Policy.{policy_of};
-ghost use Rattle.signer.specs.PollContext.{IsIssuedFor, IsOutcomeWith};
+ghost use Rattle.signer.specs.PollContext.{poll_context, IsIssuedFor, IsOutcomeWith};
 ghost use Rattle.signer.specs.ObjectAnswer.{KeepsWork};
-ghost use Rattle.signer.specs.SignerObjects.{meanings_of, service_of};
-ghost use Rattle.desk_driver.specs.ProviderList.{provider_at};
 ghost use Rattle.signer.specs.declared.sign.SignState.TheVariants.{Loading, Signing};
 ghost use Rattle.signer.specs.declared.sign.WorkState.{WorkState};
 ghost use Rattle.signer.specs.declared.sign.WorkState.TheVariants as work_state;
@@ -44,22 +41,10 @@ where
     S: SignRequest<Credential = P::Credential, Ctx = P::Ctx>,
     requires there { IsSome (service_of desk.old begun.now.id.handle) }
     requires loads { loader_of desk.old begun.now.id.handle ≡ Some (loader_for objects.now.providers.now) }
-    requires issued { IsIssuedFor (record {
-      policy = policy_of P.Credential.valid P.Credential.valid_at S.deadline;
-      clones_freely = P.Credential.clones_freely;
-      meanings = meanings_of P.ProvideCredential S.SignRequest.own;
-      objects = objects.now;
-      begun = begun.now;
-      now = now;
-    }) desk.old state }
-    ensures { IsOutcomeWith (record {
-      policy = policy_of P.Credential.valid P.Credential.valid_at S.deadline;
-      clones_freely = P.Credential.clones_freely;
-      meanings = meanings_of P.ProvideCredential S.SignRequest.own;
-      objects = objects.now;
-      begun = begun.now;
-      now = now;
-    }) state
+    requires issued { IsIssuedFor (poll_context P.Credential.SigningCredential P.ProvideCredential
+        S.DeadlineRule S.SignRequest.own objects.now begun.now now) desk.old state }
+    ensures { IsOutcomeWith (poll_context P.Credential.SigningCredential P.ProvideCredential
+        S.DeadlineRule S.SignRequest.own objects.now begun.now now) state
         (record { old = desk.old; new = desk.new; before = req.old; after = req.new }) result }
 {
     match state {
@@ -89,22 +74,10 @@ where
     S: SignRequest<Credential = P::Credential, Ctx = P::Ctx>,
     requires there { IsSome (service_of desk.old begun.now.id.handle) }
     requires loads { loader_of desk.old begun.now.id.handle ≡ Some (loader_for objects.now.providers.now) }
-    requires issued { IsIssuedFor (record {
-      policy = policy_of P.Credential.valid P.Credential.valid_at S.deadline;
-      clones_freely = P.Credential.clones_freely;
-      meanings = meanings_of P.ProvideCredential S.SignRequest.own;
-      objects = objects.now;
-      begun = begun.now;
-      now = now;
-    }) desk.old (Loading candidate provider load) }
-    ensures { (request : Parts) → IsOutcomeWith (record {
-      policy = policy_of P.Credential.valid P.Credential.valid_at S.deadline;
-      clones_freely = P.Credential.clones_freely;
-      meanings = meanings_of P.ProvideCredential S.SignRequest.own;
-      objects = objects.now;
-      begun = begun.now;
-      now = now;
-    }) (Loading candidate provider load)
+    requires issued { IsIssuedFor (poll_context P.Credential.SigningCredential P.ProvideCredential
+        S.DeadlineRule S.SignRequest.own objects.now begun.now now) desk.old (Loading candidate provider load) }
+    ensures { (request : Parts) → IsOutcomeWith (poll_context P.Credential.SigningCredential P.ProvideCredential
+        S.DeadlineRule S.SignRequest.own objects.now begun.now now) (Loading candidate provider load)
         (record { old = desk.old; new = desk.new; before = request; after = request }) result }
 {
     let asked = provider_at(objects.providers, provider).unwrap();
@@ -147,22 +120,10 @@ where
     P::Credential: SigningCredential,
     S: SignRequest<Credential = P::Credential, Ctx = P::Ctx>,
     requires there { IsSome (service_of desk.old begun.now.id.handle) }
-    requires issued { IsIssuedFor (record {
-      policy = policy_of P.Credential.valid P.Credential.valid_at S.deadline;
-      clones_freely = P.Credential.clones_freely;
-      meanings = meanings_of P.ProvideCredential S.SignRequest.own;
-      objects = objects.now;
-      begun = begun.now;
-      now = now;
-    }) desk.old (Signing credential work) }
-    ensures { IsOutcomeWith (record {
-      policy = policy_of P.Credential.valid P.Credential.valid_at S.deadline;
-      clones_freely = P.Credential.clones_freely;
-      meanings = meanings_of P.ProvideCredential S.SignRequest.own;
-      objects = objects.now;
-      begun = begun.now;
-      now = now;
-    }) (Signing credential work)
+    requires issued { IsIssuedFor (poll_context P.Credential.SigningCredential P.ProvideCredential
+        S.DeadlineRule S.SignRequest.own objects.now begun.now now) desk.old (Signing credential work) }
+    ensures { IsOutcomeWith (poll_context P.Credential.SigningCredential P.ProvideCredential
+        S.DeadlineRule S.SignRequest.own objects.now begun.now now) (Signing credential work)
         (record { old = desk.old; new = desk.new; before = req.old; after = req.new }) result }
 {
     let service = desk.rule_of(begun.id.handle).unwrap();
@@ -206,23 +167,11 @@ where
     P::Credential: SigningCredential,
     S: SignRequest<Credential = P::Credential, Ctx = P::Ctx>,
     requires there { IsSome (service_of desk.old begun.now.id.handle) }
-    requires issued { IsIssuedFor (record {
-      policy = policy_of P.Credential.valid P.Credential.valid_at S.deadline;
-      clones_freely = P.Credential.clones_freely;
-      meanings = meanings_of P.ProvideCredential S.SignRequest.own;
-      objects = objects.now;
-      begun = begun.now;
-      now = _now;
-    }) desk.old (Signing credential (work_state.Signed candidate)) }
+    requires issued { IsIssuedFor (poll_context P.Credential.SigningCredential P.ProvideCredential
+        S.DeadlineRule S.SignRequest.own objects.now begun.now _now) desk.old (Signing credential (work_state.Signed candidate)) }
     ensures { (work : WorkState S.Work) → KeepsWork work (work_state.Signed candidate)
-        → IsOutcomeWith (record {
-          policy = policy_of P.Credential.valid P.Credential.valid_at S.deadline;
-          clones_freely = P.Credential.clones_freely;
-          meanings = meanings_of P.ProvideCredential S.SignRequest.own;
-          objects = objects.now;
-          begun = begun.now;
-          now = _now;
-        }) (Signing credential work)
+        → IsOutcomeWith (poll_context P.Credential.SigningCredential P.ProvideCredential
+        S.DeadlineRule S.SignRequest.own objects.now begun.now _now) (Signing credential work)
         (record { old = desk.old; new = desk.new; before = req.old; after = req.new }) result }
 {
     match target_of(objects.alloc, &candidate, objects.keys) {

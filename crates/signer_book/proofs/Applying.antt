@@ -22,7 +22,7 @@ use Rattle.sign_desk.specs.Cause.{said_by, cause_of, is_step, IsCaused}
 use Rattle.sign_desk.specs.DeskState.{DeskState}
 use Rattle.sign_desk.specs.Transition.{cancel_action, live_action}
 use Rattle.sign_desk.specs.ReplyKinds.{is_reply_to}
-use Rattle.signer_book.specs.OpenBegins.{is_cancelled}
+use Rattle.sequential_signer.specs.Replies.{is_cancelled}
 
 module _ {K D : Type 0} (policy : Policy K D) where
   -- a legal reply that is not out of memory is the expected one

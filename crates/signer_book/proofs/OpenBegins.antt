@@ -2,14 +2,13 @@
 use Rattle.std.proofs.Common.{◌≡◌, ℕ, suc, ◌+◌, ◌≤◌, Bool, true, false, cond, not, ◌&&◌, ◌||◌, List, [], ◌∷◌, ◌++◌, refl, sym, ◌∙◌, ap, arith}
 use Rattle.std.specs.List.{list_any}
 use Rattle.wake_lock.specs.declared.CallId.{CallId}
-use Rattle.wake_lock.specs.Calls.{same_call}
 use Rattle.wake_lock.proofs.Calls.{same_call-eq}
 use Rattle.wake_lock.proofs.Truth.{and_left, and_right}
 use Rattle.sequential_signer.specs.Transcript.{call_of}
 use Rattle.sequential_signer.specs.Phase.{is_begun}
 use Rattle.sequential_signer.proofs.Lists.{list_any-more, or_true}
 use Rattle.signer_book.specs.declared.pass.Receipt.{Receipt}
-use Rattle.signer_book.specs.OpenBegins.{is_cancelled, cancels_call, begins_call, is_open, open_begins}
+use Rattle.signer_book.specs.OpenBegins.{cancels_call, begins_call, is_open, open_begins}
 
 -- one, where the test holds
 abbrev pub one_where : Bool → ℕ

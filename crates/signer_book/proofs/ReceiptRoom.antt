@@ -1,5 +1,5 @@
 -- Room for receipts, after one more.
-use Rattle.std.proofs.Common.{◌≡◌, ℕ, ◌+◌, ◌-◌, ◌≤◌, Bool, true, false, List, [], ◌∷◌, ◌++◌, length, refl, sym, ap, ◌∙◌, arith, length-append}
+use Rattle.std.proofs.Common.{◌≡◌, ℕ, ◌+◌, ◌-◌, ◌≤◌, Bool, true, false, List, [], ◌∷◌, ◌++◌, length, refl, ap, ◌∙◌, arith, length-append}
 use Rattle.wake_lock.proofs.Calls.{same_call-refl}
 use Rattle.sequential_signer.specs.Phase.{is_begun}
 use Rattle.sequential_signer.specs.Transcript.{call_of}
@@ -7,7 +7,8 @@ use Rattle.sequential_signer.specs.declared.event.Entry.{Entry}
 use Rattle.sequential_signer.specs.declared.event.Reply.{Reply}
 use Rattle.sequential_signer.specs.declared.event.Reply.TheVariants.{Begun, Pending, NotNow, OutOfMemory, Ask, Sign, Refused, Done, Cancelled}
 use Rattle.signer_book.specs.declared.pass.Receipt.{Receipt}
-use Rattle.signer_book.specs.OpenBegins.{is_cancelled, is_open, cancels_call, open_begins, HasReceiptRoom}
+use Rattle.signer_book.specs.OpenBegins.{is_open, cancels_call, HasReceiptRoom}
+use Rattle.sequential_signer.specs.Replies.{is_cancelled}
 use Rattle.signer_book.proofs.OpenBegins.{one_where, open_begins-more, open_begins-cancel}
 
 one_most : (b : Bool) → one_where b ≤ 1

@@ -1,17 +1,11 @@
 -- The begins of which a pass knows no cancel, and the room that is kept for one.
-use Rattle.std.specs.Prelude.{ℕ, suc, ◌+◌, ◌≤◌, Bool, true, false, not, ◌&&◌, ◌||◌, List, [], ◌∷◌, length, if◌then◌else◌}
+use Rattle.std.specs.Prelude.{ℕ, suc, ◌+◌, ◌≤◌, Bool, false, not, ◌&&◌, ◌||◌, List, [], ◌∷◌, length, if◌then◌else◌}
 use Rattle.std.specs.List.{list_any}
 use Rattle.wake_lock.specs.declared.CallId.{CallId}
 use Rattle.sequential_signer.specs.Transcript.{is_about, call_of}
 use Rattle.sequential_signer.specs.Phase.{is_begun}
-use Rattle.sequential_signer.specs.declared.event.Reply.{Reply}
-use Rattle.sequential_signer.specs.declared.event.Reply.TheVariants.{Cancelled}
 use Rattle.signer_book.specs.declared.pass.Receipt.{Receipt}
-
--- whether the reply ends a call by its cancel
-abbrev pub is_cancelled : {K : Type 0} → Reply K → Bool
-is_cancelled (Cancelled wake) = true
-is_cancelled _ = false
+use Rattle.sequential_signer.specs.Replies.{is_cancelled}
 
 -- whether a receipt says that the call was cancelled
 abbrev pub cancels_call : {K : Type 0} → CallId → Receipt K → Bool

@@ -106,7 +106,7 @@ impl<K: SigningCredential, D: DeadlineRule<Credential = K>> Book<K, D> {
             return Reply::OutOfMemory;
         };
         let reply = self.desk.step(event);
-        if is_out_of_memory(&reply) {
+        if reply.is_out_of_memory() {
             drop(kept);
             drop(given);
             drop(reply);
@@ -202,12 +202,6 @@ where
     }
 }
 
-fn is_out_of_memory<K>(reply: &Reply<K>) -> bool
-    ensures { result ≡ is_out_of_memory reply.now }
-{
-    matches!(reply, Reply::OutOfMemory)
-}
-
 /// The entry that a step at this event would add, unless an allocation fails.
 fn preview_entry<K: SigningCredential, D: DeadlineRule<Credential = K>>(
     desk: &Desk<K, D>,
@@ -226,7 +220,7 @@ fn preview_entry<K: SigningCredential, D: DeadlineRule<Credential = K>>(
         → (call : CallId) → event.now ≡ Cancel call → IsSome result }
 {
     let reply = desk.preview(event);
-    if matches!(reply, Reply::OutOfMemory) {
+    if reply.is_out_of_memory() {
         return None;
     }
     let event = event.try_clone(desk.alloc()).ok()?;

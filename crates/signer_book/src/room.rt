@@ -3,31 +3,19 @@ ghost use Rattle.std.specs.Prelude.{◌≡◌, ◌≢◌, ◌≤◌, ◌+◌, �
 ghost use Rattle.sequential_signer.specs.Phase.{is_begun};
 ghost use Rattle.sequential_signer.specs.Transcript.{call_of};
 ghost use Rattle.sign_desk.specs.LiveCount.{LiveAfter};
-ghost use Rattle.signer_book.specs.OpenBegins.{is_open, is_cancelled, cancels_call, begins_call, HasReceiptRoom};
+ghost use Rattle.signer_book.specs.OpenBegins.{is_open, cancels_call, begins_call, HasReceiptRoom};
+ghost use Rattle.sequential_signer.specs.Replies.{is_cancelled};
 
 use crate::pass::Receipt;
-use sequential_signer::{Entry, Event, Reply};
+use sequential_signer::{Entry, Reply};
 use wake_lock::CallId;
-
-/// The call of an event.
-pub(crate) fn call_of<K>(event: &Event<K>) -> CallId
-    ensures { result ≡ call_of event.now }
-{
-    match event {
-        Event::Begin { call, .. }
-        | Event::Poll { call, .. }
-        | Event::Provided { call, .. }
-        | Event::Signed { call, .. }
-        | Event::Cancel { call } => *call,
-    }
-}
 
 /// Whether the call is open after one more receipt.
 fn is_open_after<K>(found: bool, call: CallId, receipt: &Receipt<K>) -> bool
     ensures { result ≡ (if cancels_call call receipt.now then begins_call call receipt.now
         else (begins_call call receipt.now || found)) }
 {
-    if call != call_of(&receipt.entry.event) {
+    if call != receipt.entry.event.call() {
         return found;
     }
     match receipt.entry.reply {
@@ -78,7 +66,7 @@ pub(crate) fn take_receipt_room<K>(
     if !is_cancelled(&entry.reply) {
         return None;
     }
-    if !is_open(receipts.as_slice(), call_of(&entry.event)) {
+    if !is_open(receipts.as_slice(), entry.event.call()) {
         return None;
     }
     Some(spare - 1)

@@ -6,18 +6,17 @@ use Rattle.std.proofs.lemmas.List.{append-nil, take_more, take-append-drop}
 use Rattle.std.proofs.lemmas.List.Sums.{sum_by-append}
 use Rattle.sequential_signer.specs.Phase.{is_not_now}
 use Rattle.sequential_signer.specs.declared.event.Reply.{Reply}
-use Rattle.signer_book.specs.OpenBegins.{is_cancelled}
+use Rattle.sequential_signer.specs.Replies.{is_cancelled, is_done, is_refused}
 use Rattle.signer_book.specs.declared.pass.Receipt.{Receipt}
 use Rattle.signer_shared.specs.Counting.{counted}
 use Rattle.signer_shared.specs.Gates.{GateMeaning}
-use Rattle.signer_shared.specs.Serving.{IsCourse, Advances, ServesAll, StopsAtAJob, IsServing, ran_out, is_done, is_refused, replies}
+use Rattle.signer_shared.specs.Serving.{IsCourse, Advances, ServesAll, StopsAtAJob, IsServing, ran_out, replies}
 use Rattle.signer_shared.specs.declared.job.Job.{Job}
 use Rattle.signer_shared.specs.declared.job.Served.{Served}
 use Rattle.signer_shared.specs.declared.next.JobEnd.{JobEnd}
 use Rattle.signer_shared.specs.declared.next.JobEnd.TheVariants as ended
-use Rattle.signer_shared.specs.declared.next.Next.{Next}
 use Rattle.signer_shared.specs.declared.next.Next.TheVariants as next
-use Rattle.signer_shared.proofs.Tallies.{Tally, tally, done_of, refused_of, not_now_of, given_up_of}
+use Rattle.signer_shared.proofs.Tallies.{tally, done_of, refused_of, not_now_of, given_up_of}
 
 -- replies of two lists
 replies-append : {K : Type 0} (test : Reply K → Bool) (xs ys : List (Receipt K))

@@ -8,10 +8,10 @@ use Rattle.sequential_signer.specs.declared.event.Event.TheVariants as event
 use Rattle.sequential_signer.specs.declared.event.Reply.{Reply}
 use Rattle.sequential_signer.specs.declared.event.Reply.TheVariants as reply
 use Rattle.sign_desk.specs.ReplyKinds.{is_reply_to}
-use Rattle.signer_book.specs.OpenBegins.{is_cancelled}
+use Rattle.sequential_signer.specs.Replies.{is_cancelled, is_done, is_refused}
 use Rattle.signer_book.specs.declared.pass.Receipt.{Receipt}
 use Rattle.signer_shared.specs.Gates.{GateMeaning}
-use Rattle.signer_shared.specs.Serving.{IsStep, goes_on, gives_up, runs_out, IsCourse, next_after, ran_out, is_done, is_refused, replies}
+use Rattle.signer_shared.specs.Serving.{IsStep, goes_on, gives_up, runs_out, IsCourse, next_after, ran_out, replies}
 use Rattle.signer_shared.specs.declared.job.Job.{Job}
 use Rattle.signer_shared.specs.declared.next.JobEnd.{JobEnd}
 use Rattle.signer_shared.specs.declared.next.JobEnd.TheVariants as ended

@@ -9,7 +9,7 @@ use Rattle.sequential_signer.specs.declared.event.Reply.{Reply}
 use Rattle.sequential_signer.specs.declared.event.Reply.TheVariants as reply
 use Rattle.sequential_signer.specs.declared.event.Verdict.{Verdict}
 use Rattle.sign_desk.specs.ReplyKinds.{is_reply_to}
-use Rattle.signer_book.specs.OpenBegins.{is_cancelled}
+use Rattle.sequential_signer.specs.Replies.{is_cancelled, is_done, is_refused}
 use Rattle.signer_shared.specs.Gates.{GateMeaning}
 use Rattle.signer_book.specs.declared.pass.Receipt.{Receipt}
 use Rattle.signer_shared.specs.declared.job.Job.{Job}
@@ -35,16 +35,6 @@ next_after reply.OutOfMemory = next.Over (ended.OutOfMemory false)
 abbrev pub ran_out : JobEnd → Bool
 ran_out (ended.OutOfMemory not_now) = true
 ran_out _ = false
-
--- whether the reply is the service's head
-abbrev pub is_done : {K : Type 0} → Reply K → Bool
-is_done (reply.Done head) = true
-is_done _ = false
-
--- whether the reply refuses the call
-abbrev pub is_refused : {K : Type 0} → Reply K → Bool
-is_refused (reply.Refused why wake) = true
-is_refused _ = false
 
 -- how many receipts have such a reply
 abbrev pub replies : {K : Type 0} → (Reply K → Bool) → List (Receipt K) → ℕ

@@ -1,14 +1,14 @@
 //! The rounds of `load`, played on one desk event by event, and the counts of all replies.
 ghost use Rattle.std.specs.Prelude.{◌≡◌, ◌≤◌, ◌<◌, ◌++◌, ◌∷◌, [], List, OnOk, IfOk, map};
-ghost use Rattle.sequential_signer.specs.Transcript.{call_of, is_out_of_memory};
-ghost use Rattle.sequential_signer.specs.Legal.{is_sign};
+ghost use Rattle.sequential_signer.specs.Transcript.{call_of};
+ghost use Rattle.sequential_signer.specs.Replies.{is_sign};
 ghost use Rattle.sequential_signer.specs.declared.event.Entry.{Entry};
 ghost use Rattle.sequential_signer.specs.declared.event.Event.{Event};
 ghost use Rattle.sign_desk.specs.DeskState.{Represents};
 ghost use Rattle.desk_parts.specs.Tables.{setup_of};
 ghost use Rattle.signctl_format.specs.declared.credential.ScriptCredential.{ScriptCredential};
 ghost use Rattle.signctl_format.specs.Policy.{script_policy};
-ghost use Rattle.signctl_script.specs.Load.{load_setup, load_entry, signed_calls, entries_in_round, load_transcript, most_calls};
+ghost use Rattle.signctl_script.specs.Load.{load_setup, signed_calls, entries_in_round, load_transcript, most_calls};
 ghost use Rattle.signctl_script.specs.LoadRound.{begin_event, poll_event, accepted_event, find_events, take_over_events, cancel_events, refresh_events, asking_events};
 ghost use Rattle.signctl_script.specs.LoadState.{RoundsRepresent, Plays};
 
@@ -167,9 +167,9 @@ impl Rounds {
     fn play(&mut self, event: Event<ScriptCredential>) -> Result<(), NoMemory<()>>
         ensures { OnOk result (Plays (event ∷ []) self.old self.new) }
     {
-        let call = call_of(&event);
+        let call = event.call();
         let reply = self.desk.step_owned(event);
-        if is_out_of_memory(&reply) {
+        if reply.is_out_of_memory() {
             return Err(NoMemory { back: () });
         }
         self.counts = self.counts.with_reply(&reply);
@@ -215,24 +215,4 @@ fn is_sign(reply: &Reply<ScriptCredential>) -> bool
     ensures { result ≡ is_sign reply.now }
 {
     matches!(reply, Reply::Sign { .. })
-}
-
-/// The call that an event is about.
-fn call_of(event: &Event<ScriptCredential>) -> CallId
-    ensures { result ≡ call_of event.now }
-{
-    match event {
-        Event::Begin { call, .. }
-        | Event::Poll { call, .. }
-        | Event::Provided { call, .. }
-        | Event::Signed { call, .. }
-        | Event::Cancel { call } => *call,
-    }
-}
-
-/// Whether a reply says that an allocation failed.
-fn is_out_of_memory(reply: &Reply<ScriptCredential>) -> bool
-    ensures { result ≡ is_out_of_memory reply.now }
-{
-    matches!(reply, Reply::OutOfMemory)
 }

@@ -1,31 +1,26 @@
-use Rattle.std.proofs.Common.{refl, sym, subst, Option, Some, None, IsSome, slice_get, option_and_then}
-use Rattle.sequential_signer.specs.Policy.{policy_of}
+use Rattle.std.proofs.Common.{sym, subst, slice_get}
+use Rattle.desk_driver.proofs.Rows.{led-from}
 use Rattle.granter.specs.DeskReplies.{IsUnpolled}
-use Rattle.granter.specs.PollContext.{PollContext, call_with, IsIssuedFor}
-use Rattle.granter.specs.GranterObjects.{meanings_of, service_of}
+use Rattle.granter.specs.PollContext.{poll_context, call_with, IsIssuedFor}
+use Rattle.desk_driver.specs.CallAt.{service_of}
 use Rattle.granter.specs.StepOutcome.{StepChange, IsStepOutcome}
 use Rattle.granter.specs.declared.grant.CallState.TheVariants.{Waiting}
 use Rattle.granter.proofs.ObjectMeanings.{for-service}
 use Rattle.granter.proofs.StepOutcomes.{poll-taken}
 use Rattle.granter.proofs.step_call.step.Goals as goal
 
--- a handle with a service is there
-handle-there : {A B : Type 0} (f : A → Option B) (o : Option A) → IsSome (option_and_then f o) → IsSome o
-handle-there f None h = h
-handle-there f (Some x) h = refl
-
 pub poll_call-requires-clause-there : goal.poll_call-requires-clause-there
-poll_call-requires-clause-there g c = handle-there _ (slice_get c.args.desk.now.handles c.args.begun.now.id.handle) c.requires.there
+poll_call-requires-clause-there g c = led-from _ (slice_get c.args.desk.now.handles c.args.begun.now.id.handle) c.requires.there
 
 pub poll_call-requires-clause-unpolled : goal.poll_call-requires-clause-unpolled
 poll_call-requires-clause-unpolled g c =
-    let d : PollContext g.row.P.Denot g.row.G.Denot g.row.P-Credential.Denot g.row.P-Ctx.Denot g.row.P-Load.Denot g.row.G-Work.Denot = record { policy = policy_of g.P.Credential.SigningCredential.valid g.P.Credential.SigningCredential.valid_at g.G.DeadlineRule.deadline; clones_freely = g.P.Credential.SigningCredential.clones_freely; meanings = meanings_of g.P.ProvideCredential g.G.GrantCredential; objects = c.args.objects.now; begun = c.args.begun.now; now = c.args.now } in
+    let d = poll_context g.P.Credential.SigningCredential g.P.ProvideCredential g.G.DeadlineRule g.G.GrantCredential c.args.objects.now c.args.begun.now c.args.now in
     for-service (service_of c.args.desk.now c.args.begun.now.id.handle) (IsUnpolled c.args.begun.now c.args.desk.now) c.requires.there
     (λ service is. subst (IsIssuedFor d c.args.desk.now) c.in-Waiting.is c.requires.issued service is)
 
 pub returns-in-Waiting : goal.returns-in-Waiting
 returns-in-Waiting g c = λ service is.
-    let d : PollContext g.row.P.Denot g.row.G.Denot g.row.P-Credential.Denot g.row.P-Ctx.Denot g.row.P-Load.Denot g.row.G-Work.Denot = record { policy = policy_of g.P.Credential.SigningCredential.valid g.P.Credential.SigningCredential.valid_at g.G.DeadlineRule.deadline; clones_freely = g.P.Credential.SigningCredential.clones_freely; meanings = meanings_of g.P.ProvideCredential g.G.GrantCredential; objects = c.args.objects.now; begun = c.args.begun.now; now = c.args.now } in
+    let d = poll_context g.P.Credential.SigningCredential g.P.ProvideCredential g.G.DeadlineRule g.G.GrantCredential c.args.objects.now c.args.begun.now c.args.now in
     let change : StepChange g.row.P-Credential.Denot g.row.G.Denot = record { old = c.args.desk.now; new = c.poll_call.new.desk } in
     let v = call_with d service in
     subst (λ s. IsStepOutcome v s change c.after_poll.result) (sym c.in-Waiting.is)

@@ -1,8 +1,7 @@
 use Rattle.std.proofs.Common.{◌≡◌, refl, sym, subst, ap, ◌∙◌, Some, Option}
 use Rattle.std.specs.Option.{option_copied}
-use Rattle.sequential_signer.specs.Policy.{policy_of}
-use Rattle.granter.specs.PollContext.{PollContext, call_with}
-use Rattle.granter.specs.GranterObjects.{meanings_of, service_of}
+use Rattle.granter.specs.PollContext.{poll_context, call_with}
+use Rattle.desk_driver.specs.CallAt.{service_of}
 use Rattle.granter.specs.ObjectAnswer.{IsWorkAnswer}
 use Rattle.granter.specs.ObjectPoll.{service_meaning}
 use Rattle.granter.specs.StepOutcome.{StepChange, IsStepOutcome}
@@ -13,7 +12,7 @@ use Rattle.granter.proofs.step_call.step_granting.Goals as goal
 
 pub returns-in-Pending : goal.returns-in-Pending
 returns-in-Pending g c = λ service is.
-    let d : PollContext g.row.P.Denot g.row.G.Denot g.row.P-Credential.Denot g.row.P-Ctx.Denot g.row.P-Load.Denot g.row.G-Work.Denot = record { policy = policy_of g.P.Credential.SigningCredential.valid g.P.Credential.SigningCredential.valid_at g.G.DeadlineRule.deadline; clones_freely = g.P.Credential.SigningCredential.clones_freely; meanings = meanings_of g.P.ProvideCredential g.G.GrantCredential; objects = c.args.objects.now; begun = c.args.begun.now; now = c.args.now } in
+    let d = poll_context g.P.Credential.SigningCredential g.P.ProvideCredential g.G.DeadlineRule g.G.GrantCredential c.args.objects.now c.args.begun.now c.args.now in
     let change : StepChange g.row.P-Credential.Denot g.row.G.Denot = record { old = c.args.desk.now; new = c.args.desk.now } in
     let v = call_with d service in
     let there : service_of c.args.desk.now c.args.begun.now.id.handle ≡ Some c.unwrap-service.result.now = sym c.rule_of.ensures ∙ ap option_copied c.unwrap-service.ensures in
@@ -24,7 +23,7 @@ returns-in-Pending g c = λ service is.
 
 pub returns-in-OutOfMemory : goal.returns-in-OutOfMemory
 returns-in-OutOfMemory g c = λ service is.
-    let d : PollContext g.row.P.Denot g.row.G.Denot g.row.P-Credential.Denot g.row.P-Ctx.Denot g.row.P-Load.Denot g.row.G-Work.Denot = record { policy = policy_of g.P.Credential.SigningCredential.valid g.P.Credential.SigningCredential.valid_at g.G.DeadlineRule.deadline; clones_freely = g.P.Credential.SigningCredential.clones_freely; meanings = meanings_of g.P.ProvideCredential g.G.GrantCredential; objects = c.args.objects.now; begun = c.args.begun.now; now = c.args.now } in
+    let d = poll_context g.P.Credential.SigningCredential g.P.ProvideCredential g.G.DeadlineRule g.G.GrantCredential c.args.objects.now c.args.begun.now c.args.now in
     let change : StepChange g.row.P-Credential.Denot g.row.G.Denot = record { old = c.args.desk.now; new = c.args.desk.now } in
     let v = call_with d service in
     let there : service_of c.args.desk.now c.args.begun.now.id.handle ≡ Some c.unwrap-service.result.now = sym c.rule_of.ensures ∙ ap option_copied c.unwrap-service.ensures in
@@ -35,7 +34,7 @@ returns-in-OutOfMemory g c = λ service is.
 
 pub returns-in-Made : goal.returns-in-Made
 returns-in-Made g c = λ service is.
-    let d : PollContext g.row.P.Denot g.row.G.Denot g.row.P-Credential.Denot g.row.P-Ctx.Denot g.row.P-Load.Denot g.row.G-Work.Denot = record { policy = policy_of g.P.Credential.SigningCredential.valid g.P.Credential.SigningCredential.valid_at g.G.DeadlineRule.deadline; clones_freely = g.P.Credential.SigningCredential.clones_freely; meanings = meanings_of g.P.ProvideCredential g.G.GrantCredential; objects = c.args.objects.now; begun = c.args.begun.now; now = c.args.now } in
+    let d = poll_context g.P.Credential.SigningCredential g.P.ProvideCredential g.G.DeadlineRule g.G.GrantCredential c.args.objects.now c.args.begun.now c.args.now in
     let change : StepChange g.row.P-Credential.Denot g.row.G.Denot = record { old = c.args.desk.now; new = c.give_made-reply.new.desk } in
     let v = call_with d service in
     let there : service_of c.args.desk.now c.args.begun.now.id.handle ≡ Some c.unwrap-service.result.now = sym c.rule_of.ensures ∙ ap option_copied c.unwrap-service.ensures in
@@ -48,7 +47,7 @@ returns-in-Made g c = λ service is.
 
 pub returns-in-Failed : goal.returns-in-Failed
 returns-in-Failed g c = λ service is.
-    let d : PollContext g.row.P.Denot g.row.G.Denot g.row.P-Credential.Denot g.row.P-Ctx.Denot g.row.P-Load.Denot g.row.G-Work.Denot = record { policy = policy_of g.P.Credential.SigningCredential.valid g.P.Credential.SigningCredential.valid_at g.G.DeadlineRule.deadline; clones_freely = g.P.Credential.SigningCredential.clones_freely; meanings = meanings_of g.P.ProvideCredential g.G.GrantCredential; objects = c.args.objects.now; begun = c.args.begun.now; now = c.args.now } in
+    let d = poll_context g.P.Credential.SigningCredential g.P.ProvideCredential g.G.DeadlineRule g.G.GrantCredential c.args.objects.now c.args.begun.now c.args.now in
     let change : StepChange g.row.P-Credential.Denot g.row.G.Denot = record { old = c.args.desk.now; new = c.give_unmade.new.desk } in
     let v = call_with d service in
     let there : service_of c.args.desk.now c.args.begun.now.id.handle ≡ Some c.unwrap-service.result.now = sym c.rule_of.ensures ∙ ap option_copied c.unwrap-service.ensures in

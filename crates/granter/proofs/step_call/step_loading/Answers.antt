@@ -1,9 +1,8 @@
 use Rattle.std.proofs.Common.{◌≡◌, refl, sym, subst, ap, ◌∙◌, Some}
 use Rattle.std.specs.Option.{option_copied}
-use Rattle.sequential_signer.specs.Policy.{policy_of}
 use Rattle.desk_driver.specs.LoadAnswer.{IsLoadAnswer, provider_meaning}
 use Rattle.desk_driver.specs.ProviderList.{provider_at}
-use Rattle.granter.specs.PollContext.{PollContext, call_with}
+use Rattle.granter.specs.PollContext.{poll_context, call_with}
 use Rattle.granter.specs.GranterObjects.{meanings_of, with_service}
 use Rattle.granter.specs.StepOutcome.{StepChange, IsStepOutcome}
 use Rattle.granter.specs.OutcomeByReply.{flow_after_found}
@@ -14,7 +13,7 @@ use Rattle.granter.proofs.step_call.step_loading.Goals as goal
 
 pub returns-in-Pending : goal.returns-in-Pending
 returns-in-Pending g c = λ service is.
-    let d : PollContext g.row.P.Denot g.row.G.Denot g.row.P-Credential.Denot g.row.P-Ctx.Denot g.row.P-Load.Denot g.row.G-Work.Denot = record { policy = policy_of g.P.Credential.SigningCredential.valid g.P.Credential.SigningCredential.valid_at g.G.DeadlineRule.deadline; clones_freely = g.P.Credential.SigningCredential.clones_freely; meanings = meanings_of g.P.ProvideCredential g.G.GrantCredential; objects = c.args.objects.now; begun = c.args.begun.now; now = c.args.now } in
+    let d = poll_context g.P.Credential.SigningCredential g.P.ProvideCredential g.G.DeadlineRule g.G.GrantCredential c.args.objects.now c.args.begun.now c.args.now in
     let change : StepChange g.row.P-Credential.Denot g.row.G.Denot = record { old = c.args.desk.now; new = c.args.desk.now } in
     let v = call_with d service in
     let m = meanings_of g.P.ProvideCredential g.G.GrantCredential in
@@ -26,7 +25,7 @@ returns-in-Pending g c = λ service is.
 
 pub returns-in-OutOfMemory : goal.returns-in-OutOfMemory
 returns-in-OutOfMemory g c = λ service is.
-    let d : PollContext g.row.P.Denot g.row.G.Denot g.row.P-Credential.Denot g.row.P-Ctx.Denot g.row.P-Load.Denot g.row.G-Work.Denot = record { policy = policy_of g.P.Credential.SigningCredential.valid g.P.Credential.SigningCredential.valid_at g.G.DeadlineRule.deadline; clones_freely = g.P.Credential.SigningCredential.clones_freely; meanings = meanings_of g.P.ProvideCredential g.G.GrantCredential; objects = c.args.objects.now; begun = c.args.begun.now; now = c.args.now } in
+    let d = poll_context g.P.Credential.SigningCredential g.P.ProvideCredential g.G.DeadlineRule g.G.GrantCredential c.args.objects.now c.args.begun.now c.args.now in
     let change : StepChange g.row.P-Credential.Denot g.row.G.Denot = record { old = c.args.desk.now; new = c.args.desk.now } in
     let v = call_with d service in
     let m = meanings_of g.P.ProvideCredential g.G.GrantCredential in
@@ -38,7 +37,7 @@ returns-in-OutOfMemory g c = λ service is.
 
 pub returns-in-Found : goal.returns-in-Found
 returns-in-Found g c = λ service is.
-    let d : PollContext g.row.P.Denot g.row.G.Denot g.row.P-Credential.Denot g.row.P-Ctx.Denot g.row.P-Load.Denot g.row.G-Work.Denot = record { policy = policy_of g.P.Credential.SigningCredential.valid g.P.Credential.SigningCredential.valid_at g.G.DeadlineRule.deadline; clones_freely = g.P.Credential.SigningCredential.clones_freely; meanings = meanings_of g.P.ProvideCredential g.G.GrantCredential; objects = c.args.objects.now; begun = c.args.begun.now; now = c.args.now } in
+    let d = poll_context g.P.Credential.SigningCredential g.P.ProvideCredential g.G.DeadlineRule g.G.GrantCredential c.args.objects.now c.args.begun.now c.args.now in
     let change : StepChange g.row.P-Credential.Denot g.row.G.Denot = record { old = c.args.desk.now; new = c.give_found-reply.new.desk } in
     let v = call_with d service in
     let m = meanings_of g.P.ProvideCredential g.G.GrantCredential in
@@ -52,7 +51,7 @@ returns-in-Found g c = λ service is.
 
 pub returns-in-Missing : goal.returns-in-Missing
 returns-in-Missing g c = λ service is.
-    let d : PollContext g.row.P.Denot g.row.G.Denot g.row.P-Credential.Denot g.row.P-Ctx.Denot g.row.P-Load.Denot g.row.G-Work.Denot = record { policy = policy_of g.P.Credential.SigningCredential.valid g.P.Credential.SigningCredential.valid_at g.G.DeadlineRule.deadline; clones_freely = g.P.Credential.SigningCredential.clones_freely; meanings = meanings_of g.P.ProvideCredential g.G.GrantCredential; objects = c.args.objects.now; begun = c.args.begun.now; now = c.args.now } in
+    let d = poll_context g.P.Credential.SigningCredential g.P.ProvideCredential g.G.DeadlineRule g.G.GrantCredential c.args.objects.now c.args.begun.now c.args.now in
     let change : StepChange g.row.P-Credential.Denot g.row.G.Denot = record { old = c.args.desk.now; new = c.give_missing.new.desk } in
     let v = call_with d service in
     let m = meanings_of g.P.ProvideCredential g.G.GrantCredential in
@@ -64,7 +63,7 @@ returns-in-Missing g c = λ service is.
 
 pub returns-in-Failed : goal.returns-in-Failed
 returns-in-Failed g c = λ service is.
-    let d : PollContext g.row.P.Denot g.row.G.Denot g.row.P-Credential.Denot g.row.P-Ctx.Denot g.row.P-Load.Denot g.row.G-Work.Denot = record { policy = policy_of g.P.Credential.SigningCredential.valid g.P.Credential.SigningCredential.valid_at g.G.DeadlineRule.deadline; clones_freely = g.P.Credential.SigningCredential.clones_freely; meanings = meanings_of g.P.ProvideCredential g.G.GrantCredential; objects = c.args.objects.now; begun = c.args.begun.now; now = c.args.now } in
+    let d = poll_context g.P.Credential.SigningCredential g.P.ProvideCredential g.G.DeadlineRule g.G.GrantCredential c.args.objects.now c.args.begun.now c.args.now in
     let change : StepChange g.row.P-Credential.Denot g.row.G.Denot = record { old = c.args.desk.now; new = c.give_failed.new.desk } in
     let v = call_with d service in
     let m = meanings_of g.P.ProvideCredential g.G.GrantCredential in

@@ -11,5 +11,5 @@ pub returns-then-is_pending : goal.returns-then-is_pending
 returns-then-is_pending c = λ a stands due.
     let audit = c.args.audit.now in
     c.first_blocker.ensures _ stands.represents
-    ∙ ap (λ (call : CallId). first_of (blockers_of (setup_of audit.desk) (committed_entries stands.stepped) call)) c.call_of.ensures
+    ∙ ap (λ (call : CallId). first_of (blockers_of (setup_of audit.desk) (committed_entries stands.stepped) call)) c.call.ensures
     ∙ behind-is audit a stands c.as_event.result.now c.args.event.now c.args.reply.now c.as_event.ensures due (sym c.is_pending.ensures ∙ c.if-is_pending.true)

@@ -4,7 +4,7 @@ use Rattle.std.specs.Prelude.{codes}
 use Rattle.std.specs.Fmt.{decimal}
 use Rattle.signctl_format.specs.Lines.{cache_line}
 use Rattle.signctl_audit.specs.AuditOutput.{count_words}
-use Rattle.signctl_audit.proofs.LineWords.{more-words}
+use Rattle.signctl_format.proofs.LineWords.{more-words}
 use Rattle.signctl_audit.proofs.closing.push_counts.Goals as goal
 
 pub returns : goal.returns

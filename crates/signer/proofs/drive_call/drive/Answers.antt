@@ -1,30 +1,28 @@
 use Rattle.std.proofs.Common.{◌<◌, sym, subst, ap, ◌∙◌}
 use Rattle.desk_driver.specs.ProviderList.{loader_for}
 use Rattle.signer.proofs.PollEnds.{steps_left}
-use Rattle.sequential_signer.specs.Policy.{policy_of}
-use Rattle.signer.specs.PollContext.{PollContext, IsDrivenFrom}
+use Rattle.signer.specs.PollContext.{poll_context, IsDrivenFrom}
 use Rattle.signer.specs.StepOutcome.{answer_by}
-use Rattle.signer.specs.SignerObjects.{meanings_of}
 use Rattle.signer.proofs.CourseOfSteps.{PollPlace}
 use Rattle.signer.proofs.PollInvariant.{PollInvariant, PollStart, invariant-start, issued-here, invariant-on, invariant-fewer, invariant-end}
 use Rattle.signer.proofs.drive_call.drive.Goals as goal
 
 pub loop-next-init : goal.loop-next-init
 loop-next-init g c =
-    let d : PollContext g.row.P.Denot g.row.S.Denot g.row.P-Credential.Denot g.row.P-Ctx.Denot g.row.P-Load.Denot g.row.S-Work.Denot = record { policy = policy_of g.P.Credential.SigningCredential.valid g.P.Credential.SigningCredential.valid_at g.S.DeadlineRule.deadline; clones_freely = g.P.Credential.SigningCredential.clones_freely; meanings = meanings_of g.P.ProvideCredential g.S.SignRequest; objects = c.args.objects.now; begun = c.args.sign.begun; now = c.args.now } in
+    let d = poll_context g.P.Credential.SigningCredential g.P.ProvideCredential g.S.DeadlineRule g.S.SignRequest c.args.objects.now c.args.sign.begun c.args.now in
     let start : PollStart g.row.P-Credential.Denot g.row.S.Denot g.row.P-Load.Denot g.row.S-Work.Denot = record { state = c.args.sign.state; desk = c.args.desk.now; request = c.args.req.now } in
     invariant-start d start c.requires.issued
 
 pub step-taken-requires-clause-issued : goal.step-taken-requires-clause-issued
 step-taken-requires-clause-issued g c =
-    let d : PollContext g.row.P.Denot g.row.S.Denot g.row.P-Credential.Denot g.row.P-Ctx.Denot g.row.P-Load.Denot g.row.S-Work.Denot = record { policy = policy_of g.P.Credential.SigningCredential.valid g.P.Credential.SigningCredential.valid_at g.S.DeadlineRule.deadline; clones_freely = g.P.Credential.SigningCredential.clones_freely; meanings = meanings_of g.P.ProvideCredential g.S.SignRequest; objects = c.args.objects.now; begun = c.args.sign.begun; now = c.args.now } in
+    let d = poll_context g.P.Credential.SigningCredential g.P.ProvideCredential g.S.DeadlineRule g.S.SignRequest c.args.objects.now c.args.sign.begun c.args.now in
     let start : PollStart g.row.P-Credential.Denot g.row.S.Denot g.row.P-Load.Denot g.row.S-Work.Denot = record { state = c.args.sign.state; desk = c.args.desk.now; request = c.args.req.now } in
     let place : PollPlace g.row.P-Credential.Denot g.row.S.Denot g.row.P-Load.Denot g.row.S-Work.Denot = record { state = c.loop-next.state; desk = c.loop-next.desk; wake = c.loop-next.wake } in
     issued-here d start place c.loop-next.req c.loop-next.invariant c.requires.there
 
 pub loop-next-smaller : goal.loop-next-smaller
 loop-next-smaller g c =
-    let d : PollContext g.row.P.Denot g.row.S.Denot g.row.P-Credential.Denot g.row.P-Ctx.Denot g.row.P-Load.Denot g.row.S-Work.Denot = record { policy = policy_of g.P.Credential.SigningCredential.valid g.P.Credential.SigningCredential.valid_at g.S.DeadlineRule.deadline; clones_freely = g.P.Credential.SigningCredential.clones_freely; meanings = meanings_of g.P.ProvideCredential g.S.SignRequest; objects = c.args.objects.now; begun = c.args.sign.begun; now = c.args.now } in
+    let d = poll_context g.P.Credential.SigningCredential g.P.ProvideCredential g.S.DeadlineRule g.S.SignRequest c.args.objects.now c.args.sign.begun c.args.now in
     let start : PollStart g.row.P-Credential.Denot g.row.S.Denot g.row.P-Load.Denot g.row.S-Work.Denot = record { state = c.args.sign.state; desk = c.args.desk.now; request = c.args.req.now } in
     let place : PollPlace g.row.P-Credential.Denot g.row.S.Denot g.row.P-Load.Denot g.row.S-Work.Denot = record { state = c.loop-next.state; desk = c.loop-next.desk; wake = c.loop-next.wake } in
     subst (λ s. steps_left (loader_for c.args.objects.now.providers.now) s < steps_left (loader_for c.args.objects.now.providers.now) c.loop-next.state) (sym c.in-On.next-is)
@@ -32,7 +30,7 @@ loop-next-smaller g c =
 
 pub loop-next-preserved : goal.loop-next-preserved
 loop-next-preserved g c =
-    let d : PollContext g.row.P.Denot g.row.S.Denot g.row.P-Credential.Denot g.row.P-Ctx.Denot g.row.P-Load.Denot g.row.S-Work.Denot = record { policy = policy_of g.P.Credential.SigningCredential.valid g.P.Credential.SigningCredential.valid_at g.S.DeadlineRule.deadline; clones_freely = g.P.Credential.SigningCredential.clones_freely; meanings = meanings_of g.P.ProvideCredential g.S.SignRequest; objects = c.args.objects.now; begun = c.args.sign.begun; now = c.args.now } in
+    let d = poll_context g.P.Credential.SigningCredential g.P.ProvideCredential g.S.DeadlineRule g.S.SignRequest c.args.objects.now c.args.sign.begun c.args.now in
     let start : PollStart g.row.P-Credential.Denot g.row.S.Denot g.row.P-Load.Denot g.row.S-Work.Denot = record { state = c.args.sign.state; desk = c.args.desk.now; request = c.args.req.now } in
     let place : PollPlace g.row.P-Credential.Denot g.row.S.Denot g.row.P-Load.Denot g.row.S-Work.Denot = record { state = c.loop-next.state; desk = c.loop-next.desk; wake = c.loop-next.wake } in
     subst (λ n. PollInvariant d start (record { state = n; desk = c.step-taken.new.desk; wake = c.or-wake.result }) c.step-taken.new.req) (sym c.in-On.next-is)
@@ -41,7 +39,7 @@ loop-next-preserved g c =
 
 pub returns-in-Over : goal.returns-in-Over
 returns-in-Over g c =
-    let d : PollContext g.row.P.Denot g.row.S.Denot g.row.P-Credential.Denot g.row.P-Ctx.Denot g.row.P-Load.Denot g.row.S-Work.Denot = record { policy = policy_of g.P.Credential.SigningCredential.valid g.P.Credential.SigningCredential.valid_at g.S.DeadlineRule.deadline; clones_freely = g.P.Credential.SigningCredential.clones_freely; meanings = meanings_of g.P.ProvideCredential g.S.SignRequest; objects = c.args.objects.now; begun = c.args.sign.begun; now = c.args.now } in
+    let d = poll_context g.P.Credential.SigningCredential g.P.ProvideCredential g.S.DeadlineRule g.S.SignRequest c.args.objects.now c.args.sign.begun c.args.now in
     let start : PollStart g.row.P-Credential.Denot g.row.S.Denot g.row.P-Load.Denot g.row.S-Work.Denot = record { state = c.args.sign.state; desk = c.args.desk.now; request = c.args.req.now } in
     let place : PollPlace g.row.P-Credential.Denot g.row.S.Denot g.row.P-Load.Denot g.row.S-Work.Denot = record { state = c.loop-next.state; desk = c.loop-next.desk; wake = c.loop-next.wake } in
     subst (λ a. IsDrivenFrom d c.args.sign.state c.args.desk.now c.step-taken.new.desk (record { poll = record { answer = a; wake = c.or-wake.result }; before = c.args.req.now; after = c.step-taken.new.req })) (sym (c.answer_of.ensures ∙ ap (answer_by c.args.sign.begun) c.in-Over.end-is))

@@ -1,7 +1,5 @@
-use Rattle.sequential_signer.specs.Policy.{policy_of}
-use Rattle.signer.specs.PollContext.{PollContext}
+use Rattle.signer.specs.PollContext.{poll_context}
 use Rattle.desk_driver.specs.ProviderList.{loader_for}
-use Rattle.signer.specs.SignerObjects.{meanings_of}
 use Rattle.signer.proofs.PollEnds.{steps_left}
 use Rattle.signer.proofs.PollInvariant.{PollInvariant}
 use Rattle.signer.proofs.drive_call.drive.Given as goal
@@ -9,7 +7,7 @@ use Rattle.signer.proofs.drive_call.drive.Given as goal
 -- the poll is under way, with the objects and of the call that it began with
 abbrev pub invariant-loop-next : goal.invariant-loop-next
 invariant-loop-next g l =
-    let d : PollContext g.row.P.Denot g.row.S.Denot g.row.P-Credential.Denot g.row.P-Ctx.Denot g.row.P-Load.Denot g.row.S-Work.Denot = record { policy = policy_of g.P.Credential.SigningCredential.valid g.P.Credential.SigningCredential.valid_at g.S.DeadlineRule.deadline; clones_freely = g.P.Credential.SigningCredential.clones_freely; meanings = meanings_of g.P.ProvideCredential g.S.SignRequest; objects = l.fn.objects; begun = l.fn.sign.begun; now = l.fn.now } in
+    let d = poll_context g.P.Credential.SigningCredential g.P.ProvideCredential g.S.DeadlineRule g.S.SignRequest l.fn.objects l.fn.sign.begun l.fn.now in
     PollInvariant d (record { state = l.fn.sign.state; desk = l.fn.desk; request = l.fn.req }) (record { state = l.state; desk = l.desk; wake = l.wake }) l.req
 
 -- the most steps that it can still make

@@ -1,13 +1,11 @@
 use Rattle.std.proofs.Common.{◌≡◌, ◌⊎◌, inl, inr, refl, sym, subst, ap, ◌∙◌, IfSome, None}
-use Rattle.sequential_signer.specs.Policy.{policy_of}
 use Rattle.sign_base.specs.Error.{ErrorParts}
 use Rattle.sign_base.specs.declared.error_kind.ErrorKind.TheVariants as kind
 use Rattle.sign_base.specs.declared.head.Head.{Head}
 use Rattle.sign_request.specs.Refusal.{IsOutOfMemory}
-use Rattle.desk_driver.specs.CallAt.{IsSigning}
-use Rattle.signer.specs.PollContext.{PollContext, call_with}
+use Rattle.desk_driver.specs.CallAt.{IsSigning, service_of}
+use Rattle.signer.specs.PollContext.{poll_context, call_with}
 use Rattle.signer.specs.StepOutcome.{StepChange, IsStepOutcome}
-use Rattle.signer.specs.SignerObjects.{meanings_of, service_of}
 use Rattle.signer.specs.Target.{IsKept}
 use Rattle.signer.specs.declared.sign.SignState.TheVariants.{Signing}
 use Rattle.signer.specs.declared.sign.WorkState.TheVariants as work
@@ -30,7 +28,7 @@ give_rejected-requires-clause-signing g c = for-service (service_of c.args.desk.
 
 pub returns-in-None : goal.returns-in-None
 returns-in-None g c = λ w keeps service is.
-    let d : PollContext g.row.P.Denot g.row.S.Denot g.row.P-Credential.Denot g.row.P-Ctx.Denot g.row.P-Load.Denot g.row.S-Work.Denot = record { policy = policy_of g.P.Credential.SigningCredential.valid g.P.Credential.SigningCredential.valid_at g.S.DeadlineRule.deadline; clones_freely = g.P.Credential.SigningCredential.clones_freely; meanings = meanings_of g.P.ProvideCredential g.S.SignRequest; objects = c.args.objects.now; begun = c.args.begun.now; now = c.args._now } in
+    let d = poll_context g.P.Credential.SigningCredential g.P.ProvideCredential g.S.DeadlineRule g.S.SignRequest c.args.objects.now c.args.begun.now c.args._now in
     let change : StepChange g.row.P-Credential.Denot g.row.S.Denot = record { old = c.args.desk.now; new = c.hand_in.new.desk; before = c.args.req.now; after = c.hand_in.new.req } in
     let v = call_with d service in
     let handed = c.hand_in.ensures.done c.in-None.is in
@@ -39,7 +37,7 @@ returns-in-None g c = λ w keeps service is.
 
 pub returns-in-Some : goal.returns-in-Some
 returns-in-Some g c = λ w keeps service is.
-    let d : PollContext g.row.P.Denot g.row.S.Denot g.row.P-Credential.Denot g.row.P-Ctx.Denot g.row.P-Load.Denot g.row.S-Work.Denot = record { policy = policy_of g.P.Credential.SigningCredential.valid g.P.Credential.SigningCredential.valid_at g.S.DeadlineRule.deadline; clones_freely = g.P.Credential.SigningCredential.clones_freely; meanings = meanings_of g.P.ProvideCredential g.S.SignRequest; objects = c.args.objects.now; begun = c.args.begun.now; now = c.args._now } in
+    let d = poll_context g.P.Credential.SigningCredential g.P.ProvideCredential g.S.DeadlineRule g.S.SignRequest c.args.objects.now c.args.begun.now c.args._now in
     let change : StepChange g.row.P-Credential.Denot g.row.S.Denot = record { old = c.args.desk.now; new = c.hand_in.new.desk; before = c.args.req.now; after = c.hand_in.new.req } in
     let v = call_with d service in
     let kept : IsKept d.policy c.args.begun.now c.args.candidate c.in-Some.candidate change = subst (λ o. IfSome o (λ (head : Head). IsKept d.policy c.args.begun.now c.args.candidate head change)) c.in-Some.is c.hand_in.ensures.kept in
@@ -49,7 +47,7 @@ returns-in-Some g c = λ w keeps service is.
 
 pub returns-in-OutOfMemory : goal.returns-in-OutOfMemory
 returns-in-OutOfMemory g c = λ w keeps service is.
-    let d : PollContext g.row.P.Denot g.row.S.Denot g.row.P-Credential.Denot g.row.P-Ctx.Denot g.row.P-Load.Denot g.row.S-Work.Denot = record { policy = policy_of g.P.Credential.SigningCredential.valid g.P.Credential.SigningCredential.valid_at g.S.DeadlineRule.deadline; clones_freely = g.P.Credential.SigningCredential.clones_freely; meanings = meanings_of g.P.ProvideCredential g.S.SignRequest; objects = c.args.objects.now; begun = c.args.begun.now; now = c.args._now } in
+    let d = poll_context g.P.Credential.SigningCredential g.P.ProvideCredential g.S.DeadlineRule g.S.SignRequest c.args.objects.now c.args.begun.now c.args._now in
     let change : StepChange g.row.P-Credential.Denot g.row.S.Denot = record { old = c.args.desk.now; new = c.args.desk.now; before = c.args.req.now; after = c.args.req.now } in
     let v = call_with d service in
     subst (IsStepOutcome v (Signing c.args.credential w) change) (sym c.keep-in-OutOfMemory.ensures)
@@ -57,7 +55,7 @@ returns-in-OutOfMemory g c = λ w keeps service is.
 
 pub returns-in_default : goal.returns-in_default
 returns-in_default g c = λ w keeps service is.
-    let d : PollContext g.row.P.Denot g.row.S.Denot g.row.P-Credential.Denot g.row.P-Ctx.Denot g.row.P-Load.Denot g.row.S-Work.Denot = record { policy = policy_of g.P.Credential.SigningCredential.valid g.P.Credential.SigningCredential.valid_at g.S.DeadlineRule.deadline; clones_freely = g.P.Credential.SigningCredential.clones_freely; meanings = meanings_of g.P.ProvideCredential g.S.SignRequest; objects = c.args.objects.now; begun = c.args.begun.now; now = c.args._now } in
+    let d = poll_context g.P.Credential.SigningCredential g.P.ProvideCredential g.S.DeadlineRule g.S.SignRequest c.args.objects.now c.args.begun.now c.args._now in
     let change : StepChange g.row.P-Credential.Denot g.row.S.Denot = record { old = c.args.desk.now; new = c.give_rejected.new.desk; before = c.args.req.now; after = c.args.req.now } in
     let v = call_with d service in
     subst (IsStepOutcome v (Signing c.args.credential w) change) (sym c.refused.ensures)

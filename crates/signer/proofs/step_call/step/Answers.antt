@@ -1,31 +1,25 @@
-use Rattle.std.proofs.Common.{refl, sym, subst, Option, Some, None, IsSome, slice_get, option_and_then}
-use Rattle.sequential_signer.specs.Policy.{policy_of}
-use Rattle.desk_driver.specs.CallAt.{IsWaiting}
-use Rattle.signer.specs.PollContext.{PollContext, call_with, IsIssuedFor}
+use Rattle.std.proofs.Common.{refl, sym, subst, slice_get}
+use Rattle.desk_driver.specs.CallAt.{IsWaiting, service_of}
+use Rattle.desk_driver.proofs.Rows.{led-from}
+use Rattle.signer.specs.PollContext.{poll_context, call_with, IsIssuedFor}
 use Rattle.signer.specs.StepOutcome.{StepChange, IsStepOutcome}
-use Rattle.signer.specs.SignerObjects.{meanings_of, service_of}
 use Rattle.signer.specs.declared.sign.SignState.TheVariants.{Waiting}
 use Rattle.signer.proofs.ObjectMeanings.{for-service}
 use Rattle.signer.proofs.StepOutcomes.{poll-taken}
 use Rattle.signer.proofs.step_call.step.Goals as goal
 
--- a handle with a service is there
-handle-there : {A B : Type 0} (f : A → Option B) (o : Option A) → IsSome (option_and_then f o) → IsSome o
-handle-there f None h = h
-handle-there f (Some x) h = refl
-
 pub poll_call-requires-clause-there : goal.poll_call-requires-clause-there
-poll_call-requires-clause-there g c = handle-there _ (slice_get c.args.desk.now.handles c.args.begun.now.id.handle) c.requires.there
+poll_call-requires-clause-there g c = led-from _ (slice_get c.args.desk.now.handles c.args.begun.now.id.handle) c.requires.there
 
 pub poll_call-requires-clause-waiting : goal.poll_call-requires-clause-waiting
 poll_call-requires-clause-waiting g c =
-    let d : PollContext g.row.P.Denot g.row.S.Denot g.row.P-Credential.Denot g.row.P-Ctx.Denot g.row.P-Load.Denot g.row.S-Work.Denot = record { policy = policy_of g.P.Credential.SigningCredential.valid g.P.Credential.SigningCredential.valid_at g.S.DeadlineRule.deadline; clones_freely = g.P.Credential.SigningCredential.clones_freely; meanings = meanings_of g.P.ProvideCredential g.S.SignRequest; objects = c.args.objects.now; begun = c.args.begun.now; now = c.args.now } in
+    let d = poll_context g.P.Credential.SigningCredential g.P.ProvideCredential g.S.DeadlineRule g.S.SignRequest c.args.objects.now c.args.begun.now c.args.now in
     for-service (service_of c.args.desk.now c.args.begun.now.id.handle) (IsWaiting c.args.begun.now c.args.desk.now) c.requires.there
     (λ service is. (subst (IsIssuedFor d c.args.desk.now) c.in-Waiting.is c.requires.issued service is).0)
 
 pub returns-in-Waiting : goal.returns-in-Waiting
 returns-in-Waiting g c = λ service is.
-    let d : PollContext g.row.P.Denot g.row.S.Denot g.row.P-Credential.Denot g.row.P-Ctx.Denot g.row.P-Load.Denot g.row.S-Work.Denot = record { policy = policy_of g.P.Credential.SigningCredential.valid g.P.Credential.SigningCredential.valid_at g.S.DeadlineRule.deadline; clones_freely = g.P.Credential.SigningCredential.clones_freely; meanings = meanings_of g.P.ProvideCredential g.S.SignRequest; objects = c.args.objects.now; begun = c.args.begun.now; now = c.args.now } in
+    let d = poll_context g.P.Credential.SigningCredential g.P.ProvideCredential g.S.DeadlineRule g.S.SignRequest c.args.objects.now c.args.begun.now c.args.now in
     let change : StepChange g.row.P-Credential.Denot g.row.S.Denot = record { old = c.args.desk.now; new = c.poll_call.new.desk; before = c.args.req.now; after = c.args.req.now } in
     let v = call_with d service in
     let issued = subst (IsIssuedFor d c.args.desk.now) c.in-Waiting.is c.requires.issued service is in
@@ -35,6 +29,6 @@ returns-in-Waiting g c = λ service is.
 
 pub returns-in-Loading : goal.returns-in-Loading
 returns-in-Loading g c = λ service is.
-    let d : PollContext g.row.P.Denot g.row.S.Denot g.row.P-Credential.Denot g.row.P-Ctx.Denot g.row.P-Load.Denot g.row.S-Work.Denot = record { policy = policy_of g.P.Credential.SigningCredential.valid g.P.Credential.SigningCredential.valid_at g.S.DeadlineRule.deadline; clones_freely = g.P.Credential.SigningCredential.clones_freely; meanings = meanings_of g.P.ProvideCredential g.S.SignRequest; objects = c.args.objects.now; begun = c.args.begun.now; now = c.args.now } in
+    let d = poll_context g.P.Credential.SigningCredential g.P.ProvideCredential g.S.DeadlineRule g.S.SignRequest c.args.objects.now c.args.begun.now c.args.now in
     let change : StepChange g.row.P-Credential.Denot g.row.S.Denot = record { old = c.args.desk.now; new = c.step_loading.new.desk; before = c.args.req.now; after = c.args.req.now } in
     subst (λ s. IsStepOutcome (call_with d service) s change c.step_loading.result) (sym c.in-Loading.is) (c.step_loading.ensures c.args.req.now service is)

@@ -1,9 +1,7 @@
 use Rattle.std.proofs.Common.{◌≡◌, refl, sym, subst, ap, ◌∙◌, Some}
 use Rattle.std.specs.Option.{option_copied}
-use Rattle.sequential_signer.specs.Policy.{policy_of}
-use Rattle.signer.specs.PollContext.{PollContext, call_with}
-use Rattle.desk_driver.specs.LoadAnswer.{IsLoadAnswer}
-use Rattle.desk_driver.specs.LoadAnswer.{provider_meaning}
+use Rattle.signer.specs.PollContext.{poll_context, call_with}
+use Rattle.desk_driver.specs.LoadAnswer.{IsLoadAnswer, provider_meaning}
 use Rattle.signer.specs.StepOutcome.{StepChange, IsStepOutcome}
 use Rattle.signer.specs.SignerObjects.{meanings_of, with_service}
 use Rattle.desk_driver.specs.ProviderList.{provider_at}
@@ -15,7 +13,7 @@ use Rattle.signer.proofs.step_call.step_loading.Goals as goal
 
 pub returns-in-Pending : goal.returns-in-Pending
 returns-in-Pending g c = λ request service is.
-    let d : PollContext g.row.P.Denot g.row.S.Denot g.row.P-Credential.Denot g.row.P-Ctx.Denot g.row.P-Load.Denot g.row.S-Work.Denot = record { policy = policy_of g.P.Credential.SigningCredential.valid g.P.Credential.SigningCredential.valid_at g.S.DeadlineRule.deadline; clones_freely = g.P.Credential.SigningCredential.clones_freely; meanings = meanings_of g.P.ProvideCredential g.S.SignRequest; objects = c.args.objects.now; begun = c.args.begun.now; now = c.args.now } in
+    let d = poll_context g.P.Credential.SigningCredential g.P.ProvideCredential g.S.DeadlineRule g.S.SignRequest c.args.objects.now c.args.begun.now c.args.now in
     let change : StepChange g.row.P-Credential.Denot g.row.S.Denot = record { old = c.args.desk.now; new = c.args.desk.now; before = request; after = request } in
     let v = call_with d service in
     let m = meanings_of g.P.ProvideCredential g.S.SignRequest in
@@ -28,7 +26,7 @@ returns-in-Pending g c = λ request service is.
 
 pub returns-in-OutOfMemory : goal.returns-in-OutOfMemory
 returns-in-OutOfMemory g c = λ request service is.
-    let d : PollContext g.row.P.Denot g.row.S.Denot g.row.P-Credential.Denot g.row.P-Ctx.Denot g.row.P-Load.Denot g.row.S-Work.Denot = record { policy = policy_of g.P.Credential.SigningCredential.valid g.P.Credential.SigningCredential.valid_at g.S.DeadlineRule.deadline; clones_freely = g.P.Credential.SigningCredential.clones_freely; meanings = meanings_of g.P.ProvideCredential g.S.SignRequest; objects = c.args.objects.now; begun = c.args.begun.now; now = c.args.now } in
+    let d = poll_context g.P.Credential.SigningCredential g.P.ProvideCredential g.S.DeadlineRule g.S.SignRequest c.args.objects.now c.args.begun.now c.args.now in
     let change : StepChange g.row.P-Credential.Denot g.row.S.Denot = record { old = c.args.desk.now; new = c.args.desk.now; before = request; after = request } in
     let v = call_with d service in
     let m = meanings_of g.P.ProvideCredential g.S.SignRequest in
@@ -41,7 +39,7 @@ returns-in-OutOfMemory g c = λ request service is.
 
 pub returns-in-Found : goal.returns-in-Found
 returns-in-Found g c = λ request service is.
-    let d : PollContext g.row.P.Denot g.row.S.Denot g.row.P-Credential.Denot g.row.P-Ctx.Denot g.row.P-Load.Denot g.row.S-Work.Denot = record { policy = policy_of g.P.Credential.SigningCredential.valid g.P.Credential.SigningCredential.valid_at g.S.DeadlineRule.deadline; clones_freely = g.P.Credential.SigningCredential.clones_freely; meanings = meanings_of g.P.ProvideCredential g.S.SignRequest; objects = c.args.objects.now; begun = c.args.begun.now; now = c.args.now } in
+    let d = poll_context g.P.Credential.SigningCredential g.P.ProvideCredential g.S.DeadlineRule g.S.SignRequest c.args.objects.now c.args.begun.now c.args.now in
     let change : StepChange g.row.P-Credential.Denot g.row.S.Denot = record { old = c.args.desk.now; new = c.give_found-reply.new.desk; before = request; after = request } in
     let v = call_with d service in
     let m = meanings_of g.P.ProvideCredential g.S.SignRequest in
@@ -55,7 +53,7 @@ returns-in-Found g c = λ request service is.
 
 pub returns-in-Missing : goal.returns-in-Missing
 returns-in-Missing g c = λ request service is.
-    let d : PollContext g.row.P.Denot g.row.S.Denot g.row.P-Credential.Denot g.row.P-Ctx.Denot g.row.P-Load.Denot g.row.S-Work.Denot = record { policy = policy_of g.P.Credential.SigningCredential.valid g.P.Credential.SigningCredential.valid_at g.S.DeadlineRule.deadline; clones_freely = g.P.Credential.SigningCredential.clones_freely; meanings = meanings_of g.P.ProvideCredential g.S.SignRequest; objects = c.args.objects.now; begun = c.args.begun.now; now = c.args.now } in
+    let d = poll_context g.P.Credential.SigningCredential g.P.ProvideCredential g.S.DeadlineRule g.S.SignRequest c.args.objects.now c.args.begun.now c.args.now in
     let change : StepChange g.row.P-Credential.Denot g.row.S.Denot = record { old = c.args.desk.now; new = c.give_missing-reply.new.desk; before = request; after = request } in
     let v = call_with d service in
     let m = meanings_of g.P.ProvideCredential g.S.SignRequest in
@@ -67,7 +65,7 @@ returns-in-Missing g c = λ request service is.
 
 pub returns-in-Failed : goal.returns-in-Failed
 returns-in-Failed g c = λ request service is.
-    let d : PollContext g.row.P.Denot g.row.S.Denot g.row.P-Credential.Denot g.row.P-Ctx.Denot g.row.P-Load.Denot g.row.S-Work.Denot = record { policy = policy_of g.P.Credential.SigningCredential.valid g.P.Credential.SigningCredential.valid_at g.S.DeadlineRule.deadline; clones_freely = g.P.Credential.SigningCredential.clones_freely; meanings = meanings_of g.P.ProvideCredential g.S.SignRequest; objects = c.args.objects.now; begun = c.args.begun.now; now = c.args.now } in
+    let d = poll_context g.P.Credential.SigningCredential g.P.ProvideCredential g.S.DeadlineRule g.S.SignRequest c.args.objects.now c.args.begun.now c.args.now in
     let change : StepChange g.row.P-Credential.Denot g.row.S.Denot = record { old = c.args.desk.now; new = c.give_failed-reply.new.desk; before = request; after = request } in
     let v = call_with d service in
     let m = meanings_of g.P.ProvideCredential g.S.SignRequest in

@@ -1,18 +1,17 @@
 use Rattle.std.proofs.Common.{◌≡◌, refl, sym, subst, ap, ◌∙◌, Some, Option}
 use Rattle.std.specs.Option.{option_copied}
-use Rattle.sequential_signer.specs.Policy.{policy_of}
-use Rattle.signer.specs.PollContext.{PollContext, call_with}
+use Rattle.signer.specs.PollContext.{poll_context, call_with}
 use Rattle.signer.specs.ObjectAnswer.{IsWorkAnswer}
 use Rattle.signer.specs.ObjectPoll.{service_meaning}
 use Rattle.signer.specs.StepOutcome.{StepChange, IsStepOutcome}
-use Rattle.signer.specs.SignerObjects.{meanings_of, service_of}
+use Rattle.desk_driver.specs.CallAt.{service_of}
 use Rattle.signer.specs.declared.sign.SignState.TheVariants.{Signing}
 use Rattle.signer.proofs.StepOutcomes.{work-pending, work-without-memory, rejected-taken, fails-now}
 use Rattle.signer.proofs.step_call.step_signing.Goals as goal
 
 pub returns-in-Pending : goal.returns-in-Pending
 returns-in-Pending g c = λ service is.
-    let d : PollContext g.row.P.Denot g.row.S.Denot g.row.P-Credential.Denot g.row.P-Ctx.Denot g.row.P-Load.Denot g.row.S-Work.Denot = record { policy = policy_of g.P.Credential.SigningCredential.valid g.P.Credential.SigningCredential.valid_at g.S.DeadlineRule.deadline; clones_freely = g.P.Credential.SigningCredential.clones_freely; meanings = meanings_of g.P.ProvideCredential g.S.SignRequest; objects = c.args.objects.now; begun = c.args.begun.now; now = c.args.now } in
+    let d = poll_context g.P.Credential.SigningCredential g.P.ProvideCredential g.S.DeadlineRule g.S.SignRequest c.args.objects.now c.args.begun.now c.args.now in
     let change : StepChange g.row.P-Credential.Denot g.row.S.Denot = record { old = c.args.desk.now; new = c.args.desk.now; before = c.args.req.now; after = c.args.req.now } in
     let v = call_with d service in
     let there : service_of c.args.desk.now c.args.begun.now.id.handle ≡ Some c.unwrap-service.result.now = sym c.rule_of.ensures ∙ ap option_copied c.unwrap-service.ensures in
@@ -24,7 +23,7 @@ returns-in-Pending g c = λ service is.
 
 pub returns-in-OutOfMemory : goal.returns-in-OutOfMemory
 returns-in-OutOfMemory g c = λ service is.
-    let d : PollContext g.row.P.Denot g.row.S.Denot g.row.P-Credential.Denot g.row.P-Ctx.Denot g.row.P-Load.Denot g.row.S-Work.Denot = record { policy = policy_of g.P.Credential.SigningCredential.valid g.P.Credential.SigningCredential.valid_at g.S.DeadlineRule.deadline; clones_freely = g.P.Credential.SigningCredential.clones_freely; meanings = meanings_of g.P.ProvideCredential g.S.SignRequest; objects = c.args.objects.now; begun = c.args.begun.now; now = c.args.now } in
+    let d = poll_context g.P.Credential.SigningCredential g.P.ProvideCredential g.S.DeadlineRule g.S.SignRequest c.args.objects.now c.args.begun.now c.args.now in
     let change : StepChange g.row.P-Credential.Denot g.row.S.Denot = record { old = c.args.desk.now; new = c.args.desk.now; before = c.args.req.now; after = c.args.req.now } in
     let v = call_with d service in
     let there : service_of c.args.desk.now c.args.begun.now.id.handle ≡ Some c.unwrap-service.result.now = sym c.rule_of.ensures ∙ ap option_copied c.unwrap-service.ensures in
@@ -36,7 +35,7 @@ returns-in-OutOfMemory g c = λ service is.
 
 pub returns-in-Failed : goal.returns-in-Failed
 returns-in-Failed g c = λ service is.
-    let d : PollContext g.row.P.Denot g.row.S.Denot g.row.P-Credential.Denot g.row.P-Ctx.Denot g.row.P-Load.Denot g.row.S-Work.Denot = record { policy = policy_of g.P.Credential.SigningCredential.valid g.P.Credential.SigningCredential.valid_at g.S.DeadlineRule.deadline; clones_freely = g.P.Credential.SigningCredential.clones_freely; meanings = meanings_of g.P.ProvideCredential g.S.SignRequest; objects = c.args.objects.now; begun = c.args.begun.now; now = c.args.now } in
+    let d = poll_context g.P.Credential.SigningCredential g.P.ProvideCredential g.S.DeadlineRule g.S.SignRequest c.args.objects.now c.args.begun.now c.args.now in
     let change : StepChange g.row.P-Credential.Denot g.row.S.Denot = record { old = c.args.desk.now; new = c.give_rejected.new.desk; before = c.args.req.now; after = c.args.req.now } in
     let v = call_with d service in
     let there : service_of c.args.desk.now c.args.begun.now.id.handle ≡ Some c.unwrap-service.result.now = sym c.rule_of.ensures ∙ ap option_copied c.unwrap-service.ensures in

@@ -1,7 +1,8 @@
-use Rattle.std.proofs.Common.{rules, ◌≡◌, ◌≤◌, ◌+◌, ◌-◌, true, false, length, vec_capacity, refl, sym, ◌∙◌, arith}
+use Rattle.std.proofs.Common.{rules, ◌≡◌, ◌≤◌, ◌+◌, ◌-◌, true, false, length, vec_capacity, refl, sym, ◌∙◌}
 use Rattle.sequential_signer.specs.Phase.{is_begun}
 use Rattle.sequential_signer.specs.Transcript.{call_of}
-use Rattle.signer_book.specs.OpenBegins.{is_open, is_cancelled}
+use Rattle.signer_book.specs.OpenBegins.{is_open}
+use Rattle.sequential_signer.specs.Replies.{is_cancelled}
 use Rattle.signer_book.proofs.ReceiptRoom.{room_begun, room_same, room_cancelled}
 use Rattle.signer_book.proofs.room.take_receipt_room.Goals as goal
 

@@ -2,12 +2,16 @@ use Rattle.std.proofs.Common.{◌≡◌, Option, Some, refl, sym, ◌∙◌, ap,
 use Rattle.sequential_signer.specs.Policy.{policy_of}
 use Rattle.desk_driver.specs.CallAt.{loader_of}
 use Rattle.desk_driver.specs.ProviderList.{loader_for}
+use Rattle.desk_driver.specs.CallNumbers.{is_above_all}
+use Rattle.desk_driver.proofs.Rows.{for-there, index-is, cache-is}
 use Rattle.granter.specs.Course.{polled_call, IsDriven, IsGrantPoll}
 use Rattle.granter.specs.GranterCalls.{IsAnswerIssuedBy}
-use Rattle.granter.specs.GranterInvariant.{GranterState, IsGranter, is_above_all}
-use Rattle.granter.specs.GranterObjects.{Objects, call_meaning, meanings_of, objects_of}
+use Rattle.granter.specs.GranterInvariant.{GranterState, IsGranter}
+use Rattle.granter.specs.GranterObjects.{call_meaning, meanings_of, objects_of}
+use Rattle.desk_driver.specs.Objects.{Objects}
 use Rattle.granter.specs.IssuedBy.{IsStateIssued, IsGrantIssuedBy}
-use Rattle.granter.proofs.GranterObjectsAt.{has-objects, loads-by, serves-by, for-objects, index-is, cache-is}
+use Rattle.granter.specs.GranterView.{granter_view}
+use Rattle.granter.proofs.GranterObjectsAt.{has-objects, loads-by, serves-by}
 use Rattle.granter.proofs.GranterOthers.{keeps-others, answer-issued}
 use Rattle.granter.proofs.GranterSetup.{granter-desk}
 use Rattle.granter.proofs.CourseOfSteps.{course-represents}
@@ -17,8 +21,8 @@ pub drive-requires-clause-loads : goal.drive-requires-clause-loads
 drive-requires-clause-loads g c =
     let m = meanings_of g.P.ProvideCredential g.G.GrantCredential in
     let handle = c.args.grant.begun.id.handle in
-    let s : GranterState g.row.P.Denot g.row.G.Denot g.row.P-Credential.Denot g.row.P-Ctx.Denot = record { desk = c.self.inside.desk; providers = c.self.inside.providers.items; provider_places = c.self.inside.provider_places.items; contexts = c.self.inside.contexts.items; context_places = c.self.inside.context_places.items; begun = c.self.inside.begun } in
-    for-objects (objects_of s handle) (λ o. IsStateIssued (call_meaning m c.args.grant.begun o) c.args.grant.begun s.desk c.args.grant.state)
+    let s = granter_view c.self.inside in
+    for-there (objects_of s handle) (λ o. IsStateIssued (call_meaning m c.args.grant.begun o) c.args.grant.begun s.desk c.args.grant.state)
     (loader_of c.self.inside.desk handle ≡ Some (loader_for c.index.result.now))
     (subst (λ x. IsGrantIssuedBy m x c.args.grant) (sym c.self.view_is) c.requires)
     (λ o is state.
@@ -32,8 +36,8 @@ pub drive-requires-clause-issued : goal.drive-requires-clause-issued
 drive-requires-clause-issued g c = λ service found.
     let m = meanings_of g.P.ProvideCredential g.G.GrantCredential in
     let handle = c.args.grant.begun.id.handle in
-    let s : GranterState g.row.P.Denot g.row.G.Denot g.row.P-Credential.Denot g.row.P-Ctx.Denot = record { desk = c.self.inside.desk; providers = c.self.inside.providers.items; provider_places = c.self.inside.provider_places.items; contexts = c.self.inside.contexts.items; context_places = c.self.inside.context_places.items; begun = c.self.inside.begun } in
-    for-objects (objects_of s handle) (λ o. IsStateIssued (call_meaning m c.args.grant.begun o) c.args.grant.begun s.desk c.args.grant.state)
+    let s = granter_view c.self.inside in
+    for-there (objects_of s handle) (λ o. IsStateIssued (call_meaning m c.args.grant.begun o) c.args.grant.begun s.desk c.args.grant.state)
     (IsStateIssued (call_meaning m c.args.grant.begun (let q : Objects g.row.P.Denot g.row.G.Denot g.row.P-Ctx.Denot = record { providers = c.index.result.now; ctx = c.index-2.result.now; service = service } in q)) c.args.grant.begun c.self.inside.desk c.args.grant.state)
     (subst (λ x. IsGrantIssuedBy m x c.args.grant) (sym c.self.view_is) c.requires)
     (λ o is state.
@@ -53,8 +57,8 @@ pub invariant_of-self : goal.invariant_of-self
 invariant_of-self g c =
     let m = meanings_of g.P.ProvideCredential g.G.GrantCredential in
     let handle = c.args.grant.begun.id.handle in
-    let s : GranterState g.row.P.Denot g.row.G.Denot g.row.P-Credential.Denot g.row.P-Ctx.Denot = record { desk = c.self.inside.desk; providers = c.self.inside.providers.items; provider_places = c.self.inside.provider_places.items; contexts = c.self.inside.contexts.items; context_places = c.self.inside.context_places.items; begun = c.self.inside.begun } in
-    for-objects (objects_of s handle) (λ o. IsStateIssued (call_meaning m c.args.grant.begun o) c.args.grant.begun s.desk c.args.grant.state)
+    let s = granter_view c.self.inside in
+    for-there (objects_of s handle) (λ o. IsStateIssued (call_meaning m c.args.grant.begun o) c.args.grant.begun s.desk c.args.grant.state)
     (IsGranter (let x : GranterState g.row.P.Denot g.row.G.Denot g.row.P-Credential.Denot g.row.P-Ctx.Denot = record s { desk = c.drive.new.desk } in x))
     (subst (λ x. IsGrantIssuedBy m x c.args.grant) (sym c.self.view_is) c.requires)
     (λ o is state.
@@ -66,7 +70,7 @@ pub returns-clause-poll : goal.returns-clause-poll
 returns-clause-poll g c = λ o is.
     let m = meanings_of g.P.ProvideCredential g.G.GrantCredential in
     let handle = c.args.grant.begun.id.handle in
-    let s : GranterState g.row.P.Denot g.row.G.Denot g.row.P-Credential.Denot g.row.P-Ctx.Denot = record { desk = c.self.inside.desk; providers = c.self.inside.providers.items; provider_places = c.self.inside.provider_places.items; contexts = c.self.inside.contexts.items; context_places = c.self.inside.context_places.items; begun = c.self.inside.begun } in
+    let s = granter_view c.self.inside in
     let policy = policy_of g.P.Credential.SigningCredential.valid g.P.Credential.SigningCredential.valid_at g.G.DeadlineRule.deadline in
     let h = has-objects s handle o (ap (λ x. objects_of x handle) c.self.view_is ∙ is) in
     let cache : c.unwrap-cache.result ≡ h.at.cache = cache-is _ h.at c.cache_of.result c.unwrap-cache.result h.handle_is c.cache_of.ensures c.unwrap-cache.ensures in
@@ -87,8 +91,8 @@ pub returns-clause-issued : goal.returns-clause-issued
 returns-clause-issued g c =
     let m = meanings_of g.P.ProvideCredential g.G.GrantCredential in
     let handle = c.args.grant.begun.id.handle in
-    let s : GranterState g.row.P.Denot g.row.G.Denot g.row.P-Credential.Denot g.row.P-Ctx.Denot = record { desk = c.self.inside.desk; providers = c.self.inside.providers.items; provider_places = c.self.inside.provider_places.items; contexts = c.self.inside.contexts.items; context_places = c.self.inside.context_places.items; begun = c.self.inside.begun } in
-    for-objects (objects_of s handle) (λ o. IsStateIssued (call_meaning m c.args.grant.begun o) c.args.grant.begun s.desk c.args.grant.state)
+    let s = granter_view c.self.inside in
+    for-there (objects_of s handle) (λ o. IsStateIssued (call_meaning m c.args.grant.begun o) c.args.grant.begun s.desk c.args.grant.state)
     (IsAnswerIssuedBy m (record s { desk = c.drive.new.desk }) c.args.grant.begun.id c.drive.result)
     (subst (λ x. IsGrantIssuedBy m x c.args.grant) (sym c.self.view_is) c.requires)
     (λ o is state.
@@ -108,8 +112,8 @@ pub returns-clause-others : goal.returns-clause-others
 returns-clause-others g c = λ other apart issued.
     let m = meanings_of g.P.ProvideCredential g.G.GrantCredential in
     let handle = c.args.grant.begun.id.handle in
-    let s : GranterState g.row.P.Denot g.row.G.Denot g.row.P-Credential.Denot g.row.P-Ctx.Denot = record { desk = c.self.inside.desk; providers = c.self.inside.providers.items; provider_places = c.self.inside.provider_places.items; contexts = c.self.inside.contexts.items; context_places = c.self.inside.context_places.items; begun = c.self.inside.begun } in
-    for-objects (objects_of s handle) (λ o. IsStateIssued (call_meaning m c.args.grant.begun o) c.args.grant.begun s.desk c.args.grant.state)
+    let s = granter_view c.self.inside in
+    for-there (objects_of s handle) (λ o. IsStateIssued (call_meaning m c.args.grant.begun o) c.args.grant.begun s.desk c.args.grant.state)
     (IsGrantIssuedBy m (record s { desk = c.drive.new.desk }) other)
     (subst (λ x. IsGrantIssuedBy m x c.args.grant) (sym c.self.view_is) c.requires)
     (λ o is state.

@@ -2,12 +2,13 @@ use Rattle.std.proofs.Common.{◌≡◌, ◌<◌, Some, length, option_map, slic
 use Rattle.sequential_signer.specs.Setup.{Handle}
 use Rattle.desk_parts.specs.TablesView.{handle_view}
 use Rattle.granter.specs.GranterInvariant.{GranterState}
+use Rattle.granter.specs.GranterView.{granter_view}
 use Rattle.granter.proofs.GranterSetup.{context-read, granter-cache}
 use Rattle.granter.proofs.granter.Granter.with_credential_provider.Goals as goal
 
 pub invariant_of-self-in-Ok : goal.invariant_of-self-in-Ok
 invariant_of-self-in-Ok g c =
-    let s : GranterState g.row.P.Denot g.row.G.Denot g.row.P-Credential.Denot g.row.P-Ctx.Denot = record { desk = c.self.inside.desk; providers = c.self.inside.providers.items; provider_places = c.self.inside.provider_places.items; contexts = c.self.inside.contexts.items; context_places = c.self.inside.context_places.items; begun = c.self.inside.begun } in
+    let s = granter_view c.self.inside in
     let like : Handle = handle_view c.unwrap-like.result in
     let there : slice_get s.desk.handles c.args.handle ≡ Some like = sym c.handle_at.ensures ∙ ap (option_map handle_view) c.unwrap-like.ensures in
     let few : length s.desk.handles < 4294967295 = subst (λ (x : GranterState g.row.P.Denot g.row.G.Denot g.row.P-Credential.Denot g.row.P-Ctx.Denot). length x.desk.handles < 4294967295) (sym c.self.view_is) c.requires.room in

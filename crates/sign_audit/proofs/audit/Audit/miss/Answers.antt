@@ -15,23 +15,23 @@ returns-then-not-allocates-clause-answer g c =
 pub returns-in_default-clause-answer : goal.returns-in_default-clause-answer
 returns-in_default-clause-answer g c =
     miss-unset (policy_of g.K.SigningCredential.valid g.K.SigningCredential.valid_at g.D.DeadlineRule.deadline) c.self.inside.desk c.self.inside.counts.items c.args.self.now c.self.view_is
-    c.args.event.now c.allocates.result c.allocates.ensures c.if-not-allocates.false c.call_of-call.result c.call_of-call.ensures (sym c.cache_of.ensures ∙ c.in_default.is)
+    c.args.event.now c.allocates.result c.allocates.ensures c.if-not-allocates.false c.call-call.result c.call-call.ensures (sym c.cache_of.ensures ∙ c.in_default.is)
 
 pub count-requires : goal.count-requires
 count-requires g c =
     counts-there (policy_of g.K.SigningCredential.valid g.K.SigningCredential.valid_at g.D.DeadlineRule.deadline) c.self.inside.desk c.self.inside.counts.items c.args.self.now c.self.view_is c.self.inside.lines c.self.invariant c.in-Some.cache
-    (queue-there c.self.inside.desk c.stage_of-placed.ensures.sound c.call_of-call.result c.in-Some.cache (sym c.cache_of.ensures ∙ c.in-Some.is))
+    (queue-there c.self.inside.desk c.stage_of-placed.ensures.sound c.call-call.result c.in-Some.cache (sym c.cache_of.ensures ∙ c.in-Some.is))
 
 pub invariant_of-self : goal.invariant_of-self
 invariant_of-self g c =
     miss-invariant (policy_of g.K.SigningCredential.valid g.K.SigningCredential.valid_at g.D.DeadlineRule.deadline) c.self.inside.desk c.self.inside.counts.items c.args.self.now c.self.view_is
-    c.args.event.now c.allocates.result c.allocates.ensures c.if-not-allocates.false c.call_of-call.result c.call_of-call.ensures c.in-Some.cache (sym c.cache_of.ensures ∙ c.in-Some.is)
+    c.args.event.now c.allocates.result c.allocates.ensures c.if-not-allocates.false c.call-call.result c.call-call.ensures c.in-Some.cache (sym c.cache_of.ensures ∙ c.in-Some.is)
     c.count.new.counts.items c.count.ensures c.self.inside.lines c.self.invariant
 
 pub returns-clause-answer : goal.returns-clause-answer
 returns-clause-answer g c =
     miss-counted (policy_of g.K.SigningCredential.valid g.K.SigningCredential.valid_at g.D.DeadlineRule.deadline) c.self.inside.desk c.self.inside.counts.items c.args.self.now c.self.view_is
-    c.args.event.now c.allocates.result c.allocates.ensures c.if-not-allocates.false c.call_of-call.result c.call_of-call.ensures c.in-Some.cache (sym c.cache_of.ensures ∙ c.in-Some.is)
+    c.args.event.now c.allocates.result c.allocates.ensures c.if-not-allocates.false c.call-call.result c.call-call.ensures c.in-Some.cache (sym c.cache_of.ensures ∙ c.in-Some.is)
     c.count.new.counts.items c.count.ensures
 
 pub returns-clause-setup : goal.returns-clause-setup

@@ -7,7 +7,7 @@ use Rattle.signctl_audit.specs.Account.{account_of}
 use Rattle.signctl_audit.specs.AuditOutput.{legal_line, count_line, count_lines}
 use Rattle.signctl_audit.specs.SessionState.{SessionState}
 use Rattle.signctl_audit.proofs.CountLines.{counts-none, counts-more}
-use Rattle.signctl_audit.proofs.LineWords.{line-with_newline}
+use Rattle.signctl_format.proofs.LineWords.{line-with_newline}
 use Rattle.signctl_audit.proofs.NextLine.{as_seen}
 use Rattle.signctl_audit.proofs.audit_session.AuditSession.push_closing.Goals as goal
 

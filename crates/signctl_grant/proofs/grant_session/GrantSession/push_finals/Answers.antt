@@ -7,7 +7,8 @@ use Rattle.signctl_format.specs.Lines.{final_line}
 use Rattle.signctl_format.specs.ScriptSetup.{setup_in}
 use Rattle.signctl_grant.specs.GrantOutput.{final_lines_of, final_line_of, transcript_of}
 use Rattle.signctl_grant.proofs.Closing.{finals-none, finals-more, cached-is}
-use Rattle.signctl_grant.proofs.NextLine.{as_seen, line-with_newline}
+use Rattle.signctl_format.proofs.LineWords.{line-with_newline}
+use Rattle.signctl_grant.proofs.NextLine.{as_seen}
 use Rattle.signctl_grant.proofs.grant_session.GrantSession.push_finals.Goals as goal
 
 pub loop-cache-init : goal.loop-cache-init

@@ -3,7 +3,7 @@ use Rattle.std.specs.Fmt.{decimal}
 use Rattle.std.specs.Prelude.{codes}
 use Rattle.sign_base.specs.Bytes.{newline}
 use Rattle.signctl_script.specs.Load.{counts_line}
-use Rattle.signctl_script.proofs.LineWords.{more-words, one-word}
+use Rattle.signctl_format.proofs.LineWords.{more-words, one-word}
 use Rattle.signctl_script.proofs.load.counts.push_counts.Goals as goal
 
 pub returns : goal.returns

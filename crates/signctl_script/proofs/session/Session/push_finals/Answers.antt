@@ -11,7 +11,8 @@ use Rattle.signctl_format.specs.ScriptSetup.{setup_in}
 use Rattle.signctl_script.specs.Script.{items_in, version_in}
 use Rattle.signctl_script.specs.ScriptOutput.{final_lines_of, final_line_of, transcript_of}
 use Rattle.signctl_script.proofs.Closing.{finals-none, finals-more, cached-is}
-use Rattle.signctl_script.proofs.NextLine.{as_seen, line-with_newline}
+use Rattle.signctl_format.proofs.LineWords.{line-with_newline}
+use Rattle.signctl_script.proofs.NextLine.{as_seen}
 use Rattle.signctl_script.proofs.session.Session.push_finals.Goals as goal
 
 pub loop-cache-init : goal.loop-cache-init

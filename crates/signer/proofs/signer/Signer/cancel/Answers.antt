@@ -1,9 +1,11 @@
 use Rattle.std.proofs.Common.{IsSome, slice_get, refl, sym, ◌∙◌, ap, subst}
 use Rattle.desk_driver.specs.CallAt.{IsLive}
+use Rattle.desk_driver.specs.CallNumbers.{is_above_all}
+use Rattle.desk_driver.proofs.Rows.{for-there}
 use Rattle.signer.specs.IssuedBy.{IsStateIssued, IsIssuedBy}
-use Rattle.signer.specs.SignerInvariant.{SignerState, is_above_all}
 use Rattle.signer.specs.SignerObjects.{call_meaning, meanings_of, objects_of}
-use Rattle.signer.proofs.SignerObjectsAt.{has-objects, for-objects}
+use Rattle.signer.specs.SignerView.{signer_view}
+use Rattle.signer.proofs.SignerObjectsAt.{has-objects}
 use Rattle.signer.proofs.SignerOthers.{keeps-others, issued-live}
 use Rattle.signer.proofs.SignerSetup.{signer-desk}
 use Rattle.signer.proofs.signer.Signer.cancel.Goals as goal
@@ -12,8 +14,8 @@ pub cancel_call-requires-clause-there : goal.cancel_call-requires-clause-there
 cancel_call-requires-clause-there g c =
     let m = meanings_of g.P.ProvideCredential g.S.SignRequest in
     let handle = c.args.sign.begun.id.handle in
-    let s : SignerState g.row.P.Denot g.row.S.Denot g.row.P-Credential.Denot g.row.P-Ctx.Denot = record { desk = c.self.inside.desk; providers = c.self.inside.providers.items; contexts = c.self.inside.contexts.items; context_places = c.self.inside.context_places.items; begun = c.self.inside.begun; keys = c.self.inside.keys } in
-    for-objects (objects_of s handle) (λ o. IsStateIssued (call_meaning m c.args.sign.begun o) c.args.sign.begun s.desk c.args.sign.state)
+    let s = signer_view c.self.inside in
+    for-there (objects_of s handle) (λ o. IsStateIssued (call_meaning m c.args.sign.begun o) c.args.sign.begun s.desk c.args.sign.state)
     (IsSome (slice_get s.desk.handles handle))
     (subst (λ x. IsIssuedBy m x c.args.sign) (sym c.self.view_is) c.requires)
     (λ o is state.
@@ -24,8 +26,8 @@ pub cancel_call-requires-clause-live : goal.cancel_call-requires-clause-live
 cancel_call-requires-clause-live g c =
     let m = meanings_of g.P.ProvideCredential g.S.SignRequest in
     let handle = c.args.sign.begun.id.handle in
-    let s : SignerState g.row.P.Denot g.row.S.Denot g.row.P-Credential.Denot g.row.P-Ctx.Denot = record { desk = c.self.inside.desk; providers = c.self.inside.providers.items; contexts = c.self.inside.contexts.items; context_places = c.self.inside.context_places.items; begun = c.self.inside.begun; keys = c.self.inside.keys } in
-    for-objects (objects_of s handle) (λ o. IsStateIssued (call_meaning m c.args.sign.begun o) c.args.sign.begun s.desk c.args.sign.state)
+    let s = signer_view c.self.inside in
+    for-there (objects_of s handle) (λ o. IsStateIssued (call_meaning m c.args.sign.begun o) c.args.sign.begun s.desk c.args.sign.state)
     (IsLive c.args.sign.begun s.desk)
     (subst (λ x. IsIssuedBy m x c.args.sign) (sym c.self.view_is) c.requires)
     (λ o is state.
@@ -34,12 +36,12 @@ cancel_call-requires-clause-live g c =
 pub invariant_of-self : goal.invariant_of-self
 invariant_of-self g c =
     let l = c.cancel_call.ensures.others in
-    let s : SignerState g.row.P.Denot g.row.S.Denot g.row.P-Credential.Denot g.row.P-Ctx.Denot = record { desk = c.self.inside.desk; providers = c.self.inside.providers.items; contexts = c.self.inside.contexts.items; context_places = c.self.inside.context_places.items; begun = c.self.inside.begun; keys = c.self.inside.keys } in
+    let s = signer_view c.self.inside in
     signer-desk s c.self.invariant c.cancel_call.new.desk s.begun l.loaders l.rules l.handles (ap (is_above_all s.begun) l.greatest ∙ c.self.invariant.numbers)
 
 pub returns-clause-others : goal.returns-clause-others
 returns-clause-others g c = λ other apart issued.
     let m = meanings_of g.P.ProvideCredential g.S.SignRequest in
     let handle = c.args.sign.begun.id.handle in
-    let s : SignerState g.row.P.Denot g.row.S.Denot g.row.P-Credential.Denot g.row.P-Ctx.Denot = record { desk = c.self.inside.desk; providers = c.self.inside.providers.items; contexts = c.self.inside.contexts.items; context_places = c.self.inside.context_places.items; begun = c.self.inside.begun; keys = c.self.inside.keys } in
+    let s = signer_view c.self.inside in
     keeps-others m c.args.sign.begun.id s c.cancel_call.new.desk c.cancel_call.ensures.others other apart (subst (λ x. IsIssuedBy m x other) (sym c.self.view_is) issued)

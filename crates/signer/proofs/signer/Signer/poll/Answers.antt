@@ -1,24 +1,28 @@
 use Rattle.std.proofs.Common.{◌≡◌, Option, Some, refl, sym, ◌∙◌, ap, subst}
 use Rattle.sequential_signer.specs.Policy.{policy_of}
 use Rattle.desk_driver.specs.CallAt.{loader_of}
+use Rattle.desk_driver.specs.CallNumbers.{is_above_all}
+use Rattle.desk_driver.proofs.Rows.{for-there, index-is, cache-is}
 use Rattle.signer.specs.Course.{PollOutcome, polled_call, IsDriven, IsPoll}
 use Rattle.signer.specs.IssuedBy.{IsStateIssued, IsIssuedBy}
-use Rattle.signer.specs.SignerInvariant.{SignerState, IsSigner, is_above_all}
+use Rattle.signer.specs.SignerInvariant.{SignerState, IsSigner}
 use Rattle.desk_driver.specs.ProviderList.{loader_for}
-use Rattle.signer.specs.SignerObjects.{Objects, call_meaning, meanings_of, objects_of}
+use Rattle.signer.specs.SignerObjects.{call_meaning, meanings_of, objects_of}
+use Rattle.desk_driver.specs.Objects.{Objects}
+use Rattle.signer.specs.SignerView.{signer_view}
 use Rattle.signer.proofs.CourseOfSteps.{course-represents}
 use Rattle.signer.specs.SignerCalls.{IsAnswerIssuedBy}
 use Rattle.signer.proofs.SignerOthers.{keeps-others, answer-issued}
 use Rattle.signer.proofs.SignerSetup.{signer-desk}
-use Rattle.signer.proofs.SignerObjectsAt.{has-objects, loads-by, serves-by, for-objects, index-is, cache-is}
+use Rattle.signer.proofs.SignerObjectsAt.{has-objects, loads-by, serves-by}
 use Rattle.signer.proofs.signer.Signer.poll.Goals as goal
 
 pub drive-requires-clause-loads : goal.drive-requires-clause-loads
 drive-requires-clause-loads g c =
     let m = meanings_of g.P.ProvideCredential g.S.SignRequest in
     let handle = c.args.sign.begun.id.handle in
-    let s : SignerState g.row.P.Denot g.row.S.Denot g.row.P-Credential.Denot g.row.P-Ctx.Denot = record { desk = c.self.inside.desk; providers = c.self.inside.providers.items; contexts = c.self.inside.contexts.items; context_places = c.self.inside.context_places.items; begun = c.self.inside.begun; keys = c.self.inside.keys } in
-    for-objects (objects_of s handle) (λ o. IsStateIssued (call_meaning m c.args.sign.begun o) c.args.sign.begun s.desk c.args.sign.state)
+    let s = signer_view c.self.inside in
+    for-there (objects_of s handle) (λ o. IsStateIssued (call_meaning m c.args.sign.begun o) c.args.sign.begun s.desk c.args.sign.state)
     (loader_of c.self.inside.desk handle ≡ Some (loader_for c.index.result.now))
     (subst (λ x. IsIssuedBy m x c.args.sign) (sym c.self.view_is) c.requires)
     (λ o is state.
@@ -31,8 +35,8 @@ pub drive-requires-clause-issued : goal.drive-requires-clause-issued
 drive-requires-clause-issued g c = λ service found.
     let m = meanings_of g.P.ProvideCredential g.S.SignRequest in
     let handle = c.args.sign.begun.id.handle in
-    let s : SignerState g.row.P.Denot g.row.S.Denot g.row.P-Credential.Denot g.row.P-Ctx.Denot = record { desk = c.self.inside.desk; providers = c.self.inside.providers.items; contexts = c.self.inside.contexts.items; context_places = c.self.inside.context_places.items; begun = c.self.inside.begun; keys = c.self.inside.keys } in
-    for-objects (objects_of s handle) (λ o. IsStateIssued (call_meaning m c.args.sign.begun o) c.args.sign.begun s.desk c.args.sign.state)
+    let s = signer_view c.self.inside in
+    for-there (objects_of s handle) (λ o. IsStateIssued (call_meaning m c.args.sign.begun o) c.args.sign.begun s.desk c.args.sign.state)
     (IsStateIssued (call_meaning m c.args.sign.begun (let q : Objects g.row.P.Denot g.row.S.Denot g.row.P-Ctx.Denot = record { providers = c.index.result.now; ctx = c.index-2.result.now; service = service } in q)) c.args.sign.begun c.self.inside.desk c.args.sign.state)
     (subst (λ x. IsIssuedBy m x c.args.sign) (sym c.self.view_is) c.requires)
     (λ o is state.
@@ -51,8 +55,8 @@ pub invariant_of-self : goal.invariant_of-self
 invariant_of-self g c =
     let m = meanings_of g.P.ProvideCredential g.S.SignRequest in
     let handle = c.args.sign.begun.id.handle in
-    let s : SignerState g.row.P.Denot g.row.S.Denot g.row.P-Credential.Denot g.row.P-Ctx.Denot = record { desk = c.self.inside.desk; providers = c.self.inside.providers.items; contexts = c.self.inside.contexts.items; context_places = c.self.inside.context_places.items; begun = c.self.inside.begun; keys = c.self.inside.keys } in
-    for-objects (objects_of s handle) (λ o. IsStateIssued (call_meaning m c.args.sign.begun o) c.args.sign.begun s.desk c.args.sign.state)
+    let s = signer_view c.self.inside in
+    for-there (objects_of s handle) (λ o. IsStateIssued (call_meaning m c.args.sign.begun o) c.args.sign.begun s.desk c.args.sign.state)
     (IsSigner (let x : SignerState g.row.P.Denot g.row.S.Denot g.row.P-Credential.Denot g.row.P-Ctx.Denot = record s { desk = c.drive.new.desk } in x))
     (subst (λ x. IsIssuedBy m x c.args.sign) (sym c.self.view_is) c.requires)
     (λ o is state.
@@ -64,7 +68,7 @@ pub returns-clause-poll : goal.returns-clause-poll
 returns-clause-poll g c = λ o is.
     let m = meanings_of g.P.ProvideCredential g.S.SignRequest in
     let handle = c.args.sign.begun.id.handle in
-    let s : SignerState g.row.P.Denot g.row.S.Denot g.row.P-Credential.Denot g.row.P-Ctx.Denot = record { desk = c.self.inside.desk; providers = c.self.inside.providers.items; contexts = c.self.inside.contexts.items; context_places = c.self.inside.context_places.items; begun = c.self.inside.begun; keys = c.self.inside.keys } in
+    let s = signer_view c.self.inside in
     let policy = policy_of g.P.Credential.SigningCredential.valid g.P.Credential.SigningCredential.valid_at g.S.DeadlineRule.deadline in
     let h = has-objects s handle o (ap (λ x. objects_of x handle) c.self.view_is ∙ is) in
     let cache : c.unwrap-cache.result ≡ h.at.cache = cache-is _ h.at c.cache_of.result c.unwrap-cache.result h.handle_is c.cache_of.ensures c.unwrap-cache.ensures in
@@ -85,8 +89,8 @@ pub returns-clause-issued : goal.returns-clause-issued
 returns-clause-issued g c =
     let m = meanings_of g.P.ProvideCredential g.S.SignRequest in
     let handle = c.args.sign.begun.id.handle in
-    let s : SignerState g.row.P.Denot g.row.S.Denot g.row.P-Credential.Denot g.row.P-Ctx.Denot = record { desk = c.self.inside.desk; providers = c.self.inside.providers.items; contexts = c.self.inside.contexts.items; context_places = c.self.inside.context_places.items; begun = c.self.inside.begun; keys = c.self.inside.keys } in
-    for-objects (objects_of s handle) (λ o. IsStateIssued (call_meaning m c.args.sign.begun o) c.args.sign.begun s.desk c.args.sign.state)
+    let s = signer_view c.self.inside in
+    for-there (objects_of s handle) (λ o. IsStateIssued (call_meaning m c.args.sign.begun o) c.args.sign.begun s.desk c.args.sign.state)
     (IsAnswerIssuedBy m (record s { desk = c.drive.new.desk }) c.args.sign.begun.id c.drive.result.answer)
     (subst (λ x. IsIssuedBy m x c.args.sign) (sym c.self.view_is) c.requires)
     (λ o is state.
@@ -106,8 +110,8 @@ pub returns-clause-others : goal.returns-clause-others
 returns-clause-others g c = λ other apart issued.
     let m = meanings_of g.P.ProvideCredential g.S.SignRequest in
     let handle = c.args.sign.begun.id.handle in
-    let s : SignerState g.row.P.Denot g.row.S.Denot g.row.P-Credential.Denot g.row.P-Ctx.Denot = record { desk = c.self.inside.desk; providers = c.self.inside.providers.items; contexts = c.self.inside.contexts.items; context_places = c.self.inside.context_places.items; begun = c.self.inside.begun; keys = c.self.inside.keys } in
-    for-objects (objects_of s handle) (λ o. IsStateIssued (call_meaning m c.args.sign.begun o) c.args.sign.begun s.desk c.args.sign.state)
+    let s = signer_view c.self.inside in
+    for-there (objects_of s handle) (λ o. IsStateIssued (call_meaning m c.args.sign.begun o) c.args.sign.begun s.desk c.args.sign.state)
     (IsIssuedBy m (record s { desk = c.drive.new.desk }) other)
     (subst (λ x. IsIssuedBy m x c.args.sign) (sym c.self.view_is) c.requires)
     (λ o is state.

@@ -4,6 +4,7 @@ use Rattle.sign_request.specs.PlainHead.{IsHeadOf}
 use Rattle.sequential_signer.specs.Policy.{policy_of}
 use Rattle.sequential_signer.specs.declared.event.Event.TheVariants.{Begin}
 use Rattle.sequential_signer.specs.declared.event.Reply.TheVariants.{Begun}
+use Rattle.desk_driver.proofs.CallNumbers.{above-at}
 use Rattle.signer.specs.DeskReplies.{IsBegun}
 use Rattle.sign_desk.specs.Steps.{IsStep}
 use Rattle.signer.specs.SignerCalls.{Begins}
@@ -11,7 +12,7 @@ use Rattle.signer.specs.SignerInvariant.{SignerState}
 use Rattle.signer.specs.SignerObjects.{meanings_of}
 use Rattle.signer.specs.BegunCall.{BegunCall}
 use Rattle.signer.specs.declared.sign.SignState.TheVariants.{Waiting}
-use Rattle.signer.proofs.SignerSetup.{above-at}
+use Rattle.signer.specs.SignerView.{signer_view}
 use Rattle.signer.proofs.SignerBegins.{signer-begun, begins}
 use Rattle.signer.proofs.signer.Signer.sign.Goals as goal
 
@@ -21,7 +22,7 @@ begin_call-requires-clause-above g c = above-at c.self.inside.begun c.self.insid
 pub invariant_of-self-2 : goal.invariant_of-self-2
 invariant_of-self-2 g c =
     let m = meanings_of g.P.ProvideCredential g.S.SignRequest in
-    let s : SignerState g.row.P.Denot g.row.S.Denot g.row.P-Credential.Denot g.row.P-Ctx.Denot = record { desk = c.self.inside.desk; providers = c.self.inside.providers.items; contexts = c.self.inside.contexts.items; context_places = c.self.inside.context_places.items; begun = c.self.inside.begun; keys = c.self.inside.keys } in
+    let s = signer_view c.self.inside in
     let begun : BegunCall = record { id = record { handle = c.args.handle; number = c.self.inside.begun }; head = c.in_ok-head.head; expires_in = c.args.expires_in } in
     signer-begun m s c.self.invariant begun c.begin_call.new.desk c.in_ok-head-2.ensures.begun refl
 
@@ -29,7 +30,7 @@ pub returns-clause-ok : goal.returns-clause-ok
 returns-clause-ok g c =
     let m = meanings_of g.P.ProvideCredential g.S.SignRequest in
     let policy = policy_of g.P.Credential.SigningCredential.valid g.P.Credential.SigningCredential.valid_at g.S.DeadlineRule.deadline in
-    let s : SignerState g.row.P.Denot g.row.S.Denot g.row.P-Credential.Denot g.row.P-Ctx.Denot = record { desk = c.self.inside.desk; providers = c.self.inside.providers.items; contexts = c.self.inside.contexts.items; context_places = c.self.inside.context_places.items; begun = c.self.inside.begun; keys = c.self.inside.keys } in
+    let s = signer_view c.self.inside in
     let desk = c.begin_call.new.desk in
     let begun : BegunCall = record { id = record { handle = c.args.handle; number = c.self.inside.begun }; head = c.in_ok-head-2.head; expires_in = c.args.expires_in } in
     let there : c.args.handle < length s.desk.handles = subst (λ (x : SignerState g.row.P.Denot g.row.S.Denot g.row.P-Credential.Denot g.row.P-Ctx.Denot). c.args.handle < length x.desk.handles) (sym c.self.view_is) c.requires in

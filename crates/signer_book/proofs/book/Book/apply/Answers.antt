@@ -1,6 +1,6 @@
-use Rattle.std.proofs.Common.{rules, ◌≡◌, ◌≤◌, ◌<◌, ◌+◌, ◌++◌, ◌∷◌, [], true, false, ℕ, List, IsTrue, IsSome, length, refl, sym, ◌∙◌, ap, subst, arith, vec_capacity, min, length-append}
+use Rattle.std.proofs.Common.{rules, ◌≡◌, ◌≤◌, ◌<◌, ◌+◌, ◌++◌, ◌∷◌, [], true, false, ℕ, List, IsTrue, IsSome, length, sym, ◌∙◌, ap, subst, arith, vec_capacity, min, length-append}
 use Rattle.sequential_signer.specs.Policy.{policy_of}
-use Rattle.sequential_signer.specs.Transcript.{committed_entries, is_out_of_memory}
+use Rattle.sequential_signer.specs.Transcript.{committed_entries, is_out_of_memory, call_of}
 use Rattle.sequential_signer.specs.declared.event.Entry.{Entry}
 use Rattle.sequential_signer.specs.declared.event.Reply.{Reply}
 use Rattle.sequential_signer.specs.declared.event.Reply.TheVariants.{OutOfMemory}
@@ -13,13 +13,22 @@ use Rattle.sign_desk.specs.ReplyKinds.{is_reply_to}
 use Rattle.signer_book.specs.BookState.{BookState}
 use Rattle.signer_book.specs.declared.pass.Receipt.{Receipt}
 use Rattle.wake_lock.specs.declared.CallId.{CallId}
-use Rattle.sequential_signer.specs.Transcript.{call_of}
 use Rattle.sequential_signer.specs.Legal.{IsLegalEntry}
 use Rattle.sequential_signer.specs.declared.event.Event.{Event}
 use Rattle.desk_parts.specs.LiveCallView.{find_view}
-use Rattle.signer_book.specs.OpenBegins.{is_cancelled, is_open}
+use Rattle.signer_book.specs.OpenBegins.{is_open}
+use Rattle.sequential_signer.specs.Replies.{is_cancelled}
 use Rattle.signer_book.proofs.Applying.{kept-is, live-cancelled, cancel-in_memory}
 use Rattle.signer_book.proofs.book.Book.apply.Goals as goal
+
+pub take_receipt_room-requires : goal.take_receipt_room-requires
+take_receipt_room-requires g c = c.pass.invariant
+
+pub invariant_of-pass : goal.invariant_of-pass
+invariant_of-pass g c = c.take_receipt_room.ensures.before
+
+pub invariant_of-pass-then-is_out_of_memory : goal.invariant_of-pass-then-is_out_of_memory
+invariant_of-pass-then-is_out_of_memory g c = c.take_receipt_room.ensures.before
 
 pub invariant_of-self : goal.invariant_of-self
 invariant_of-self g c = record { represents = rw c.take_entry_room.ensures.items c.self.invariant.represents; room = omega (arith, c.take_entry_room.ensures.before, c.live-live.ensures) }

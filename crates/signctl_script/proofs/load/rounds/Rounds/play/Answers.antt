@@ -22,5 +22,5 @@ returns c = on_ok_weaker c.note_signed.result (λ noted. λ entries r.
     (c.step_owned-reply.ensures.step.represents entries r.represents)
     c.step_owned-reply.ensures.step.setup
     counts in
-    plays-one c.args.self.now new entries c.args.event entry next.0 next.1 (noted c.args.event (sym c.call_of-call.ensures)))
+    plays-one c.args.self.now new entries c.args.event entry next.0 next.1 (noted c.args.event (sym c.call-call.ensures)))
     c.note_signed.ensures

@@ -1,5 +1,6 @@
 -- A line that grows by words at its end.
 use Rattle.std.proofs.Common.{◌≡◌, ℕ, List, [], ◌∷◌, ◌++◌, append_assoc, sym, ap, ◌∙◌}
+use Rattle.std.proofs.lemmas.List.{append-nil}
 use Rattle.std.proofs.lemmas.Grind.{flat_map-append}
 use Rattle.sign_base.specs.Bytes.{newline}
 use Rattle.signctl_format.specs.Bytes.{space}
@@ -16,6 +17,10 @@ more-words old text new word before more so_far end =
     ∙ append_assoc old (word ++ spaced_words before) (spaced_words more)
     ∙ ap (λ (v : List ℕ). old ++ v)
     (append_assoc word (spaced_words before) (spaced_words more) ∙ ap (λ (v : List ℕ). word ++ v) (sym (flat_map-append (λ (w : List ℕ). space ∷ w) before more)))
+
+-- one word after a space is such words
+pub one-word : (text new word : List ℕ) → new ≡ text ++ space ∷ word → new ≡ text ++ spaced_words (word ∷ [])
+one-word text new word end = end ∙ ap (λ (v : List ℕ). text ++ space ∷ v) (sym (append-nil word))
 
 -- a line that is added and ended
 pub line-with_newline : (old mid new line : List ℕ) → mid ≡ old ++ line → new ≡ mid ++ newline ∷ []
