@@ -11,7 +11,8 @@ use Rattle.sequential_signer.specs.declared.event.Loader.TheVariants.{Single, Ch
 use Rattle.sequential_signer.specs.declared.event.Why.TheVariants as why
 use Rattle.desk_parts.specs.Places.{provider_count}
 
-below_true : (a b : ℕ) → nat_lt a b ≡ true → a < b
+-- a test of numbers that says yes
+pub below_true : (a b : ℕ) → nat_lt a b ≡ true → a < b
 below_true a b h = grind (arith, nat_tests)
 
 none_last : {A : Type 0} (xs : List A) → last_of xs ≡ None → length xs ≡ 0

@@ -12,6 +12,7 @@ pub mod queue;
 mod queues;
 mod reads;
 pub mod run_error;
+mod setup;
 pub mod tables;
 
 pub use adding::{AddError, AddRefused};

@@ -1,13 +1,12 @@
 -- A granter's call that loads had fewer answers than there are providers.
-use Rattle.std.proofs.Common.{◌≡◌, ◌<◌, ℕ, ℤ, Bool, true, false, cond, nat_lt, List, [], ◌∷◌, ◌++◌, Option, Some, None, slice_get, length, refl, sym, ◌∙◌, ap, subst, arith}
-use Rattle.std.proofs.lemmas.Bool.Decides.{nat_tests}
+use Rattle.std.proofs.Common.{◌≡◌, ◌<◌, ℕ, ℤ, Bool, true, false, cond, List, [], ◌∷◌, ◌++◌, Option, Some, None, slice_get, length, refl, sym, ◌∙◌, ap, subst}
 use Rattle.wake_lock.specs.declared.CallId.{CallId}
 use Rattle.wake_lock.specs.Calls.{same_call}
-use Rattle.sequential_signer.specs.Lookup.{Outcome, HandOut, Refuse, cache_lookup, check_refreshed}
+use Rattle.sequential_signer.specs.Lookup.{HandOut, Refuse, cache_lookup, check_refreshed}
 use Rattle.sequential_signer.specs.Policy.{Policy}
-use Rattle.sequential_signer.specs.SequentialCall.{Progress, Asking, Over, found_progress, load_progress, call_load, after_lookup}
+use Rattle.sequential_signer.specs.SequentialCall.{Progress, Asking, Over, call_load}
 use Rattle.sequential_signer.specs.Setup.{Setup, cache_of, rule_of}
-use Rattle.sequential_signer.specs.Transcript.{last_of, entries_of}
+use Rattle.sequential_signer.specs.Transcript.{entries_of}
 use Rattle.sequential_signer.specs.Phase.{Phase, Unpolled, phase_of, phase_in, is_loading, is_waiting}
 use Rattle.sequential_signer.specs.Hold.{BeginInput, begin_of, answers_of, input_by}
 use Rattle.sequential_signer.specs.ExpectedReply.{hold_progress}
@@ -15,10 +14,7 @@ use Rattle.sequential_signer.specs.GrantTranscript.{as_signer, grant_call_of, gr
 use Rattle.sequential_signer.specs.GrantSource.{grant_source}
 use Rattle.sequential_signer.specs.ExpectedGrantReply.{grant_progress_reply, look_at, load_by, load_at, fitting_grant_reply, grant_reply_at, expected_grant_reply}
 use Rattle.sequential_signer.specs.declared.event.Answer.{Answer}
-use Rattle.sequential_signer.specs.declared.event.Answer.TheVariants as answered
 use Rattle.sequential_signer.specs.declared.event.Loader.{Loader}
-use Rattle.sequential_signer.specs.declared.event.Loader.TheVariants.{Single, Chain}
-use Rattle.sequential_signer.specs.declared.event.Why.TheVariants as why
 use Rattle.sequential_signer.specs.declared.grant_event.GrantEntry.{GrantEntry}
 use Rattle.sequential_signer.specs.declared.grant_event.GrantEvent.{GrantEvent}
 use Rattle.sequential_signer.specs.declared.grant_event.GrantEvent.TheVariants.{Begin, Poll, Provided, Granted, Cancel}

@@ -1,5 +1,5 @@
 -- What a step relies on, of a granter's desk that represents a transcript.
-use Rattle.std.proofs.Common.{◌≡◌, ◌<◌, ℕ, true, List, Option, Some, None, IsSome, is_some, option_map, slice_get, length, refl, sym, ◌∙◌, ap, subst, IfSome}
+use Rattle.std.proofs.Common.{◌≡◌, ◌<◌, ℕ, true, List, Some, IsSome, is_some, option_map, slice_get, length, refl, sym, ◌∙◌, ap, subst, IfSome}
 use Rattle.wake_lock.specs.declared.CallId.{CallId}
 use Rattle.sequential_signer.specs.Policy.{Policy}
 use Rattle.sequential_signer.specs.Setup.{Handle, cache_of}
@@ -8,7 +8,6 @@ use Rattle.sequential_signer.specs.Hold.{begin_of, answers_of}
 use Rattle.sequential_signer.specs.LiveCall.{greatest_begun}
 use Rattle.sequential_signer.specs.GrantTranscript.{as_signer, committed_grants, grant_phase_of}
 use Rattle.sequential_signer.specs.GrantSource.{grant_source}
-use Rattle.sequential_signer.specs.declared.event.Loader.{Loader}
 use Rattle.sequential_signer.specs.declared.grant_event.GrantEntry.{GrantEntry}
 use Rattle.desk_parts.specs.LiveCallView.{stored_view, find_view}
 use Rattle.desk_parts.specs.Places.{provider_count}

@@ -1,7 +1,6 @@
 -- A granter's desk that represents a transcript represents it with one more entry, where what it keeps
 -- follows the entry.
-use Rattle.std.proofs.Common.{◌≡◌, ◌<◌, ℕ, Bool, true, false, cond, ◌&&◌, ◌||◌, ◌+◌, ◌==◌, List, [], ◌∷◌, ◌++◌, Option, Some, None, is_some, option_map, slice_get, slice_set, length, refl, sym, ◌∙◌, ap, subst, inl, inr, IsTrue, arith}
-use Rattle.std.specs.Option.{IsSomeAnd}
+use Rattle.std.proofs.Common.{◌≡◌, ◌<◌, ℕ, true, false, cond, ◌&&◌, ◌||◌, ◌+◌, ◌==◌, List, [], ◌∷◌, ◌++◌, Option, Some, None, option_map, slice_get, slice_set, length, refl, sym, ◌∙◌, ap, subst, inl, inr, IsTrue, arith}
 use Rattle.wake_lock.specs.declared.CallId.{CallId}
 use Rattle.wake_lock.specs.Calls.{same_call}
 use Rattle.sequential_signer.specs.Policy.{Policy}
@@ -15,7 +14,6 @@ use Rattle.sequential_signer.specs.ExpectedGrantReply.{expected_grant_reply}
 use Rattle.sequential_signer.specs.GrantLegal.{IsLegalGrant, is_grant, grant_allocates}
 use Rattle.sequential_signer.specs.declared.event.Answer.TheVariants.{Found}
 use Rattle.sequential_signer.specs.declared.event.Entry.{Entry}
-use Rattle.sequential_signer.specs.declared.event.Loader.{Loader}
 use Rattle.sequential_signer.specs.declared.grant_event.GrantEntry.{GrantEntry}
 use Rattle.sequential_signer.specs.declared.grant_event.GrantEvent.{GrantEvent}
 use Rattle.sequential_signer.specs.declared.grant_event.GrantEvent.TheVariants.{Provided}

@@ -1,7 +1,6 @@
 -- What is done at a provider's answer to a granter's call is one more entry of the transcript.
 use Rattle.std.proofs.Common.{◌≡◌, ◌<◌, ℕ, ℤ, false, ◌+◌, List, [], ◌∷◌, ◌++◌, Option, Some, None, option_map, slice_get, slice_set, length, refl, sym, ◌∙◌, ap, subst, IsTrue}
 use Rattle.std.specs.Duration.{as_nanos}
-use Rattle.std.specs.Option.{IsSomeAnd}
 use Rattle.std.proofs.lemmas.List.{length-append}
 use Rattle.std.proofs.lemmas.Option.{slice_get_within}
 use Rattle.wake_lock.specs.declared.CallId.{CallId}

@@ -10,9 +10,9 @@
 //! replies by `GrantRepresents`: the desk replies what the definitions expect of the transcript alone.
 ghost use Rattle.std.specs.Prelude.{◌≡◌, ◌<◌, ◌++◌, ◌∷◌, [], List, IsOk, true, not, OnOk, OnErr, IfOk, IfErr, length, option_map, option_and_then, option_copied, slice_get};
 
-use crate::grant_tables::GrantTables;
+use crate::state::State;
 use credentials::{DeadlineRule, SigningCredential};
-use desk_parts::{AddError, AddRefused, HandleRecord, RunError};
+use desk_parts::{AddError, AddRefused, HandleRecord, RunError, Tables};
 use sequential_signer::{GrantEvent, GrantReply, Loader};
 use std::alloc::Global;
 use std::marker::Model;
@@ -20,7 +20,7 @@ use std::marker::Model;
 /// The core of a granter: what is set up, what each cache holds, and the live calls.
 #[derive(Drop)]
 pub struct GrantDesk<K: SigningCredential, D: DeadlineRule<Credential = K>> {
-    tables: GrantTables<K, D>,
+    state: State<K, D>,
 }
 
 impl<K: SigningCredential, D: DeadlineRule<Credential = K>> Model for GrantDesk<K, D> {
@@ -31,9 +31,9 @@ impl<K: SigningCredential, D: DeadlineRule<Credential = K>> Model for GrantDesk<
     ghost use Rattle.sequential_signer.specs.Policy.{policy_of};
     ghost use Rattle.grant_desk.specs.IsGrantDesk.{IsGrantDesk};
 
-    ghost view = { λ desk. desk.tables };
+    ghost view = { λ desk. desk.state };
 
-    ghost invariant = { λ desk. IsGrantDesk (policy_of K.valid K.valid_at D.deadline) desk.tables };
+    ghost invariant = { λ desk. IsGrantDesk (policy_of K.valid K.valid_at D.deadline) desk.state };
 }
 
 impl<K: SigningCredential, D: DeadlineRule<Credential = K>> GrantDesk<K, D> {
@@ -56,7 +56,9 @@ impl<K: SigningCredential, D: DeadlineRule<Credential = K>> GrantDesk<K, D> {
         ensures fresh { GrantRepresents (policy_of K.valid K.valid_at D.deadline) result [] }
     {
         GrantDesk {
-            tables: GrantTables::new(alloc),
+            state: State {
+                tables: Tables::new(alloc),
+            },
         }
     }
 
@@ -72,12 +74,7 @@ impl<K: SigningCredential, D: DeadlineRule<Credential = K>> GrantDesk<K, D> {
         ensures fresh { OnOk result (GrantRepresents (policy_of K.valid K.valid_at D.deadline) self.new []) }
         ensures unchanged { OnErr result (self.new ≡ self.old) }
     {
-        if self.tables.is_started() {
-            return Err(AddError::Late);
-        }
-        let number = self.caches();
-        self.tables.add_cache(loader)?;
-        Ok(number)
+        self.state.tables.add_cache(loader, ())
     }
 
     /// Adds a rule, and returns its number.
@@ -93,20 +90,7 @@ impl<K: SigningCredential, D: DeadlineRule<Credential = K>> GrantDesk<K, D> {
         ensures fresh { OnOk result (GrantRepresents (policy_of K.valid K.valid_at D.deadline) self.new []) }
         ensures unchanged { IfErr result (λ refused. (refused.back ≡ rule) × (self.new ≡ self.old)) }
     {
-        if self.tables.is_started() {
-            return Err(AddRefused {
-                why: AddError::Late,
-                back: rule,
-            });
-        }
-        let number = self.rules();
-        if let Err(back) = self.tables.add_rule(rule) {
-            return Err(AddRefused {
-                why: AddError::OutOfMemory,
-                back,
-            });
-        }
-        Ok(number)
+        self.state.tables.add_rule(rule)
     }
 
     /// Adds a handle on this cache with this rule, and returns its number.
@@ -122,18 +106,7 @@ impl<K: SigningCredential, D: DeadlineRule<Credential = K>> GrantDesk<K, D> {
         ensures fresh { OnOk result (GrantRepresents (policy_of K.valid K.valid_at D.deadline) self.new []) }
         ensures unchanged { OnErr result (self.new ≡ self.old) }
     {
-        if self.tables.is_started() {
-            return Err(AddError::Late);
-        }
-        if cache >= self.caches() {
-            return Err(AddError::NoCache(cache));
-        }
-        if rule >= self.rules() {
-            return Err(AddError::NoRule(rule));
-        }
-        let number = self.handles();
-        self.tables.add_handle(cache, rule)?;
-        Ok(number)
+        self.state.tables.add_handle(cache, rule)
     }
 
     /// Adds a rule, and a handle on this cache with it, and returns the handle's number.
@@ -151,20 +124,7 @@ impl<K: SigningCredential, D: DeadlineRule<Credential = K>> GrantDesk<K, D> {
         ensures fresh { OnOk result (GrantRepresents (policy_of K.valid K.valid_at D.deadline) self.new []) }
         ensures unchanged { IfErr result (λ refused. (refused.back ≡ rule) × (self.new ≡ self.old)) }
     {
-        if self.tables.is_started() {
-            return Err(AddRefused {
-                why: AddError::Late,
-                back: rule,
-            });
-        }
-        let number = self.handles();
-        if let Err(back) = self.tables.add_handle_with_rule(cache, rule) {
-            return Err(AddRefused {
-                why: AddError::OutOfMemory,
-                back,
-            });
-        }
-        Ok(number)
+        self.state.tables.add_handle_with_rule(cache, rule)
     }
 
     /// Adds an empty cache with this loader, and a handle on it with this rule, and returns the handle's
@@ -183,26 +143,21 @@ impl<K: SigningCredential, D: DeadlineRule<Credential = K>> GrantDesk<K, D> {
         ensures fresh { OnOk result (GrantRepresents (policy_of K.valid K.valid_at D.deadline) self.new []) }
         ensures unchanged { OnErr result (self.new ≡ self.old) }
     {
-        if self.tables.is_started() {
-            return Err(AddError::Late);
-        }
-        let number = self.handles();
-        self.tables.add_handle_with_cache(loader, rule)?;
-        Ok(number)
+        self.state.tables.add_handle_with_cache(loader, (), rule)
     }
 
     /// The handle of this number, if there is one.
     pub fn handle_at(&self, handle: u32) -> Option<HandleRecord>
         ensures { option_map handle_view result ≡ slice_get self.now.handles handle }
     {
-        self.tables.handle_at(handle)
+        self.state.tables.handle_at(handle)
     }
 
     /// The credential that the cache holds, if there is such a cache and it holds one.
     pub fn cached(&self, cache: u32) -> Option<&K>
         ensures { option_copied result ≡ option_and_then (λ held. held) (slice_get self.now.caches cache) }
     {
-        self.tables.cached(cache)
+        self.state.tables.cached(cache)
     }
 
     /// The rule of the handle, if there is such a handle.
@@ -210,14 +165,14 @@ impl<K: SigningCredential, D: DeadlineRule<Credential = K>> GrantDesk<K, D> {
         ensures { option_copied result
             ≡ option_and_then (λ h. slice_get self.now.rules h.rule) (slice_get self.now.handles handle) }
     {
-        self.tables.rule_of(handle)
+        self.state.tables.rule_of(handle)
     }
 
     /// The cache of the handle, if there is such a handle.
     pub fn cache_of(&self, handle: u32) -> Option<u32>
         ensures { result ≡ option_map (λ h. h.cache) (slice_get self.now.handles handle) }
     {
-        let found = self.tables.handle_at(handle)?;
+        let found = self.state.tables.handle_at(handle)?;
         Some(found.cache)
     }
 
@@ -225,28 +180,28 @@ impl<K: SigningCredential, D: DeadlineRule<Credential = K>> GrantDesk<K, D> {
     pub fn caches(&self) -> u32
         ensures { result ≡ length self.now.loaders }
     {
-        self.tables.cache_count() as u32
+        self.state.tables.cache_count() as u32
     }
 
     /// The number of rules.
     pub fn rules(&self) -> u32
         ensures { result ≡ length self.now.rules }
     {
-        self.tables.rule_count() as u32
+        self.state.tables.rule_count() as u32
     }
 
     /// The number of handles.
     pub fn handles(&self) -> u32
         ensures { result ≡ length self.now.handles }
     {
-        self.tables.handle_count() as u32
+        self.state.tables.handle_count() as u32
     }
 
     /// The number of calls that were begun and are not over.
     pub fn live(&self) -> usize
         ensures { result ≡ length self.now.calls }
     {
-        self.tables.live_count()
+        self.state.tables.live_count()
     }
 
     /// Whether no call was begun. Such a desk represents the empty transcript.
@@ -258,7 +213,7 @@ impl<K: SigningCredential, D: DeadlineRule<Credential = K>> GrantDesk<K, D> {
             → GrantRepresents (policy_of K.valid K.valid_at D.deadline) self.now entries
             → result ≡ not (was_begun (as_signer (committed_grants entries))) }
     {
-        !self.tables.is_started()
+        !self.state.tables.is_started()
     }
 
     /// One event, applied whole: whatever transcript the desk represents, it then represents that
@@ -276,7 +231,7 @@ impl<K: SigningCredential, D: DeadlineRule<Credential = K>> GrantDesk<K, D> {
         ensures memory { ClonesAreFree K.clones_freely → RunsOutAtBegins event.now result }
         ensures sound { GrantPrecondition self.old }
     {
-        self.tables.step(event)
+        self.state.step(event)
     }
 
     /// Takes the events one after another, each by a `step`, and returns their replies.
@@ -297,9 +252,9 @@ impl<K: SigningCredential, D: DeadlineRule<Credential = K>> GrantDesk<K, D> {
         ensures none { events.now ≡ [] → IsOk result }
     {
         if events.is_empty() {
-            return Ok(Vec::new(self.tables.alloc()));
+            return Ok(Vec::new(self.state.tables.alloc()));
         }
-        let mut replies = Vec::with_capacity(self.tables.alloc(), events.len())?;
+        let mut replies = Vec::with_capacity(self.state.tables.alloc(), events.len())?;
         for event in events {
             let reply = self.step(event);
             replies.push_reserved(reply);

@@ -1,14 +1,14 @@
 //! The granter's answer: what it made is given where it is valid at that moment, and is never cached.
 ghost use Rattle.std.specs.Prelude.{◌≡◌, ◌≢◌};
 
-use crate::grant_tables::GrantTables;
+use crate::state::State;
 use credentials::{DeadlineRule, SigningCredential};
 use desk_parts::Stage;
 use sequential_signer::{GrantReply, GrantWhy, Made};
 use sign_base::Timestamp;
 use wake_lock::CallId;
 
-impl<K: SigningCredential, D: DeadlineRule<Credential = K>> GrantTables<K, D> {
+impl<K: SigningCredential, D: DeadlineRule<Credential = K>> State<K, D> {
     ghost use Rattle.sequential_signer.specs.Policy.{policy_of};
     ghost use Rattle.sequential_signer.specs.declared.grant_event.GrantEvent.TheVariants.{Granted};
     ghost use Rattle.sequential_signer.specs.declared.grant_event.GrantReply.TheVariants.{OutOfMemory};

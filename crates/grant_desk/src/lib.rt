@@ -3,11 +3,11 @@
 #![tactic(auto)]
 
 mod desk;
-mod grant_tables;
 mod granted;
 mod load;
 mod poll;
 mod replies;
+mod state;
 mod step;
 
 pub use desk::GrantDesk;

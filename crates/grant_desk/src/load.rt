@@ -1,15 +1,15 @@
 //! The load of a call: what each answer of a provider does.
 ghost use Rattle.std.specs.Prelude.{◌≡◌, ◌≢◌, ◌<◌, IsSome, length, slice_get};
 
-use crate::grant_tables::GrantTables;
 use crate::replies::as_grant_why;
+use crate::state::State;
 use credentials::{DeadlineRule, SigningCredential};
 use desk_parts::{LiveCallView, Stage};
 use sequential_signer::{Answer, GrantReply, GrantWhy, Loader, Why};
 use sign_base::Timestamp;
 use wake_lock::CallId;
 
-impl<K: SigningCredential, D: DeadlineRule<Credential = K>> GrantTables<K, D> {
+impl<K: SigningCredential, D: DeadlineRule<Credential = K>> State<K, D> {
     ghost use Rattle.sequential_signer.specs.Policy.{policy_of};
     ghost use Rattle.sequential_signer.specs.declared.event.Answer.TheVariants.{Found};
     ghost use Rattle.sequential_signer.specs.declared.grant_event.GrantEvent.TheVariants.{Provided};

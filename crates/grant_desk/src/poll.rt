@@ -1,15 +1,15 @@
 //! The polls of a call: one that has not looked at its cache looks, whatever other calls do.
 ghost use Rattle.std.specs.Prelude.{◌≡◌, ◌≢◌};
 
-use crate::grant_tables::GrantTables;
 use crate::replies::as_grant_why;
+use crate::state::State;
 use credentials::{DeadlineRule, SigningCredential};
 use desk_parts::{LiveCallView, Lookup, Stage};
 use sequential_signer::GrantReply;
 use sign_base::Timestamp;
 use wake_lock::CallId;
 
-impl<K: SigningCredential, D: DeadlineRule<Credential = K>> GrantTables<K, D> {
+impl<K: SigningCredential, D: DeadlineRule<Credential = K>> State<K, D> {
     ghost use Rattle.sequential_signer.specs.Policy.{policy_of};
     ghost use Rattle.sequential_signer.specs.declared.grant_event.GrantEvent.TheVariants.{Poll};
     ghost use Rattle.sequential_signer.specs.declared.grant_event.GrantReply.TheVariants.{OutOfMemory};

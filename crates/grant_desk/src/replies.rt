@@ -2,13 +2,13 @@
 ghost use Rattle.std.specs.Prelude.{◌≡◌, IsSome};
 ghost use Rattle.sequential_signer.specs.ExpectedGrantReply.{grant_why};
 
-use crate::grant_tables::GrantTables;
+use crate::state::State;
 use credentials::{DeadlineRule, SigningCredential};
 use desk_parts::{LiveCallView, Stage};
 use sequential_signer::{GrantReply, GrantWhy, Why};
 use wake_lock::CallId;
 
-impl<K: SigningCredential, D: DeadlineRule<Credential = K>> GrantTables<K, D> {
+impl<K: SigningCredential, D: DeadlineRule<Credential = K>> State<K, D> {
     ghost use Rattle.sequential_signer.specs.declared.grant_event.GrantReply.TheVariants.{Ask, Grant, Refused};
     ghost use Rattle.desk_parts.specs.Tables.{find_call};
     ghost use Rattle.desk_parts.specs.Action.{TakesEffect, live_effect, end_effect};

@@ -2,14 +2,14 @@
 //! taken before anything changes.
 ghost use Rattle.std.specs.Prelude.{◌≡◌, ◌≢◌};
 
-use crate::grant_tables::GrantTables;
+use crate::state::State;
 use credentials::{DeadlineRule, SigningCredential};
 use desk_parts::{CallRecord, Stage};
 use sequential_signer::{GrantEvent, GrantReply};
 use std::time::Duration;
 use wake_lock::CallId;
 
-impl<K: SigningCredential, D: DeadlineRule<Credential = K>> GrantTables<K, D> {
+impl<K: SigningCredential, D: DeadlineRule<Credential = K>> State<K, D> {
     ghost use Rattle.sequential_signer.specs.Policy.{policy_of};
     ghost use Rattle.sequential_signer.specs.declared.grant_event.GrantEvent.TheVariants.{Begin, Cancel};
     ghost use Rattle.sequential_signer.specs.declared.grant_event.GrantReply.TheVariants.{OutOfMemory};

@@ -1,5 +1,5 @@
 -- What a desk replies, by its cause.
-use Rattle.std.proofs.Common.{None, refl, inl, inr}
+use Rattle.std.proofs.Common.{refl, inl, inr}
 use Rattle.sequential_signer.specs.Policy.{Policy}
 use Rattle.wake_lock.specs.declared.CallId.{CallId}
 use Rattle.sequential_signer.specs.Transcript.{call_of}

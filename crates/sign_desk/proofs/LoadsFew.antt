@@ -1,28 +1,23 @@
 -- A call that loads had fewer answers than there are providers.
-use Rattle.std.proofs.Common.{◌≡◌, ℕ, ℤ, Bool, true, false, cond, ◌||◌, ◌<◌, nat_lt, List, [], ◌∷◌, ◌++◌, Option, Some, None, slice_get, length, refl, sym, ◌∙◌, ap, subst, arith}
+use Rattle.std.proofs.Common.{◌≡◌, ℕ, ℤ, Bool, true, false, cond, ◌||◌, ◌<◌, List, [], ◌∷◌, ◌++◌, Option, Some, None, slice_get, length, refl, sym, ◌∙◌, ap, subst}
 use Rattle.std.specs.List.{list_any}
-use Rattle.std.proofs.lemmas.Bool.Decides.{nat_tests}
 use Rattle.wake_lock.specs.declared.CallId.{CallId}
 use Rattle.sequential_signer.specs.Policy.{Policy}
-use Rattle.sequential_signer.specs.Lookup.{Outcome, HandOut, Refuse, cache_lookup, check_refreshed}
-use Rattle.sequential_signer.specs.SequentialCall.{HoldInput, Asking, Over, sequential_call, found_progress, load_progress, after_lookup}
+use Rattle.sequential_signer.specs.Lookup.{HandOut, Refuse, cache_lookup, check_refreshed}
+use Rattle.sequential_signer.specs.SequentialCall.{HoldInput, Asking, Over, sequential_call}
 use Rattle.sequential_signer.specs.Setup.{Setup, cache_of, rule_of}
 use Rattle.wake_lock.specs.Calls.{same_call}
-use Rattle.sequential_signer.specs.Transcript.{call_of, entries_of, last_of}
+use Rattle.sequential_signer.specs.Transcript.{call_of, entries_of}
 use Rattle.sequential_signer.specs.Phase.{Phase, Unknown, Unpolled, Queued, Loading, Signing, Ended, phase_of, is_waiting, is_loading, is_waiting_poll, is_mark, phase_by, phase_in}
 use Rattle.sequential_signer.specs.Hold.{BeginInput, begin_of, answers_of, answers_in, turn_moment, input_by}
 use Rattle.sequential_signer.specs.SequentialCache.{sequential_cache}
 use Rattle.sequential_signer.specs.declared.event.Answer.{Answer}
-use Rattle.sequential_signer.specs.declared.event.Answer.TheVariants.{Found, Missing, Failed}
 use Rattle.sequential_signer.specs.declared.event.Entry.{Entry}
 use Rattle.sequential_signer.specs.declared.event.Event.{Event}
 use Rattle.sequential_signer.specs.declared.event.Event.TheVariants.{Begin, Poll, Provided}
 use Rattle.sequential_signer.specs.declared.event.Loader.{Loader}
-use Rattle.sequential_signer.specs.declared.event.Loader.TheVariants.{Single, Chain}
 use Rattle.sequential_signer.specs.declared.event.Reply.{Reply}
 use Rattle.sequential_signer.specs.declared.event.Reply.TheVariants.{Begun, Pending, NotNow, Ask, Sign, Refused}
-use Rattle.sequential_signer.specs.declared.event.Why.TheVariants as why
-use Rattle.sequential_signer.proofs.Lists.{last_of-more}
 use Rattle.wake_lock.proofs.Calls.{same_call-eq}
 use Rattle.sequential_signer.proofs.OwnEntries.{entries_of-own, answers_in-more, to_queued}
 use Rattle.sequential_signer.proofs.Run.{IsRun}

@@ -1,24 +1,24 @@
 -- What is previewed is the reply of a step: there is a desk that the step would leave.
-use Rattle.std.proofs.Common.{◌≡◌, ℕ, ℤ, ◌+◌, ◌≤◌, Bool, true, false, cond, not, ◌&&◌, ◌||◌, List, [], ◌∷◌, ◌++◌, Option, Some, None, is_some, option_map, slice_get, length, filter, refl, sym, ◌∙◌, ap, subst, inl, inr, arith}
+use Rattle.std.proofs.Common.{◌≡◌, ℕ, ◌+◌, ◌≤◌, Bool, true, false, cond, not, ◌&&◌, ◌||◌, List, [], ◌∷◌, ◌++◌, Option, Some, None, is_some, option_map, length, filter, refl, sym, ◌∙◌, ap, subst, inl, inr, arith}
 use Rattle.std.specs.List.{list_any}
 use Rattle.wake_lock.specs.declared.CallId.{CallId}
-use Rattle.wake_lock.specs.Calls.{same_call, is_first, IsOnce}
+use Rattle.wake_lock.specs.Calls.{same_call, IsOnce}
 use Rattle.wake_lock.proofs.Calls.{same_call-eq, same_call-refl, same_call-comm, once-filter}
-use Rattle.wake_lock.proofs.Truth.{and_left, and_right, or_left, or_right}
+use Rattle.wake_lock.proofs.Truth.{and_left, and_right}
 use Rattle.sequential_signer.specs.Policy.{Policy}
 use Rattle.sequential_signer.specs.Lookup.{HandOut, Refuse}
 use Rattle.sequential_signer.specs.SequentialCall.{Progress, Asking, Over}
-use Rattle.sequential_signer.specs.Setup.{Setup, Handle, cache_of}
+use Rattle.sequential_signer.specs.Setup.{Setup, cache_of}
 use Rattle.sequential_signer.specs.Transcript.{committed_entries, call_of}
 use Rattle.sequential_signer.specs.Phase.{Phase, Unknown, Unpolled, Queued, Loading, Signing, Ended, phase_of, is_live, is_begun}
 use Rattle.sequential_signer.specs.Hold.{BeginInput, begin_of, answers_of}
 use Rattle.sequential_signer.specs.Legal.{IsLegalEntry}
-use Rattle.sequential_signer.specs.LiveCall.{LiveCall, live_call, live_by, live_calls, begun_calls}
+use Rattle.sequential_signer.specs.LiveCall.{live_call, live_by, live_calls, begun_calls}
 use Rattle.sequential_signer.specs.declared.event.Entry.{Entry}
 use Rattle.sequential_signer.specs.declared.event.Event.{Event}
-use Rattle.sequential_signer.specs.declared.event.Event.TheVariants.{Begin, Poll, Provided, Signed, Cancel}
+use Rattle.sequential_signer.specs.declared.event.Event.TheVariants.{Begin, Poll, Provided}
 use Rattle.sequential_signer.specs.declared.event.Reply.{Reply}
-use Rattle.sequential_signer.specs.declared.event.Reply.TheVariants.{Begun, Pending, NotNow, OutOfMemory}
+use Rattle.sequential_signer.specs.declared.event.Reply.TheVariants.{Begun, Pending, NotNow}
 use Rattle.sequential_signer.specs.ExpectedReply.{progress_reply, with_wake}
 use Rattle.sequential_signer.proofs.Lists.{list_any-more, or_true, not_true}
 use Rattle.sequential_signer.proofs.LegalStep.{LegalStep, not_now, begins, waits, pending, looks, takes_effect, accepts, fails, cancels}
@@ -35,9 +35,8 @@ use Rattle.sign_desk.specs.Action.{Action, Performs}
 use Rattle.sign_desk.specs.DeskState.{DeskState, live_view, Represents}
 use Rattle.sign_desk.specs.Previews.{Previews}
 use Rattle.sign_desk.specs.Records.{CallRecord}
-use Rattle.sign_desk.specs.Transition.{action_of, Transition}
+use Rattle.sign_desk.specs.Transition.{action_of}
 use Rattle.sign_desk.proofs.Actions.{IsPlain, action-plain}
-use Rattle.sign_desk.proofs.Refine.{Refines}
 use Rattle.sign_desk.proofs.RefineStep.{refines-step, entry-legal}
 
 -- the records of the other calls

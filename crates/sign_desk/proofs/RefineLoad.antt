@@ -1,7 +1,6 @@
 -- What is done at a provider's answer is one more entry of the transcript.
-use Rattle.std.proofs.Common.{◌≡◌, ℕ, ℤ, Bool, true, false, cond, ◌||◌, ◌+◌, ◌<◌, nat_lt, List, [], ◌∷◌, ◌++◌, Option, Some, None, option_map, slice_get, slice_set, length, refl, sym, ◌∙◌, ap, subst, inl}
+use Rattle.std.proofs.Common.{◌≡◌, ℕ, ℤ, Bool, true, false, cond, ◌||◌, ◌+◌, nat_lt, List, [], ◌∷◌, ◌++◌, Option, Some, None, option_map, slice_get, slice_set, length, refl, sym, ◌∙◌, ap, subst, inl}
 use Rattle.std.specs.List.{list_any}
-use Rattle.std.specs.Option.{IsSomeAnd}
 use Rattle.std.specs.Duration.{as_nanos}
 use Rattle.std.proofs.lemmas.List.{length-append}
 use Rattle.std.proofs.lemmas.Option.{slice_get_within}
@@ -9,7 +8,7 @@ use Rattle.wake_lock.specs.declared.CallId.{CallId}
 use Rattle.sequential_signer.specs.Policy.{Policy}
 use Rattle.sequential_signer.specs.Lookup.{Outcome, HandOut, Refuse, cache_lookup, check_refreshed}
 use Rattle.sequential_signer.specs.SequentialCall.{HoldInput, Progress, Asking, Over, found_progress, load_progress, sequential_call}
-use Rattle.sequential_signer.specs.Setup.{Setup, Handle, cache_of, rule_of}
+use Rattle.sequential_signer.specs.Setup.{Setup, Handle, rule_of}
 use Rattle.sequential_signer.specs.Transcript.{committed_entries, entries_of}
 use Rattle.sequential_signer.specs.Phase.{Loading, phase_of, is_loading, is_waiting_poll, is_mark, is_not_now, phase_by}
 use Rattle.sequential_signer.specs.Turn.{poll_order}

@@ -14,7 +14,7 @@ ghost use Rattle.std.specs.Prelude.{◌≡◌, ◌<◌, ◌++◌, ◌∷◌, [],
 
 use crate::state::State;
 use credentials::{DeadlineRule, SigningCredential};
-use desk_parts::{AddError, AddRefused, HandleRecord, RunError, Stage};
+use desk_parts::{AddError, AddRefused, CallQueue, HandleRecord, RunError, Stage, Tables};
 use sequential_signer::{Event, Loader, Reply};
 use std::alloc::Global;
 use std::marker::Model;
@@ -65,7 +65,9 @@ impl<K: SigningCredential, D: DeadlineRule<Credential = K>> Desk<K, D> {
         ensures fresh { Represents (policy_of K.valid K.valid_at D.deadline) result [] }
     {
         Desk {
-            state: State::new(alloc),
+            state: State {
+                tables: Tables::new(alloc),
+            },
         }
     }
 
@@ -81,12 +83,8 @@ impl<K: SigningCredential, D: DeadlineRule<Credential = K>> Desk<K, D> {
         ensures fresh { OnOk result (Represents (policy_of K.valid K.valid_at D.deadline) self.new []) }
         ensures unchanged { OnErr result (self.new ≡ self.old) }
     {
-        if self.state.is_started() {
-            return Err(AddError::Late);
-        }
-        let number = self.caches();
-        self.state.add_cache(loader)?;
-        Ok(number)
+        let queue = CallQueue::new(self.state.tables.alloc());
+        self.state.tables.add_cache(loader, queue)
     }
 
     /// Adds a rule, and returns its number.
@@ -102,20 +100,7 @@ impl<K: SigningCredential, D: DeadlineRule<Credential = K>> Desk<K, D> {
         ensures fresh { OnOk result (Represents (policy_of K.valid K.valid_at D.deadline) self.new []) }
         ensures unchanged { IfErr result (λ refused. (refused.back ≡ rule) × (self.new ≡ self.old)) }
     {
-        if self.state.is_started() {
-            return Err(AddRefused {
-                why: AddError::Late,
-                back: rule,
-            });
-        }
-        let number = self.rules();
-        if let Err(back) = self.state.add_rule(rule) {
-            return Err(AddRefused {
-                why: AddError::OutOfMemory,
-                back,
-            });
-        }
-        Ok(number)
+        self.state.tables.add_rule(rule)
     }
 
     /// Adds a handle on this cache with this rule, and returns its number.
@@ -131,18 +116,7 @@ impl<K: SigningCredential, D: DeadlineRule<Credential = K>> Desk<K, D> {
         ensures fresh { OnOk result (Represents (policy_of K.valid K.valid_at D.deadline) self.new []) }
         ensures unchanged { OnErr result (self.new ≡ self.old) }
     {
-        if self.state.is_started() {
-            return Err(AddError::Late);
-        }
-        if cache >= self.caches() {
-            return Err(AddError::NoCache(cache));
-        }
-        if rule >= self.rules() {
-            return Err(AddError::NoRule(rule));
-        }
-        let number = self.handles();
-        self.state.add_handle(cache, rule)?;
-        Ok(number)
+        self.state.tables.add_handle(cache, rule)
     }
 
     /// Adds a rule, and a handle on this cache with it, and returns the handle's number.
@@ -160,20 +134,7 @@ impl<K: SigningCredential, D: DeadlineRule<Credential = K>> Desk<K, D> {
         ensures fresh { OnOk result (Represents (policy_of K.valid K.valid_at D.deadline) self.new []) }
         ensures unchanged { IfErr result (λ refused. (refused.back ≡ rule) × (self.new ≡ self.old)) }
     {
-        if self.state.is_started() {
-            return Err(AddRefused {
-                why: AddError::Late,
-                back: rule,
-            });
-        }
-        let number = self.handles();
-        if let Err(back) = self.state.add_handle_with_rule(cache, rule) {
-            return Err(AddRefused {
-                why: AddError::OutOfMemory,
-                back,
-            });
-        }
-        Ok(number)
+        self.state.tables.add_handle_with_rule(cache, rule)
     }
 
     /// Adds an empty cache with this loader, and a handle on it with this rule, and returns the handle's
@@ -192,12 +153,8 @@ impl<K: SigningCredential, D: DeadlineRule<Credential = K>> Desk<K, D> {
         ensures fresh { OnOk result (Represents (policy_of K.valid K.valid_at D.deadline) self.new []) }
         ensures unchanged { OnErr result (self.new ≡ self.old) }
     {
-        if self.state.is_started() {
-            return Err(AddError::Late);
-        }
-        let number = self.handles();
-        self.state.add_handle_with_cache(loader, rule)?;
-        Ok(number)
+        let queue = CallQueue::new(self.state.tables.alloc());
+        self.state.tables.add_handle_with_cache(loader, queue, rule)
     }
 
     /// The handle of this number, if there is one.
@@ -281,7 +238,7 @@ impl<K: SigningCredential, D: DeadlineRule<Credential = K>> Desk<K, D> {
             → Represents (policy_of K.valid K.valid_at D.deadline) self.now entries
             → result ≡ not (was_begun (committed_entries entries)) }
     {
-        !self.state.is_started()
+        !self.state.tables.is_started()
     }
 
     /// One event, applied whole: whatever transcript the desk represents, it then represents that

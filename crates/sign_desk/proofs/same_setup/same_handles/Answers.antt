@@ -1,5 +1,5 @@
 -- Handles are the same where what contracts see of them is.
-use Rattle.std.proofs.Common.{◌≡◌, ◌≢◌, ℕ, Bool, true, false, MatchBool, List, [], ◌∷◌, map, refl, ap}
+use Rattle.std.proofs.Common.{◌≡◌, ◌≢◌, Bool, true, false, MatchBool, List, [], ◌∷◌, map, refl, ap}
 use Rattle.sequential_signer.specs.Setup.{Handle}
 use Rattle.desk_parts.specs.TablesView.{handle_view}
 use Rattle.desk_parts.specs.declared.tables.HandleRecord.{HandleRecord}

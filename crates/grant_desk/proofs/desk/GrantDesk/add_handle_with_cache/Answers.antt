@@ -1,24 +1,32 @@
-use Rattle.std.proofs.Common.{◌≡◌, ◌∙◌, ◌<◌, ◌++◌, ◌∷◌, sym, arith, false, [], length, length-append}
+use Rattle.std.proofs.Common.{◌<◌, ◌∷◌, [], length, length-append, arith}
 use Rattle.sequential_signer.specs.Policy.{policy_of}
-use Rattle.grant_desk.specs.GrantDeskState.{GrantRepresents, with_source}
-use Rattle.grant_desk.proofs.GrantEmpty.{grant_represents-with_source, grant_represents-with_handle}
+use Rattle.desk_parts.specs.Adding.{with_cache, with_handle}
+use Rattle.desk_parts.proofs.AddAnswers.{unbegun-where_added, good-after, good-where_added}
+use Rattle.grant_desk.specs.GrantDeskState.{GrantRepresents}
+use Rattle.grant_desk.specs.IsGrantDesk.{IsGrantDesk}
 use Rattle.grant_desk.proofs.GrantDeskInvariant.{grant_desk-with_source, grant_desk-with_handle, grant_not_started}
+use Rattle.grant_desk.proofs.GrantEmpty.{grant_represents-with_source, grant_represents-with_handle}
 use Rattle.grant_desk.proofs.desk.GrantDesk.add_handle_with_cache.Goals as goal
 
-pub invariant_of-self-2 : goal.invariant_of-self-2
-invariant_of-self-2 g c =
+pub invariant_of-self : goal.invariant_of-self
+invariant_of-self g c =
     let policy = policy_of g.K.SigningCredential.valid g.K.SigningCredential.valid_at g.D.DeadlineRule.deadline in
-    let s = c.self.inside.tables in
-    let unbegun : c.self.inside.tables.started ≡ false = sym c.is_started.ensures ∙ c.if-is_started.false in
-    let cached = grant_desk-with_source policy s c.self.invariant unbegun c.args.loader (rw c.self.view_is c.requires.caches) in
-    let last : length s.loaders < length (s.loaders ++ c.args.loader ∷ []) = omega (arith, length-append s.loaders (c.args.loader ∷ [])) in
-    rw c.in_ok-add_handle_with_cache.ensures.added
-    (grant_desk-with_handle policy (with_source c.args.loader s) cached unbegun (length s.loaders) c.args.rule (rw c.self.view_is c.requires.handles) last (rw c.self.view_is c.requires.rule))
+    let s = c.self-inside.inside.0.0.tables in
+    let stood : IsGrantDesk policy s = rw (← c.self-inside.view_is) at c.self.invariant in
+    let cached = with_cache c.args.loader tt s in
+    let last : length s.loaders < length cached.loaders = omega (arith, length-append s.loaders (c.args.loader ∷ [])) in
+    good-after (IsGrantDesk policy) s (with_handle (length s.loaders) c.args.rule cached) c.add_handle_with_cache.new.self c.add_handle_with_cache.result
+    (unbegun-where_added s (length s.handles) c.add_handle_with_cache.result c.add_handle_with_cache.ensures.answer)
+    (λ h. grant_desk-with_handle policy cached ((grant_desk-with_source policy s stood h c.args.loader (rw (← c.self.view_is, ← c.self-inside.view_is) at c.requires.caches))) h (length s.loaders) c.args.rule (rw (← c.self.view_is, ← c.self-inside.view_is) at c.requires.handles) last (rw (← c.self.view_is, ← c.self-inside.view_is) at c.requires.rule))
+    stood c.add_handle_with_cache.ensures.added c.add_handle_with_cache.ensures.unchanged
 
 pub returns-clause-fresh : goal.returns-clause-fresh
 returns-clause-fresh g c =
     let policy = policy_of g.K.SigningCredential.valid g.K.SigningCredential.valid_at g.D.DeadlineRule.deadline in
-    let s = c.self.inside.tables in
-    let unbegun : c.self.inside.tables.started ≡ false = sym c.is_started.ensures ∙ c.if-is_started.false in
-    let stood : GrantRepresents policy s [] = grant_not_started policy s c.self.invariant unbegun in
-    rw c.in_ok-add_handle_with_cache.ensures.added (grant_represents-with_handle policy (with_source c.args.loader s) (grant_represents-with_source policy s stood c.args.loader) (length s.loaders) c.args.rule)
+    let s = c.self-inside.inside.0.0.tables in
+    let stood : IsGrantDesk policy s = rw (← c.self-inside.view_is) at c.self.invariant in
+    let cached = with_cache c.args.loader tt s in
+    good-where_added (λ k. GrantRepresents policy k []) s (with_handle (length s.loaders) c.args.rule cached) c.add_handle_with_cache.new.self c.add_handle_with_cache.result
+    (unbegun-where_added s (length s.handles) c.add_handle_with_cache.result c.add_handle_with_cache.ensures.answer)
+    (λ h. grant_represents-with_handle policy cached ((grant_represents-with_source policy s (grant_not_started policy s stood h) c.args.loader)) (length s.loaders) c.args.rule)
+    c.add_handle_with_cache.ensures.added

@@ -1,21 +1,29 @@
-use Rattle.std.proofs.Common.{◌≡◌, ◌∙◌, sym, false, []}
+use Rattle.std.proofs.Common.{length, []}
 use Rattle.sequential_signer.specs.Policy.{policy_of}
+use Rattle.desk_parts.specs.Adding.{with_rule}
+use Rattle.desk_parts.proofs.AddAnswers.{on_err-second, unbegun-where_kept, good-after, good-where_added}
 use Rattle.grant_desk.specs.GrantDeskState.{GrantRepresents}
-use Rattle.grant_desk.proofs.GrantEmpty.{grant_represents-with_rule}
+use Rattle.grant_desk.specs.IsGrantDesk.{IsGrantDesk}
 use Rattle.grant_desk.proofs.GrantDeskInvariant.{grant_desk-with_rule, grant_not_started}
+use Rattle.grant_desk.proofs.GrantEmpty.{grant_represents-with_rule}
 use Rattle.grant_desk.proofs.desk.GrantDesk.add_rule.Goals as goal
 
-pub invariant_of-self-2 : goal.invariant_of-self-2
-invariant_of-self-2 g c =
+pub invariant_of-self : goal.invariant_of-self
+invariant_of-self g c =
     let policy = policy_of g.K.SigningCredential.valid g.K.SigningCredential.valid_at g.D.DeadlineRule.deadline in
-    let s = c.self.inside.tables in
-    let unbegun : c.self.inside.tables.started ≡ false = sym c.is_started.ensures ∙ c.if-is_started.false in
-    rw c.in_default.ensures.added (grant_desk-with_rule policy s c.self.invariant unbegun c.args.rule (rw c.self.view_is c.requires))
+    let s = c.self-inside.inside.0.0.tables in
+    let stood : IsGrantDesk policy s = rw (← c.self-inside.view_is) at c.self.invariant in
+    good-after (IsGrantDesk policy) s (with_rule c.args.rule s) c.add_rule.new.self c.add_rule.result
+    (unbegun-where_kept s (length s.rules) c.add_rule.result c.add_rule.ensures.answer)
+    (λ h. grant_desk-with_rule policy s stood h c.args.rule (rw (← c.self.view_is, ← c.self-inside.view_is) at c.requires))
+    stood c.add_rule.ensures.added (on_err-second _ _ c.add_rule.result c.add_rule.ensures.unchanged)
 
 pub returns-clause-fresh : goal.returns-clause-fresh
 returns-clause-fresh g c =
     let policy = policy_of g.K.SigningCredential.valid g.K.SigningCredential.valid_at g.D.DeadlineRule.deadline in
-    let s = c.self.inside.tables in
-    let unbegun : c.self.inside.tables.started ≡ false = sym c.is_started.ensures ∙ c.if-is_started.false in
-    let stood : GrantRepresents policy s [] = grant_not_started policy s c.self.invariant unbegun in
-    rw c.in_default.ensures.added (grant_represents-with_rule policy s stood c.args.rule)
+    let s = c.self-inside.inside.0.0.tables in
+    let stood : IsGrantDesk policy s = rw (← c.self-inside.view_is) at c.self.invariant in
+    good-where_added (λ k. GrantRepresents policy k []) s (with_rule c.args.rule s) c.add_rule.new.self c.add_rule.result
+    (unbegun-where_kept s (length s.rules) c.add_rule.result c.add_rule.ensures.answer)
+    (λ h. grant_represents-with_rule policy s (grant_not_started policy s stood h) c.args.rule)
+    c.add_rule.ensures.added

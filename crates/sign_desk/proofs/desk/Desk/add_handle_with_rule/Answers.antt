@@ -1,25 +1,32 @@
-use Rattle.std.proofs.Common.{◌≡◌, ◌∙◌, ◌<◌, ◌++◌, ◌∷◌, sym, arith, false, [], length, length-append}
+use Rattle.std.proofs.Common.{◌<◌, ◌∷◌, [], length, length-append, arith}
 use Rattle.sequential_signer.specs.Policy.{policy_of}
+use Rattle.desk_parts.specs.Adding.{with_rule, with_handle}
+use Rattle.desk_parts.proofs.AddAnswers.{on_err-second, unbegun-where_kept, good-after, good-where_added}
 use Rattle.sign_desk.specs.DeskState.{Represents}
-use Rattle.desk_parts.specs.Adding.{with_rule}
+use Rattle.sign_desk.specs.IsDesk.{IsDesk}
 use Rattle.sign_desk.proofs.DeskInvariant.{desk-with_rule, desk-with_handle, not_started}
 use Rattle.sign_desk.proofs.NewDesk.{represents-with_rule, represents-with_handle}
 use Rattle.sign_desk.proofs.desk.Desk.add_handle_with_rule.Goals as goal
 
-pub invariant_of-self-2 : goal.invariant_of-self-2
-invariant_of-self-2 g c =
+pub invariant_of-self : goal.invariant_of-self
+invariant_of-self g c =
     let policy = policy_of g.K.SigningCredential.valid g.K.SigningCredential.valid_at g.D.DeadlineRule.deadline in
-    let s = c.self.inside.state in
-    let unbegun : s.started ≡ false = sym c.is_started.ensures ∙ c.if-is_started.false in
-    let ruled = desk-with_rule policy s c.self.invariant unbegun c.args.rule (rw c.self.view_is c.requires.rules) in
-    let last : length s.rules < length (s.rules ++ c.args.rule ∷ []) = omega (arith, length-append s.rules (c.args.rule ∷ [])) in
-    rw c.in_default.ensures.added
-    (desk-with_handle policy (with_rule c.args.rule s) ruled unbegun c.args.cache (length s.rules) (rw c.self.view_is c.requires.handles) (rw c.self.view_is c.requires.cache) last)
+    let s = c.self-inside.inside.0.0.tables in
+    let stood : IsDesk policy s = rw (← c.self-inside.view_is) at c.self.invariant in
+    let ruled = with_rule c.args.rule s in
+    let last : length s.rules < length ruled.rules = omega (arith, length-append s.rules (c.args.rule ∷ [])) in
+    good-after (IsDesk policy) s (with_handle c.args.cache (length s.rules) ruled) c.add_handle_with_rule.new.self c.add_handle_with_rule.result
+    (unbegun-where_kept s (length s.handles) c.add_handle_with_rule.result c.add_handle_with_rule.ensures.answer)
+    (λ h. desk-with_handle policy ruled (desk-with_rule policy s stood h c.args.rule (rw (← c.self.view_is, ← c.self-inside.view_is) at c.requires.rules)) h c.args.cache (length s.rules) (rw (← c.self.view_is, ← c.self-inside.view_is) at c.requires.handles) (rw (← c.self.view_is, ← c.self-inside.view_is) at c.requires.cache) last)
+    stood c.add_handle_with_rule.ensures.added (on_err-second _ _ c.add_handle_with_rule.result c.add_handle_with_rule.ensures.unchanged)
 
 pub returns-clause-fresh : goal.returns-clause-fresh
 returns-clause-fresh g c =
     let policy = policy_of g.K.SigningCredential.valid g.K.SigningCredential.valid_at g.D.DeadlineRule.deadline in
-    let s = c.self.inside.state in
-    let unbegun : s.started ≡ false = sym c.is_started.ensures ∙ c.if-is_started.false in
-    let stood : Represents policy s [] = not_started policy s c.self.invariant unbegun in
-    rw c.in_default.ensures.added (represents-with_handle policy (with_rule c.args.rule s) (represents-with_rule policy s stood c.args.rule) c.args.cache (length s.rules))
+    let s = c.self-inside.inside.0.0.tables in
+    let stood : IsDesk policy s = rw (← c.self-inside.view_is) at c.self.invariant in
+    let ruled = with_rule c.args.rule s in
+    good-where_added (λ k. Represents policy k []) s (with_handle c.args.cache (length s.rules) ruled) c.add_handle_with_rule.new.self c.add_handle_with_rule.result
+    (unbegun-where_kept s (length s.handles) c.add_handle_with_rule.result c.add_handle_with_rule.ensures.answer)
+    (λ h. represents-with_handle policy ruled (represents-with_rule policy s (not_started policy s stood h) c.args.rule) c.args.cache (length s.rules))
+    c.add_handle_with_rule.ensures.added

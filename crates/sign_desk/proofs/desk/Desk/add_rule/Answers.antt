@@ -1,19 +1,29 @@
-use Rattle.std.proofs.Common.{◌≡◌, ◌∙◌, sym, false, []}
+use Rattle.std.proofs.Common.{length, []}
 use Rattle.sequential_signer.specs.Policy.{policy_of}
+use Rattle.desk_parts.specs.Adding.{with_rule}
+use Rattle.desk_parts.proofs.AddAnswers.{on_err-second, unbegun-where_kept, good-after, good-where_added}
 use Rattle.sign_desk.specs.DeskState.{Represents}
+use Rattle.sign_desk.specs.IsDesk.{IsDesk}
 use Rattle.sign_desk.proofs.DeskInvariant.{desk-with_rule, not_started}
 use Rattle.sign_desk.proofs.NewDesk.{represents-with_rule}
 use Rattle.sign_desk.proofs.desk.Desk.add_rule.Goals as goal
 
-pub invariant_of-self-2 : goal.invariant_of-self-2
-invariant_of-self-2 g c =
+pub invariant_of-self : goal.invariant_of-self
+invariant_of-self g c =
     let policy = policy_of g.K.SigningCredential.valid g.K.SigningCredential.valid_at g.D.DeadlineRule.deadline in
-    let unbegun : c.self.inside.state.started ≡ false = sym c.is_started.ensures ∙ c.if-is_started.false in
-    rw c.in_default.ensures.added (desk-with_rule policy c.self.inside.state c.self.invariant unbegun c.args.rule (rw c.self.view_is c.requires))
+    let s = c.self-inside.inside.0.0.tables in
+    let stood : IsDesk policy s = rw (← c.self-inside.view_is) at c.self.invariant in
+    good-after (IsDesk policy) s (with_rule c.args.rule s) c.add_rule.new.self c.add_rule.result
+    (unbegun-where_kept s (length s.rules) c.add_rule.result c.add_rule.ensures.answer)
+    (λ h. desk-with_rule policy s stood h c.args.rule (rw (← c.self.view_is, ← c.self-inside.view_is) at c.requires))
+    stood c.add_rule.ensures.added (on_err-second _ _ c.add_rule.result c.add_rule.ensures.unchanged)
 
 pub returns-clause-fresh : goal.returns-clause-fresh
 returns-clause-fresh g c =
     let policy = policy_of g.K.SigningCredential.valid g.K.SigningCredential.valid_at g.D.DeadlineRule.deadline in
-    let unbegun : c.self.inside.state.started ≡ false = sym c.is_started.ensures ∙ c.if-is_started.false in
-    let stood : Represents policy c.self.inside.state [] = not_started policy c.self.inside.state c.self.invariant unbegun in
-    rw c.in_default.ensures.added (represents-with_rule policy c.self.inside.state stood c.args.rule)
+    let s = c.self-inside.inside.0.0.tables in
+    let stood : IsDesk policy s = rw (← c.self-inside.view_is) at c.self.invariant in
+    good-where_added (λ k. Represents policy k []) s (with_rule c.args.rule s) c.add_rule.new.self c.add_rule.result
+    (unbegun-where_kept s (length s.rules) c.add_rule.result c.add_rule.ensures.answer)
+    (λ h. represents-with_rule policy s (not_started policy s stood h) c.args.rule)
+    c.add_rule.ensures.added
