@@ -52,7 +52,7 @@ fn has_authority(uri: &Uri) -> bool
 }
 
 /// The authority of a target, or the empty text.
-pub(crate) fn authority_of(uri: &Uri) -> &str
+pub fn authority_of(uri: &Uri) -> &str
     ensures { result.now ≡ unwrap_or (uri_authority uri.now) [] }
 {
     match uri.authority() {
@@ -62,7 +62,7 @@ pub(crate) fn authority_of(uri: &Uri) -> &str
 }
 
 /// The path as it is spelled, or `/`.
-pub(crate) fn path_of(uri: &Uri) -> &str
+pub fn path_of(uri: &Uri) -> &str
     ensures { result.now ≡ path_of (uri_data uri.now) }
 {
     let path = uri.path();

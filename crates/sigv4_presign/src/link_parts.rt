@@ -8,10 +8,10 @@ ghost use Rattle.sigv4_presign.specs.LinkPairs.{credential_text, pair_piece, sig
 ghost use Rattle.sigv4_presign.specs.PresignedLink.{link_of, presigned_link};
 
 use crate::link_signature::link_signature;
-use crate::link_target::{authority_of, path_of, query_of, scheme_of};
+use crate::link_target::{query_of, scheme_of};
 use http_uri::Uri;
 use sign_base::{Head, NoMemory, Timestamp};
-use sigv4_core::{SigCredential, SigScope, encode};
+use sigv4_core::{SigCredential, SigScope, authority_of, encode, path_of};
 use std::alloc::Global;
 
 /// The link that has a signature for this moment.

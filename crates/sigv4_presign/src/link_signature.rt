@@ -5,10 +5,9 @@ ghost use Rattle.sign_request.specs.PlainTarget.{plain_target};
 ghost use Rattle.sigv4_core.specs.SignedHead.{field};
 ghost use Rattle.sigv4_presign.specs.PresignedLink.{link_signature};
 
-use crate::link_target::{authority_of, path_of};
 use http_uri::Uri;
 use sign_base::{Field, Fields, Head, NoMemory, Octets, Timestamp};
-use sigv4_core::{SigCredential, SigScope, canonical, signature};
+use sigv4_core::{SigCredential, SigScope, authority_of, canonical, path_of, signature};
 use std::alloc::Global;
 
 /// The signature of a link with this query. It covers the method, the path, the query, and of the
