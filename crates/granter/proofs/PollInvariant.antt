@@ -35,9 +35,6 @@ module _ {P G K C L W : Type 0} (d : PollContext P G K C L W) (start : PollPlace
     pub issued-here : IsIssuedFor d place.desk place.state
     issued-here service is = (u.reached service (sym u.objects.service ∙ is)).issued
 
-    pub there-here : IsSome (service_of place.desk d.begun.id.handle)
-    there-here = subst (λ o. IsSome o) (sym u.objects.service) there
-
     module _ (new : GrantState K G) where
       pub invariant-on : (flow : StepFlow K L W) (next : CallState K L W) → flow ≡ On next
           → IsOutcomeWith d place.state (record { old = place.desk; new = new }) flow

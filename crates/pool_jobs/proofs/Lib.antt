@@ -1,5 +1,4 @@
 pub mod Dealing
-pub mod DeskSetup
 pub mod Dealt
 pub mod Picked
 pub mod CallPhases

@@ -4,7 +4,7 @@ use Rattle.std.proofs.Common.{◌≡◌, ℕ, ◌+◌, ℤ, true, false, cond, �
 use Rattle.std.specs.List.{list_any}
 use Rattle.std.specs.Duration.{as_nanos}
 use Rattle.std.specs.declared.time.Duration.{Duration}
-use Rattle.std.proofs.lemmas.List.{map-append, length-append}
+use Rattle.std.proofs.lemmas.List.{map-append}
 use Rattle.wake_lock.specs.declared.CallId.{CallId}
 use Rattle.wake_lock.specs.Calls.{same_call}
 use Rattle.sequential_signer.specs.Transcript.{entries_of}
@@ -218,28 +218,3 @@ module _ {K : Type 0} where
   begin_after-begun entries call expires_in new =
       let e : GrantEntry K = grant_entry (Begin call expires_in) Begun in
       ap begin_in (grant_entries-own entries e call (same_call-refl call)) ∙ begin_in-new (entries_of (as_signer entries) call) (as_entry e) (new_is_unbegun call (as_signer entries) new) refl
-
-  -- a live call after an entry about it, by its new phase, and by what it was begun with and the number of
-  -- its answers before: an event that is no answer
-  pub live_after-event : (entries : List (GrantEntry K)) (e : GrantEntry K) (call : CallId)
-      → same_call call (grant_call_of e.event) ≡ true → is_begun (as_reply e.reply) ≡ false
-      → answer_in (as_event e.event) ≡ None → (p : Phase) (n : ℕ) (begin : BeginInput)
-      → grant_phase_of (entries ++ e ∷ []) call ≡ p → length (answers_of (as_signer entries) call) ≡ n
-      → begin_of (as_signer entries) call ≡ Some begin
-      → live_call (as_signer (entries ++ e ∷ [])) call ≡ live_in p n begin
-  live_after-event entries e call own u a p n begin h k b =
-      live_grant (entries ++ e ∷ []) call p n begin h (ap length (grant_answers-own_none entries e call own a) ∙ k) (grant_begin-own entries e call own u ∙ b)
-
-  -- and a provider's answer
-  pub live_after-provided : (entries : List (GrantEntry K)) (call : CallId) (now : ℤ) (answer : Answer K)
-      (reply : GrantReply K) → is_begun (as_reply reply) ≡ false → is_not_now (as_reply reply) ≡ false
-      → (p : Phase) (n : ℕ) (begin : BeginInput)
-      → grant_phase_of (entries ++ grant_entry (Provided call now answer) reply ∷ []) call ≡ p
-      → length (answers_of (as_signer entries) call) ≡ n → begin_of (as_signer entries) call ≡ Some begin
-      → live_call (as_signer (entries ++ grant_entry (Provided call now answer) reply ∷ [])) call
-      ≡ live_in p (n + 1) begin
-  live_after-provided entries call now answer reply u m p n begin h k b =
-      let e : GrantEntry K = grant_entry (Provided call now answer) reply in
-      live_grant (entries ++ e ∷ []) call p (n + 1) begin h
-      (ap length (answers_after-provided entries call now answer reply m) ∙ length-append (answers_of (as_signer entries) call) ((answer, now) ∷ []) ∙ ap (λ (x : ℕ). x + 1) k)
-      (grant_begin-own entries e call (same_call-refl call) u ∙ b)

@@ -136,16 +136,3 @@ pub stored_by-no_grant : {K : Type 0} (event : GrantEvent K) (reply : GrantReply
     → stored_by event reply ≡ None
 stored_by-no_grant (Provided call now (answered.Found c)) (Grant source) h = absurd (cc)
 stored_by-no_grant _ _ h = refl
-
--- nor does one to anything but a credential that was found
-pub stored_by-missing : {K : Type 0} (call : CallId) (now : ℤ) (reply : GrantReply K)
-    → stored_by (Provided call now answered.Missing) reply ≡ None
-stored_by-missing call now reply = refl
-
-pub stored_by-failed : {K : Type 0} (call : CallId) (now : ℤ) (e : ℕ) (reply : GrantReply K)
-    → stored_by (Provided call now (answered.Failed e)) reply ≡ None
-stored_by-failed call now e reply = refl
-
-pub stored_by-poll : {K : Type 0} (call : CallId) (now : ℤ) (reply : GrantReply K)
-    → stored_by (Poll call now) reply ≡ None
-stored_by-poll call now reply = refl

@@ -144,12 +144,6 @@ module _ {K D : Type 0} (policy : Policy K D) (setup : Setup D) where
   unfolding IsLegalGrant
   legal_grant-more entries e l h = legal_after-more committed_grants (IsLegalGrantEntry policy setup) [] entries e l h
 
-  -- a legal transcript without its last entry is legal, and that entry is legal after those before it
-  pub legal_grant_before : (entries : List (GrantEntry K)) (e : GrantEntry K)
-      → IsLegalGrant policy setup (entries ++ e ∷ []) → IsLegalGrant policy setup entries
-  unfolding IsLegalGrant
-  legal_grant_before entries e l = (legal_split committed_grants (IsLegalGrantEntry policy setup) [] entries (e ∷ []) l).0
-
   pub legal_grant_entry : (entries : List (GrantEntry K)) (e : GrantEntry K)
       → IsLegalGrant policy setup (entries ++ e ∷ [])
       → IsLegalGrantEntry policy setup (committed_grants entries) e

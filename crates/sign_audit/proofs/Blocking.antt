@@ -147,12 +147,6 @@ module _ {K D : Type 0} (setup : Setup D) (entries : List (Entry K)) (i : ℕ) (
   stage-ahead stage.Queued c h = absurd (cc)
   stage-ahead stage.Loading c h = absurd (cc)
 
-line_for-none : (s : Stage) → line_for s None ≡ None
-line_for-none stage.Unpolled = refl
-line_for-none stage.Queued = refl
-line_for-none stage.Loading = refl
-line_for-none stage.Signing = refl
-
 line_for-some : (s : Stage) (o : Option ℕ) (i : ℕ) → line_for s o ≡ Some i → o ≡ Some i
 line_for-some stage.Unpolled o i e = e
 line_for-some stage.Queued o i e = e

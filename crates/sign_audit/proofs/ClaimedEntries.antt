@@ -1,6 +1,6 @@
 -- What is said to claims by their replies, one after another.
 use Rattle.std.proofs.Common.{◌≡◌, ℕ, zero, suc, Bool, true, false, List, [], ◌∷◌, ◌++◌, Some, slice_get, take, refl, sym, ◌∙◌, ap, subst, inl, inr}
-use Rattle.std.proofs.lemmas.List.{append-nil, append_assoc}
+use Rattle.std.proofs.lemmas.List.{append_assoc}
 use Rattle.sequential_signer.specs.Legal.{IsLegalEntry, IsLegalAfter}
 use Rattle.sequential_signer.specs.Policy.{Policy}
 use Rattle.sequential_signer.specs.Setup.{Setup}
@@ -73,10 +73,6 @@ split_at (y ∷ ys) zero x e = let is : y ≡ x = cc in (ys, ap (λ z. z ∷ ys)
 split_at (y ∷ ys) (suc i) x e = let later = split_at ys i x e in (later.0, ap (λ zs. y ∷ zs) later.1)
 
 module _ {K D : Type 0} (policy : Policy K D) (old : AuditState K D) (entries : List (Entry K)) where
-  -- no claims
-  pub accepts-none : AuditRepresents policy old entries → AcceptsAll policy old entries [] old
-  accepts-none stood = (tt, subst (λ (es : List (Entry K)). AuditRepresents policy old es) (sym (append-nil entries)) stood)
-
   module _ (now : AuditState K D) (setup : setup_of now.desk ≡ setup_of old.desk) where
     -- one more claim that is accepted
     pub accepts-more : (claims : List (Entry K)) (entry : Entry K) (new : AuditState K D)

@@ -1,4 +1,3 @@
-pub mod FaultCount
 pub mod Styled
 pub mod LineLemmas
 pub mod TakingLemmas

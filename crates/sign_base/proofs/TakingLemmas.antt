@@ -1,5 +1,5 @@
 -- Bytes that are taken of an input piece by piece.
-use Rattle.std.proofs.Common.{◌≡◌, false, ◌++◌, [], ℕ, List, Option, refl, sym, ap, subst, ◌∙◌, inl, inr, arith, append_assoc, append-nil, length, length-append}
+use Rattle.std.proofs.Common.{◌≡◌, false, ◌++◌, ℕ, List, Option, refl, sym, ap, subst, ◌∙◌, inr, arith, append_assoc, append-nil, length, length-append}
 use Rattle.std.proofs.lemmas.List.{get_or_append_left, nil_from_length}
 use Rattle.std.specs.Io.KnownBytes.{Consumes, Keeps, IsAtEnd}
 use Rattle.std.proofs.KnownBytes.{Consumes-trans, Consumes-kept}
@@ -25,12 +25,6 @@ NeedsRead-earlier input bytes needs = (
     omega (arith, needs.2.1, length-append input.held bytes),
   ),
 )
-
--- nothing was taken where no read was needed
-pub nothing-taken : (input : LineInput) (bytes : List ℕ) → (NeedsRead input → ⊥) → TakenByNeed input bytes
-    → bytes ≡ []
-nothing-taken input bytes ready (inl none) = none
-nothing-taken input bytes ready (inr (earlier, piece, is, needs)) = absurd (ready (NeedsRead-earlier input earlier needs))
 
 -- one piece more was taken
 pub takes-more : (old now new : LineInput) (before middle after : Option (List ℕ)) (piece : List ℕ)

@@ -1,5 +1,5 @@
 -- What a count of faults says: whether a read or a write failed.
-use Rattle.std.specs.Prelude.{◌≡◌, ℕ, ◌+◌, ◌-◌, ◌^◌, ◌<◌, ◌⊎◌, Bool, true, false, min}
+use Rattle.std.specs.Prelude.{◌≡◌, ℕ, ◌+◌, ◌-◌, ◌^◌, ◌⊎◌, Bool, true, false, min}
 
 -- the greatest number of a count, at which it stays
 abbrev pub last_count : ℕ
@@ -13,10 +13,6 @@ IsOneFault before now = (now ≡ before + 1) ⊎ ((before ≡ last_count) × (no
 abbrev pub CountsFault : Bool → ℕ → ℕ → Type 0
 CountsFault true before now = IsOneFault before now
 CountsFault false before now = now ≡ before
-
--- some faults: the count rose, or stays at its greatest number
-abbrev pub HasRisen : ℕ → ℕ → Type 0
-HasRisen before now = (before < now) ⊎ ((before ≡ last_count) × (now ≡ last_count))
 
 -- one fault more, up to the greatest number
 abbrev pub one_more : ℕ → ℕ

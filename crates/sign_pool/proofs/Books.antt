@@ -173,10 +173,6 @@ module _ {K : Type 0} where
     pub false-noted : answer.last ≡ None → (p : ℕ) → note.last ≡ Some p → IsTrueAnswer journal pass answer → ⊥
     false-noted e p n t = none-and-some answer.call journal p (subst As e t).0 (last-noted p n)
 
-    pub false-outcome : answer.last ≡ None → answer.outcome ≢ OutOfMemory → IsTrueAnswer journal pass answer
-        → ⊥
-    false-outcome e o t = o (subst As e t).1
-
     -- an answer with a receipt
     module _ (at : ℕ) (e : answer.last ≡ Some at) where
       pub false-past : slice_get pass at ≡ None → IsTrueAnswer journal pass answer → ⊥

@@ -1,10 +1,10 @@
 -- Claims one after another, each of the ticket of an item.
-use Rattle.std.proofs.Common.{◌≡◌, ℕ, ◌<◌, ◌≤◌, ◌+◌, Bool, List, [], ◌∷◌, ◌++◌, Option, Some, None, is_some, length, get_or, take, drop, map, sym, ◌∙◌, ap, subst, arith}
+use Rattle.std.proofs.Common.{◌≡◌, ℕ, ◌<◌, ◌+◌, Bool, List, [], ◌∷◌, ◌++◌, Option, Some, None, is_some, length, get_or, take, drop, map, sym, ◌∙◌, ap, subst, arith}
 use Rattle.std.specs.Prelude.{Contains, IsPermutation, MatchBool}
 use Rattle.std.specs.Map.{lookup, remove_entry, keys_of}
-use Rattle.std.proofs.lemmas.List.{append-nil, map-append, take_more, take-append-drop, drop_more, take_all, length-append, nil_from_length}
+use Rattle.std.proofs.lemmas.List.{append-nil, map-append, take_more, take-append-drop, drop_more, length-append, nil_from_length}
 use Rattle.std.proofs.lemmas.List.Elements.{All-head}
-use Rattle.std.proofs.lemmas.List.Sorted.{IsPermutation-refl, length_permutation}
+use Rattle.std.proofs.lemmas.List.Sorted.{length_permutation}
 use Rattle.sign_pool.specs.Cleared.{joined}
 use Rattle.sign_pool.specs.Index.{AreClaims}
 use Rattle.sign_pool.specs.declared.job.Ticket.{Ticket}
@@ -24,10 +24,6 @@ claim-decides old new ticket (Some x) b found moved is =
     subst P (sym is) (claimed-key old new ticket x (sym found) moved)
 
 module _ {X : Type 0} (f : X → Ticket) (those : List Ticket) where
-  -- nothing is claimed yet
-  pub claims-none : (keys : List Ticket) → keys ≡ those → IsPermutation those ([] ++ keys)
-  claims-none keys is = subst (λ (l : List Ticket). IsPermutation those l) (sym is) (IsPermutation-refl those)
-
   module _ (xs : List X) (i : ℕ) (x : X) (keys : List Ticket) (below : i < length xs) (is : x ≡ get_or xs i x) (had : IsPermutation those (map f (take i xs) ++ keys)) where
     -- one claim more
     pub claims-step : (left : List Ticket) → IsPermutation keys (f x ∷ left)
@@ -47,11 +43,6 @@ module _ {X : Type 0} (f : X → Ticket) (those : List Ticket) where
         let mine : AreClaims keys (f x ∷ rest) = claims-rest those (map f (take i xs)) keys (f x ∷ rest) had (subst (AreClaims those) split claims) in
         none (All-head (Contains keys) (f x) rest mine.among)
 
-  -- all are claimed
-  pub claims-end : (xs : List X) (n : ℕ) (keys : List Ticket) → length xs ≤ n
-      → IsPermutation those (map f (take n xs) ++ keys) → IsPermutation those (map f xs ++ keys)
-  claims-end xs n keys past had = subst (λ (l : List X). IsPermutation those (map f l ++ keys)) (take_all n xs past) had
-
   module _ (lists : List (List X)) (i : ℕ) (list : List X) (keys : List Ticket) (below : i < length lists) (is : list ≡ get_or lists i list)
       (had : IsPermutation those (map f (joined (take i lists)) ++ keys)) where
     -- the claims of one list more
@@ -70,11 +61,6 @@ module _ {X : Type 0} (f : X → Ticket) (those : List Ticket) where
         ap (map f) around.1 ∙ map-append f (joined (take i lists)) (list ++ around.0) ∙ ap (λ l. map f (joined (take i lists)) ++ l) (map-append f list around.0) in
         none (claims-left keys (map f list) (map f around.0)
         (claims-rest those (map f (joined (take i lists))) keys (map f list ++ map f around.0) had (subst (AreClaims those) split claims)))
-
-  pub lists-end : (lists : List (List X)) (n : ℕ) (keys : List Ticket) → length lists ≤ n
-      → IsPermutation those (map f (joined (take n lists)) ++ keys)
-      → IsPermutation those (map f (joined lists) ++ keys)
-  lists-end lists n keys past had = subst (λ (l : List (List X)). IsPermutation those (map f (joined l) ++ keys)) (take_all n lists past) had
 
 -- whether both claim, and nothing is left
 module _ (those answered more : List Ticket) (apart : Apart those) where

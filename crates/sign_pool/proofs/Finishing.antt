@@ -1,9 +1,8 @@
 -- What a finished pool has, by the seats that were handed in.
-use Rattle.std.proofs.Common.{◌≡◌, List, map, length, sym, ◌∙◌, ap, subst}
+use Rattle.std.proofs.Common.{◌≡◌, List, map, sym, subst}
 use Rattle.std.specs.Global.{Vec}
 use Rattle.std.specs.Prelude.{All, Option, Some, MatchOption, IsSome, IsTrue}
 use Rattle.std.specs.HashMap.{HashMap}
-use Rattle.std.proofs.lemmas.List.{length-map}
 use Rattle.std.proofs.lemmas.List.Elements.{All-weaker}
 use Rattle.wake_lock.specs.declared.CallId.{CallId}
 use Rattle.wake_lock.specs.Calls.{is_among}
@@ -26,12 +25,6 @@ use Rattle.sign_pool.proofs.Books.{journal-theirs}
 
 module _ {K : Type 0} (workers : List (Worker K)) (passes : List (List (Receipt K))) (passes_are : passes ≡ map (λ w. w.pass) workers)
     (answers : List (Vec Answer)) (answers_are : answers ≡ map (λ w. w.answers) workers) where
-  pub as-many-passes : length passes ≡ length workers
-  as-many-passes = ap length passes_are ∙ length-map workers (λ (w : Worker K). w.pass)
-
-  pub as-many-answers : length passes ≡ length answers
-  as-many-answers = as-many-passes ∙ sym (ap length answers_are ∙ length-map workers (λ (w : Worker K). w.answers))
-
   -- the journal has the calls of answers alone
   pub calls-own : (journal : List (Entry K)) → IsSettled journal passes
       → All (λ e. IsTrue (is_among (call_of e.event) (calls_of (joined (lists_of answers))))) journal

@@ -64,9 +64,6 @@ decoded_bound text =
     let decoded = (length-percent_decode text).0 in
     omega arith
 
-pair_length : Pair → ℕ
-pair_length p = length p.0 + length p.1
-
 pair_bound : (piece : List ℕ) → length (read_pair piece).0 + length (read_pair piece).1 ≤ 3 * length piece
 pair_bound piece =
     let n = position_or_len is_equals_sign piece in

@@ -1,5 +1,5 @@
 -- What an audit says of an event is what the account of the lines says of it.
-use Rattle.std.proofs.Common.{◌≡◌, ◌<◌, ◌≤◌, ◌^◌, ℕ, true, false, ◌&&◌, List, length, None, refl, sym, ap, ◌∙◌, inl, inr, arith}
+use Rattle.std.proofs.Common.{◌≡◌, ◌<◌, ◌≤◌, ◌^◌, ℕ, true, false, List, length, sym, ap, ◌∙◌, inl, inr, arith}
 use Rattle.std.proofs.lemmas.List.{length-map}
 use Rattle.sign_base.specs.Lines.{input_limit}
 use Rattle.wake_lock.specs.declared.CallId.{CallId}
@@ -22,23 +22,10 @@ use Rattle.signctl_format.specs.Policy.{script_policy}
 use Rattle.signctl_format.specs.ScriptEvents.{plain_event}
 use Rattle.signctl_format.specs.ScriptSetup.{setup_in}
 use Rattle.signctl_audit.specs.Account.{Account, reply_due}
-use Rattle.signctl_audit.specs.AuditReading.{due_of, is_missed, may_miss, behind_of, due_error, subject_error}
+use Rattle.signctl_audit.specs.AuditReading.{may_miss, behind_of}
 use Rattle.signctl_audit.specs.SessionState.{plain_entries, IsAudited}
-use Rattle.signctl_audit.specs.declared.audit_line.Subject.{Subject}
 use Rattle.signctl_audit.specs.declared.audit_line.Subject.TheVariants.{Event as Happened}
-use Rattle.signctl_audit.specs.declared.claimed_reply.ClaimedReply.{ClaimedReply}
 use Rattle.signctl_audit.proofs.PlainEntries.{call_of-plain, reply-plain, allocates-plain, blockers-plain, counts-plain}
-
--- a claim that an allocation failed, which may be, is right
-pub subject-excused : (a : Account) (subject : Subject) (claimed : ClaimedReply) (text : List ℕ)
-    → (is_missed claimed && may_miss a subject) ≡ true → None ≡ subject_error a subject claimed text
-subject-excused a subject claimed text excused = rw excused refl
-
--- any other claim is compared
-pub subject-compared : (a : Account) (subject : Subject) (claimed : ClaimedReply) (text : List ℕ)
-    → (is_missed claimed && may_miss a subject) ≡ false
-    → due_error (due_of a subject) (behind_of a subject) text ≡ subject_error a subject claimed text
-subject-compared a subject claimed text excused = rw excused refl
 
 module _ (audit : AuditState ScriptCredential ScriptRule) (a : Account) (stands : IsAudited audit a) where
   -- the expected reply
@@ -103,10 +90,3 @@ module _ (audit : AuditState ScriptCredential ScriptRule) (a : Account) (stands 
   stepped-few few =
       let same : length (plain_entries stands.stepped) ≡ length stands.stepped = length-map stands.stepped (λ (e : Entry ScriptCredential). let x : Entry ScriptCredential = record { event = plain_event e.event; reply = e.reply } in x) in
       omega (arith, few, same, ap (λ (t : List (Entry ScriptCredential)). length t) stands.entries)
-
--- of a call that is not to wait, none
-pub behind-none : (a : Account) (seen : Event ScriptCredential) (reply : Reply ScriptCredential)
-    → reply ≡ reply_due a seen → is_pending reply ≡ false → None ≡ behind_of a (Happened seen)
-behind-none a seen reply due waits =
-    let pending : is_pending (reply_due a seen) ≡ false = ap (λ (r : Reply ScriptCredential). is_pending r) (sym due) ∙ waits in
-    rw pending refl

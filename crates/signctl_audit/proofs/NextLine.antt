@@ -15,9 +15,7 @@ use Rattle.desk_parts.specs.Tables.{setup_of}
 use Rattle.desk_parts.specs.Adding.{with_handle, AddAnswer, late_refusal, handle_refusal}
 use Rattle.desk_parts.specs.declared.adding.AddError.{AddError}
 use Rattle.desk_parts.proofs.AddAnswers.{cache-allowed, handle-allowed}
-use Rattle.sign_audit.specs.Answers.{AnswersTest}
 use Rattle.sign_audit.specs.AuditState.{AuditState, AuditRepresents}
-use Rattle.sign_audit.specs.declared.claim.Claim.{Claim}
 use Rattle.signctl_format.specs.declared.credential.ScriptCredential.{ScriptCredential}
 use Rattle.signctl_format.specs.declared.credential.ScriptRule.{ScriptRule}
 use Rattle.signctl_format.specs.declared.item.Item.TheVariants as item
@@ -83,21 +81,6 @@ cache-first a loader h = empty_is (events_in a.items) (cache-no_event a.items lo
 pub handle-first : (a : Account) (cache : ℕ) (rule : ScriptRule)
     → audit_item_error a (item.Handle cache rule) ≡ None → events_in a.items ≡ []
 handle-first a cache rule h = empty_is (events_in a.items) (handle-no_event a.items cache rule (good-item a (item.Handle cache rule) h))
-
--- then there is no audit
-pub no_audit : (audit : AuditState ScriptCredential ScriptRule) (a : Account) → IsAudited audit a
-    → events_in a.items ≡ [] → ⊥
-no_audit audit a stands none =
-    let begun : is_empty (events_in a.items) ≡ true = ap (λ (v : List (Event ScriptCredential)). is_empty v) none in
-    absurd (cc (begun, stands.begun))
-
--- so there is a desk
-pub desk-there : (desk : Option (DeskState ScriptCredential ScriptRule))
-    (audit : Option (AuditState ScriptCredential ScriptRule)) (a : Account) → HasSigner desk audit a
-    → events_in a.items ≡ [] → desk ≡ None → ⊥
-desk-there (Some desk) audit a h none e = absurd cc
-desk-there None (Some audit) a h none e = no_audit audit a h none
-desk-there None None a h none e = h
 
 -- the signer of a session that has a desk
 pub set_up : (desk : DeskState ScriptCredential ScriptRule)
@@ -434,19 +417,6 @@ entry-plain setup a stepped event claimed missed is_setup are says = by_claim cl
     by_claim (claim.Done head) e = other e
     by_claim (claim.Cancelled wake) e = other e
 
--- the entry that a legal claim added
-pub legal-entry : (says : Reply ScriptCredential → Bool → Type 0)
-    (audit new : AuditState ScriptCredential ScriptRule) (stepped : List (Entry ScriptCredential))
-    (missed : Bool) (event : Event ScriptCredential) (answer : Claim ScriptCredential)
-    → AnswersTest script_policy audit stepped says missed event answer new → answer ≡ Claim.Legal
-    → AuditRepresents script_policy new
-    (stepped
-    ++ record { event = event; reply = if missed then reply.OutOfMemory else expected_reply script_policy (setup_of audit.desk) (committed_entries stepped) event }
-    ∷ [])
-legal-entry says audit new stepped missed event Claim.Legal h e = h.1
-legal-entry says audit new stepped missed event (Claim.Due due) h e = absurd cc
-legal-entry says audit new stepped missed event Claim.OutOfMemory h e = absurd cc
-
 -- one claim of an event more
 pub next-entry : (audit new : AuditState ScriptCredential ScriptRule) (a : Account)
     (event : Event ScriptCredential) (claimed : ClaimedReply) (missed : Bool) (stands : IsAudited audit a)
@@ -469,43 +439,6 @@ next-entry audit new a event claimed missed stands about says setup represents =
           ∙ ap (λ (s : Option Subject). entries_with a claimed s) (sym about);
       represents = represents;
     }
-
--- a desk that is set up is claimed no event for
-pub no_event-claimed : (desk : DeskState ScriptCredential ScriptRule) (a : Account)
-    (event : Event ScriptCredential) → IsSetUp desk a → subject_in a ≡ Some (Happened event) → ⊥
-no_event-claimed desk a event stands about = let P : Option Subject → Type 0 = λ s. IsNoEvent s in subst P about stands.no_claim
-
--- what is no claim of an event changes no entries
-other_subject : (a : Account) (claimed : ClaimedReply) (subject : Option Subject) → IsNoEvent subject
-    → entries_with a claimed subject ≡ a.entries
-other_subject a claimed None h = refl
-other_subject a claimed (Some (Cache n)) h = refl
-other_subject a claimed (Some (MadeHandle n)) h = refl
-other_subject a claimed (Some (Happened event)) h = absurd h
-
--- so it leaves the signer
-pub other-signer : (a : Account) (claimed : ClaimedReply)
-    (desk : Option (DeskState ScriptCredential ScriptRule))
-    (audit : Option (AuditState ScriptCredential ScriptRule)) → IsNoEvent (subject_in a)
-    → HasSigner desk audit a → HasSigner desk audit (with_claim a claimed)
-other-signer a claimed (Some desk) None other h = record { setup = h.setup; fresh = h.fresh; no_event = h.no_event; no_entries = other_subject a claimed (subject_in a) other ∙ h.no_entries; no_claim = tt }
-other-signer a claimed None (Some audit) other h = record { setup = h.setup; begun = h.begun; stepped = h.stepped; entries = h.entries ∙ sym (other_subject a claimed (subject_in a) other); represents = h.represents }
-other-signer a claimed (Some desk) (Some audit) other h = h
-other-signer a claimed None None other h = h
-
--- the claim is taken
-pub next-claim : (session : SessionState) (a : Account) (claimed : ClaimedReply)
-    (audit : Option (AuditState ScriptCredential ScriptRule)) → RepresentsAccount session a
-    → HasSigner session.desk audit (with_claim a claimed)
-    → RepresentsAccount (record session { audit = audit; unclaimed = None }) (with_claim a claimed)
-next-claim session a claimed audit stands signer = record {
-  lines = stands.lines;
-  caches = stands.caches;
-  events = stands.events;
-  version = stands.version;
-  unclaimed = refl;
-  signer = signer;
-}
 
 -- ---- the line counts
 

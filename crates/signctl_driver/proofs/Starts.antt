@@ -1,5 +1,5 @@
 -- What a list starts with.
-use Rattle.std.proofs.Common.{◌≡◌, ℕ, List, [], ◌∷◌, ◌++◌, length, take, drop, refl, sym, ap, ◌∙◌, append_assoc, append-nil}
+use Rattle.std.proofs.Common.{◌≡◌, ℕ, List, [], ◌++◌, length, take, drop, sym, ap, ◌∙◌, append_assoc, append-nil}
 use Rattle.std.proofs.Math.Seq.{take-append_seam}
 use Rattle.std.proofs.KnownBytes.{starts_with_rest}
 use Rattle.std.specs.Io.{StartsWith}
@@ -27,8 +27,3 @@ pub starts-after : (done a b : List ℕ) → StartsWith b a → StartsWith (done
 starts-after done a b f =
     starts-append (done ++ b) (done ++ a) (drop (length a) b)
     (ap (λ (v : List ℕ). done ++ v) (starts_with_rest b a f) ∙ sym (append_assoc done a (drop (length a) b)))
-
--- nothing starts with nothing alone
-pub nothing-starts : (part : List ℕ) → StartsWith [] part → part ≡ []
-nothing-starts [] h = refl
-nothing-starts (b ∷ rest) h = absurd (cc)

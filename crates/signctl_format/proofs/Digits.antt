@@ -16,20 +16,6 @@ pub record ReadsDigits (n : ℕ) (rest word : List ℕ) : Type 0 where
   pub left : AllDigits 10 word → AllDigits 10 rest
   pub value : digits_value_after 10 n rest ≡ digits_value 10 word
 
-pub digits_start : (word : List ℕ) → ReadsDigits 0 word word
-digits_start word = record { all = λ d. d; left = λ d. d; value = refl }
-
--- one more digit was read
-pub digits_more : (n m b : ℕ) (after rest word : List ℕ) → rest ≡ b ∷ after → digit_value b < 10
-    → n * 10 + digit_value b ≡ m → ReadsDigits n rest word → ReadsDigits m after word
-digits_more n m b after rest word parted digit next so_far =
-    let here : ReadsDigits n (b ∷ after) word = subst (λ (r : List ℕ). ReadsDigits n r word) parted so_far in
-    record {
-      all = λ d. here.all (digit, d);
-      left = λ d. (here.left d).1;
-      value = ap (λ (k : ℕ). digits_value_after 10 k after) (sym next) ∙ here.value;
-    }
-
 value_rises : (n : ℕ) (ds : List ℕ) → n ≤ digits_value_after 10 n ds
 value_rises n [] = omega arith
 value_rises n (c ∷ cs) = omega (arith, value_rises (n * 10 + digit_value c) cs)
@@ -97,20 +83,3 @@ no_number limit word (Some n) small is begins =
     let spelled = number_of-some limit n word is in
     let wrong : false ≡ true = sym begins ∙ spelling_begins n word (omega (arith, spelled.1)) spelled.0 in
     absurd cc
-
--- nor does one that is not the spelling of a number of 64 bits
-pub no_spelling : (limit : ℕ) (word : List ℕ) (says : Option ℕ) → limit < 2 ^ 64 → number_of limit word ≡ says
-    → ((m : ℕ) → m < 2 ^ 64 → word ≢ decimal m) → says ≡ None
-no_spelling limit word None small is none = refl
-no_spelling limit word (Some n) small is none =
-    let spelled = number_of-some limit n word is in
-    absurd (none n (omega (arith, spelled.1)) spelled.0)
-
--- nor one whose number is past the limit
-pub past_the_limit : (limit n : ℕ) (word : List ℕ) (says : Option ℕ) → limit < 2 ^ 64
-    → number_of limit word ≡ says → digits_value 10 word ≡ n → limit < n → says ≡ None
-past_the_limit limit n word None small is value past = refl
-past_the_limit limit n word (Some m) small is value past =
-    let spelled = number_of-some limit m word is in
-    let same : digits_value 10 word ≡ m = ap (digits_value 10) spelled.0 ∙ (decimal_is_IsNumeral m (omega (arith, spelled.1))).1 in
-    absurd (omega (arith, value, same, spelled.1))

@@ -1,12 +1,11 @@
 -- A number's word is its decimal spelling, up to the limit.
 use Rattle.std.proofs.Common.{◌≡◌, ℕ, ◌<◌, ◌≤◌, ◌^◌, Bool, true, false, cond, ◌&&◌, leb, List, Some, None, refl, ap, subst, ◌∙◌}
-use Rattle.std.specs.Str.{bytes_eq, IsUtf8}
+use Rattle.std.specs.Str.{bytes_eq}
 use Rattle.std.specs.Str.Parse.{digits_value}
 use Rattle.std.specs.Fmt.{decimal}
 use Rattle.std.proofs.lemmas.Bool.{le-leb, leb-true, and_parts}
-use Rattle.std.proofs.lemmas.Fmt.{decimal_is_IsNumeral, IsAscii-decimal}
+use Rattle.std.proofs.lemmas.Fmt.{decimal_is_IsNumeral}
 use Rattle.std.proofs.lemmas.Slice.Eq.{bytes_eq-Decides}
-use Rattle.std.proofs.lemmas.Str.{IsUtf8-from_ascii}
 use Rattle.signctl_format.specs.Words.{number_of}
 
 -- the spelling of a number up to the limit reads as that number
@@ -32,7 +31,3 @@ pub number_of-some : (limit n : ℕ) (word : List ℕ) → number_of limit word 
 number_of-some limit n word e =
     let m : ℕ = digits_value 10 word in
     passed limit n (digits_value 10 word) word (bytes_eq word (decimal (digits_value 10 word)) && leb (digits_value 10 word) limit) refl e
-
--- a spelling is text
-pub decimal_is_text : (n : ℕ) (word : List ℕ) → n < 2 ^ 64 → word ≡ decimal n → IsUtf8 word
-decimal_is_text n word small spelled = rw spelled (IsUtf8-from_ascii (decimal n) (IsAscii-decimal n small))

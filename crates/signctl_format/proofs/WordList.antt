@@ -1,7 +1,7 @@
 -- The words of a line, one after another.
-use Rattle.std.proofs.Common.{◌≡◌, ℕ, ◌+◌, suc, ◌≤◌, Bool, true, false, cond, not, ltb, List, [], ◌∷◌, length, take, drop, Some, None, refl, sym, ap, ◌∙◌, arith}
-use Rattle.std.specs.List.{onto_first, position, position_or_len}
-use Rattle.std.proofs.lemmas.Bool.{ltb-false, eqb-true}
+use Rattle.std.proofs.Common.{◌≡◌, ℕ, ◌+◌, suc, ◌≤◌, Bool, true, false, not, List, [], ◌∷◌, length, take, drop, refl, sym, ap, ◌∙◌, arith}
+use Rattle.std.specs.List.{onto_first, position_or_len}
+use Rattle.std.proofs.lemmas.Bool.{eqb-true}
 use Rattle.std.proofs.lemmas.List.Sums.{prefix_len-le-length}
 use Rattle.signctl_format.specs.Bytes.{space}
 use Rattle.signctl_format.specs.Words.{is_space, words, spaced_words, line_of}
@@ -27,17 +27,6 @@ words_split (b ∷ text) = one_more b text (is_space b) refl (words_split text)
 -- a place lies within its list
 pub place_within : (p : ℕ → Bool) (xs : List ℕ) → position_or_len p xs ≤ length xs
 place_within p xs = prefix_len-le-length (λ x. not (p x)) xs
-
-fails_everywhere : (p : ℕ → Bool) (xs : List ℕ) (b : Bool) → ltb (position_or_len p xs) (length xs) ≡ b
-    → cond b (Some (position_or_len p xs)) None ≡ None → length xs ≡ position_or_len p xs
-fails_everywhere p xs true test e = absurd cc
-fails_everywhere p xs false test e =
-    let beyond = ltb-false (position_or_len p xs) (length xs) test in
-    omega (arith, beyond, place_within p xs)
-
--- where no place is found, the whole list stands before it
-pub no_place : (p : ℕ → Bool) (xs : List ℕ) → position p xs ≡ None → length xs ≡ position_or_len p xs
-no_place p xs e = fails_everywhere p xs (ltb (position_or_len p xs) (length xs)) refl e
 
 -- words after a first one, each after a space, are a space and their line
 spaced_line : (ws : List (List ℕ)) (word : List ℕ) (rest : List (List ℕ)) → ws ≡ word ∷ rest

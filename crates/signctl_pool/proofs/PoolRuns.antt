@@ -1,5 +1,5 @@
 -- How runs of a pool end.
-use Rattle.std.proofs.Common.{◌≡◌, ℕ, ◌≤◌, ◌<◌, Bool, true, false, ◌||◌, length, map, arith, List, [], ◌∷◌, Option, Some, None, refl, sym, ◌∙◌, ap, subst}
+use Rattle.std.proofs.Common.{◌≡◌, ℕ, ◌≤◌, ◌<◌, Bool, true, false, ◌||◌, length, map, arith, List, [], ◌∷◌, Option, refl, sym, ◌∙◌, ap, subst}
 use Rattle.std.specs.Prelude.{All}
 use Rattle.std.specs.List.{list_any, AllByRecursion}
 use Rattle.std.proofs.lemmas.List.{length-map}
@@ -30,11 +30,9 @@ use Rattle.pool_jobs.specs.Setup.{pool_setup}
 use Rattle.pool_jobs.specs.Work.{pool_work, jobs_of_worker}
 use Rattle.pool_jobs.specs.Run.{ServesPool}
 use Rattle.signctl_pool.specs.Ends.{status_of}
-use Rattle.signctl_pool.specs.Pool.{IsSettledPool, IsRefusedPool, EndsEarly, EndsPool, IsThreadsRun}
-use Rattle.signctl_pool.specs.Written.{Written}
+use Rattle.signctl_pool.specs.Pool.{IsSettledPool, IsRefusedPool, EndsEarly}
 use Rattle.signctl_pool.specs.declared.end.PoolEnd.{PoolEnd}
 use Rattle.signctl_pool.specs.declared.end.PoolEnd.TheVariants as end
-use Rattle.signctl_pool.specs.declared.words.PoolCommand.TheVariants.{Pool}
 
 left_false : (a b : Bool) → (a || b) ≡ false → a ≡ false
 left_false false b h = refl
@@ -116,20 +114,6 @@ module _ (gate : GateMeaning ScriptCredential) (workers jobs : ℕ) where
   }
 
   module _ {D : Type 0} (holds : D → Option (List ℕ)) (faults : D → ℕ) where
-    -- a run that ended early wrote nothing
-    pub ends_early : (sink : D) (ended : PoolEnd) → EndsEarly gate workers jobs ended
-        → EndsPool gate workers jobs ended (record { holds = holds; faults = faults; old = sink; new = sink })
-    ends_early sink (end.Disagreed refused) h = (h, refl)
-    ends_early sink (end.Ended status.OutOfMemory) h = refl
-    ends_early sink (end.Ended status.Done) h = h
-    ends_early sink (end.Ended status.Usage) h = h
-    ends_early sink (end.Ended status.Refused) h = h
-    ends_early sink (end.Ended status.ReadFault) h = h
-    ends_early sink (end.Ended status.WriteFault) h = absurd h
-    ends_early sink (end.Done settled) h = absurd h
-    ends_early sink (end.Finished finished) h = absurd h
-    ends_early sink (end.Uncleared finished why) h = absurd h
-
     -- and no write of it failed
     pub no_fault : (sink : D) (ended : PoolEnd) → EndsEarly gate workers jobs ended
         → CountsFault (is_write_fault (status_of ended)) (faults sink) (faults sink)
@@ -143,34 +127,3 @@ module _ (gate : GateMeaning ScriptCredential) (workers jobs : ℕ) where
     no_fault sink (end.Done settled) h = refl
     no_fault sink (end.Finished finished) h = absurd h
     no_fault sink (end.Uncleared finished why) h = absurd h
-
-    not_usage : (sink : Written D) (ended : PoolEnd) → EndsPool gate workers jobs ended sink
-        → ended ≡ end.Ended status.Usage → ⊥
-    not_usage sink ended h e = subst (λ x. EndsPool gate workers jobs x sink) e h
-
-    -- a pool that was asked for
-    pub pool_ran : (old new : D) (ended : PoolEnd)
-        → EndsPool gate workers jobs ended (record { holds = holds; faults = faults; old = old; new = new })
-        → CountsFault (is_write_fault (status_of ended)) (faults old) (faults new)
-        → IsThreadsRun gate (Some (Pool workers jobs)) ended
-        (record { holds = holds; faults = faults; old = old; new = new })
-    pool_ran old new ended h writes =
-        let sink : Written D = record { holds = holds; faults = faults; old = old; new = new } in
-        record {
-          usage = (λ e. absurd (not_usage sink ended h e), λ e. absurd (cc));
-          untouched = λ e. absurd (not_usage sink ended h e);
-          gives = h;
-          writes = writes;
-        }
-
--- nothing was asked for
-pub nothing_asked : {D : Type 0} (gate : GateMeaning ScriptCredential) (holds : D → Option (List ℕ))
-    (faults : D → ℕ) (sink : D)
-    → IsThreadsRun gate None (end.Ended status.Usage)
-    (record { holds = holds; faults = faults; old = sink; new = sink })
-nothing_asked gate holds faults sink = record {
-  usage = (λ _. refl, λ _. refl);
-  untouched = λ _. refl;
-  gives = tt;
-  writes = refl;
-}

@@ -26,11 +26,6 @@ module _ {P S K C L W : Type 0} (m : Meanings P S K C L W) (o : Objects P S C) (
   load-made l h =
       subst (λ (x : Option P). IsLoadKept (λ (load : L). IsSomeAnd x (λ q. m.load_started q o.ctx load)) (λ (a : Polled (Option K)). IsSomeAnd x (λ q. m.load_gives q o.ctx a)) l) (sym there) h
 
-  pub load-kept : (l : LoadState K L) → IsLoadMade (call_meaning m begun o) place l
-      → IsLoadKept (m.load_started p o.ctx) (m.load_gives p o.ctx) l
-  load-kept l h =
-      subst (λ (x : Option P). IsLoadKept (λ (load : L). IsSomeAnd x (λ q. m.load_started q o.ctx load)) (λ (a : Polled (Option K)). IsSomeAnd x (λ q. m.load_gives q o.ctx a)) l) there h
-
   pub load-started : (load : L) → m.load_started p o.ctx load
       → (call_meaning m begun o).load_started place load
   load-started load h = subst (λ (x : Option P). IsSomeAnd x (λ q. m.load_started q o.ctx load)) (sym there) h

@@ -47,9 +47,6 @@ module _ {P S K C L W : Type 0} (d : PollContext P S K C L W) (start : PollStart
     pub issued-here : IsIssuedFor d place.desk place.state
     issued-here service is = (u.reached service (sym u.objects.service ∙ is)).issued
 
-    pub there-here : IsSome (service_of place.desk d.begun.id.handle)
-    there-here = subst (λ o. IsSome o) (sym u.objects.service) there
-
     module _ (new : DeskState K S) (after : Parts) where
       pub invariant-on : (taken : StepOutcome K L W) (next : SignState K L W) → taken.flow ≡ On next
           → IsOutcomeWith d place.state

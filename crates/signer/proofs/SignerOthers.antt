@@ -2,7 +2,7 @@
 use Rattle.std.proofs.Common.{ap, ◌≡◌, inl, inr, ℕ, Option, Some, None, IsSomeAnd, refl, sym, ◌∙◌, subst}
 use Rattle.wake_lock.specs.declared.CallId.{CallId}
 use Rattle.sign_desk.specs.DeskState.{DeskState}
-use Rattle.desk_driver.specs.CallAt.{IsAt, IsLive, IsWaiting, LeavesOthers}
+use Rattle.desk_driver.specs.CallAt.{IsLive, IsWaiting, LeavesOthers}
 use Rattle.desk_driver.proofs.KeptCalls.{KeepsCall, keeps-other, keeps-provider}
 use Rattle.signer.specs.IssuedBy.{IsStateIssued, IsIssuedBy}
 use Rattle.signer.specs.SignerInvariant.{SignerState}
@@ -12,7 +12,6 @@ use Rattle.signer.specs.SignerCalls.{KeepsOthers, IsAnswerIssuedBy}
 use Rattle.signer.specs.Course.{IsAnswerIssued}
 use Rattle.signer.specs.declared.sign_poll.SignAnswer.{SignAnswer}
 use Rattle.signer.specs.declared.sign_poll.SignAnswer.TheVariants as answer
-use Rattle.desk_parts.specs.declared.call_record.Stage.{Stage}
 use Rattle.desk_parts.specs.declared.call_record.Stage.TheVariants as stage
 use Rattle.signer.specs.BegunCall.{BegunCall}
 use Rattle.signer.specs.declared.sign.Sign.{Sign}
@@ -20,10 +19,6 @@ use Rattle.signer.specs.declared.sign.SignState.{SignState}
 use Rattle.signer.specs.declared.sign.SignState.TheVariants.{Waiting, Loading, Signing}
 
 module _ {K D : Type 0} (old new : DeskState K D) where
-  keeps-at : (begun : BegunCall) → KeepsCall begun.id old new → (s : Stage) (n : ℕ) → IsAt begun s n old
-      → IsAt begun s n new
-  keeps-at begun k s n h = k.record_is ∙ h
-
   keeps-waiting : (begun : BegunCall) → KeepsCall begun.id old new → IsWaiting begun old → IsWaiting begun new
   keeps-waiting begun k (inl h) = inl (k.record_is ∙ h)
   keeps-waiting begun k (inr h) = inr (k.record_is ∙ h)

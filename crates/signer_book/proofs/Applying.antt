@@ -1,5 +1,5 @@
 -- What a book knows of a step before it is made.
-use Rattle.std.proofs.Common.{◌≡◌, ◌≢◌, Bool, true, false, ◌&&◌, List, Option, Some, None, IsSome, IsTrue, refl, sym, ◌∙◌, ap, subst, inl, inr}
+use Rattle.std.proofs.Common.{◌≡◌, Bool, true, false, ◌&&◌, List, Option, Some, None, IsSome, IsTrue, refl, sym, ◌∙◌, ap, subst, inl, inr}
 use Rattle.wake_lock.specs.declared.CallId.{CallId}
 use Rattle.sequential_signer.specs.Policy.{Policy}
 use Rattle.sequential_signer.specs.Setup.{Setup}
@@ -25,13 +25,6 @@ use Rattle.sign_desk.specs.ReplyKinds.{is_reply_to}
 use Rattle.sequential_signer.specs.Replies.{is_cancelled}
 
 module _ {K D : Type 0} (policy : Policy K D) where
-  -- a legal reply that is not out of memory is the expected one
-  pub legal-expected : (setup : Setup D) (entries : List (Entry K)) (event : Event K) (reply : Reply K)
-      → IsLegalEntry policy setup entries (record { event = event; reply = reply }) → reply ≢ OutOfMemory
-      → reply ≡ expected_reply policy setup entries event
-  legal-expected setup entries event reply (inl h) n = h
-  legal-expected setup entries event reply (inr h) n = absurd (n h.0)
-
   no_and : (b : Bool) → (b && false) ≡ true → ⊥
   no_and true h = cc
   no_and false h = cc

@@ -1,5 +1,5 @@
 -- Courses of a call: one step after another.
-use Rattle.std.proofs.Common.{◌≡◌, ◌≢◌, ◌⊎◌, inl, inr, ℕ, ◌++◌, IsTrue, false, List, [], ◌∷◌, refl, sym, subst, ap, ◌∙◌, append_assoc}
+use Rattle.std.proofs.Common.{◌≡◌, ◌≢◌, ◌⊎◌, inl, inr, ℕ, ◌++◌, IsTrue, false, List, [], ◌∷◌, refl, sym, subst}
 use Rattle.std.proofs.lemmas.List.{append-nil}
 use Rattle.sequential_signer.specs.declared.event.Event.{Event}
 use Rattle.sequential_signer.specs.declared.event.Reply.{Reply}
@@ -63,17 +63,6 @@ module _ {K : Type 0} (gate : GateMeaning K) (turns : ℕ) (job : Job) where
   -- nothing was done yet
   pub stays : (at : Next K) (pass : List (Receipt K)) → Advances gate turns job at pass pass at
   stays at pass = ([], sym (append-nil pass), λ rest end course. course)
-
-  -- one after another
-  pub goes_further : (a b c : Next K) (old mid new : List (Receipt K)) → Advances gate turns job a old mid b
-      → Advances gate turns job b mid new c → Advances gate turns job a old new c
-  goes_further a b c old mid new p q = (
-    p.0 ++ q.0,
-    q.1 ∙ ap (λ l. l ++ q.0) p.1 ∙ append_assoc old p.0 q.0,
-    λ rest end course.
-        let P : List (Receipt K) → Type 0 = λ l. IsCourse gate turns job a l end in
-        subst P (sym (append_assoc p.0 q.0 rest)) (p.2 (q.0 ++ rest) end (q.2 rest end course)),
-  )
 
   -- an allocation failed, and there is no receipt of it
   pub stops_short : (before : Next K) (pass : List (Receipt K)) → IsOpen before

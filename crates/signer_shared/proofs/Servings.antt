@@ -1,6 +1,5 @@
 -- Jobs one after another.
 use Rattle.std.proofs.Common.{◌≡◌, ◌≢◌, ℕ, ◌+◌, ◌++◌, Bool, true, false, cond, List, [], ◌∷◌, length, refl, sym, subst, ap, ◌∙◌, append_assoc, arith, length-append, suc, ◌<◌, get_or, take, drop, drop-cons}
-use Rattle.std.specs.Prelude.{MatchBool}
 use Rattle.std.proofs.lemmas.Bool.{false≢true}
 use Rattle.std.proofs.lemmas.List.{append-nil, take_more, take-append-drop}
 use Rattle.std.proofs.lemmas.List.Sums.{sum_by-append}
@@ -10,7 +9,7 @@ use Rattle.sequential_signer.specs.Replies.{is_cancelled, is_done, is_refused}
 use Rattle.signer_book.specs.declared.pass.Receipt.{Receipt}
 use Rattle.signer_shared.specs.Counting.{counted}
 use Rattle.signer_shared.specs.Gates.{GateMeaning}
-use Rattle.signer_shared.specs.Serving.{IsCourse, Advances, ServesAll, StopsAtAJob, IsServing, ran_out, replies}
+use Rattle.signer_shared.specs.Serving.{IsCourse, Advances, ServesAll, IsServing, ran_out, replies}
 use Rattle.signer_shared.specs.declared.job.Job.{Job}
 use Rattle.signer_shared.specs.declared.job.Served.{Served}
 use Rattle.signer_shared.specs.declared.next.JobEnd.{JobEnd}
@@ -82,24 +81,6 @@ module _ {K : Type 0} (gate : GateMeaning K) (turns : ℕ) where
     pub given_up : served.given_up ≡ replies is_cancelled added
     pub all : served.done + served.refused + served.not_now + served.given_up ≡ length jobs
 
-  -- no job yet
-  pub none_served : (old : List (Receipt K)) (served : Served)
-      → served ≡ record { done = 0; refused = 0; not_now = 0; given_up = 0; out_of_memory = false }
-      → ServedSoFar [] old old served
-  none_served old served e =
-      let P : Served → Type 0 = λ s. ServedSoFar [] old old s in
-      subst P (sym e) (record {
-        added = [];
-        now_is = sym (append-nil old);
-        serves = refl;
-        to_end = refl;
-        done = refl;
-        refused = refl;
-        not_now = refl;
-        given_up = refl;
-        all = refl;
-      })
-
   -- the receipts of one job
   record Own (job : Job) (old now : List (Receipt K)) (end : JobEnd) : Type 0 where
     own : List (Receipt K)
@@ -132,24 +113,6 @@ module _ {K : Type 0} (gate : GateMeaning K) (turns : ℕ) where
         given_up = omega (arith, replies-append is_cancelled s.added o.own, s.given_up, t.given_up to_end, c.given_up);
         all = omega (arith, s.all, c.done, c.refused, c.not_now, c.given_up, c.all to_end, length-append jobs (job ∷ []));
       }
-
-  -- all jobs were served
-  pub all_served : (jobs : List Job) (old now : List (Receipt K)) (served : Served)
-      → ServedSoFar jobs old now served
-      → (added : List (Receipt K)) × (now ≡ old ++ added) × IsServing gate turns jobs added served
-  all_served jobs old now served s = (
-    s.added,
-    s.now_is,
-    record {
-      course = let P : Bool → Type 0 = λ b. MatchBool b (StopsAtAJob gate turns jobs s.added served.given_up) (ServesAll gate turns jobs s.added) in
-          subst P (sym s.to_end) s.serves;
-      done = s.done;
-      refused = s.refused;
-      not_now = s.not_now;
-      given_up = λ h. s.given_up;
-      all = λ h. s.all;
-    },
-  )
 
   -- the work stops at a job
   pub stopped : (before : List Job) (job : Job) (after jobs : List Job) (old mid now : List (Receipt K))

@@ -1,9 +1,8 @@
 -- A value whose words stand one space apart is what is written of it.
-use Rattle.std.proofs.Common.{◌≡◌, ℕ, ◌+◌, ◌<◌, Bool, true, false, not, ◌&&◌, ◌||◌, ◌==◌, inl, inr, List, [], ◌∷◌, ◌++◌, length, filter, drop, get_or, codes, refl, sym, ap, ◌∙◌, append_assoc, arith}
+use Rattle.std.proofs.Common.{◌≡◌, ℕ, ◌+◌, Bool, true, false, not, ◌&&◌, ◌||◌, ◌==◌, inl, inr, List, [], ◌∷◌, ◌++◌, length, filter, codes, refl, sym, ap, ◌∙◌, append_assoc, arith}
 use Rattle.std.specs.List.{slice_split, onto_first, join_with_byte, list_all}
 use Rattle.std.proofs.lemmas.Bool.{cases_Bool}
 use Rattle.std.proofs.lemmas.Bool.Decides.{nat_tests}
-use Rattle.std.proofs.lemmas.List.{at_drop_more}
 use Rattle.std.proofs.lemmas.List.Splits.{join_with_byte-slice_split}
 use Rattle.sign_request.specs.CanonicalText.{joined_texts}
 use Rattle.sign_request.specs.Headers.{is_blank}
@@ -74,8 +73,3 @@ written_as_it_is value e =
     let words = slice_split is_blank value in
     ap (joined_texts (codes " ")) (all_kept words (sym (spaced-words false value) ∙ e))
     ∙ (joined_at 32 words ∙ join_with_byte-slice_split 32 value)
-
--- the test at the next byte
-pub test-more : (in_word : Bool) (value : List ℕ) (i : ℕ) (b : ℕ) → i < length value → b ≡ get_or value i b
-    → is_single_spaced in_word (drop i value) ≡ is_single_spaced in_word (b ∷ drop (i + 1) value)
-test-more in_word value i b within is = at_drop_more (is_single_spaced in_word) value i b within ∙ ap (λ x. is_single_spaced in_word (x ∷ drop (i + 1) value)) (sym is)

@@ -1,14 +1,12 @@
 -- What a query claims is read of its pieces.
-use Rattle.std.proofs.Common.{◌≡◌, ℕ, true, false, inl, inr, List, codes, Option, Some, None, refl, sym, ap, ◌∙◌}
+use Rattle.std.proofs.Common.{◌≡◌, ℕ, false, inl, inr, List, Some, None, sym, ap, ◌∙◌}
 use Rattle.std.specs.Prelude.{string_bytes}
-use Rattle.std.proofs.lemmas.Bool.{and_left, and_right}
 use Rattle.sign_request.specs.Query.{Pair}
-use Rattle.sigv4_core.specs.Signature.{algorithm}
-use Rattle.sigv4_presign.specs.LinkPairs.{algorithm_name, credential_name, date_name, expires_name, headers_name, signature_name}
+use Rattle.sigv4_presign.specs.LinkPairs.{credential_name, date_name, expires_name, signature_name}
 use Rattle.sigv4_presign.specs.CheckedLink.{value_of}
 use Rattle.sigv4_presign.specs.LinkDate.{moment_of_text, expires_of_text}
-use Rattle.sigv4_presign.specs.LinkPieces.{keyed_pieces, ArePiecesOf, value_in, is_value, are_shaped, unsigned_text}
-use Rattle.sigv4_presign.specs.LinkClaim.{GivesAll, GivesValues, IsClaimOf, IsNoClaim}
+use Rattle.sigv4_presign.specs.LinkPieces.{keyed_pieces, ArePiecesOf, value_in, are_shaped, unsigned_text}
+use Rattle.sigv4_presign.specs.LinkClaim.{GivesValues, IsClaimOf, IsNoClaim}
 use Rattle.sigv4_presign.specs.declared.link_claim.LinkClaim.{LinkClaim}
 use Rattle.sigv4_presign.specs.declared.link_claim.LinkValues.{LinkValues}
 use Rattle.sigv4_presign.specs.declared.link_query.Piece.{Piece}
@@ -16,22 +14,6 @@ use Rattle.sigv4_presign.proofs.PiecesRead.{value_in-of, unsigned_text-of}
 use Rattle.sigv4_presign.proofs.LinkShape.{are_shaped-of, value_of-only}
 
 module _ (pieces : List Pair) where
-  -- algorithm and headers are those of a link, and the four texts are these
-  pub values_given : (values : Option LinkValues) → is_value algorithm (value_in algorithm_name pieces) ≡ true
-      → is_value (codes "host") (value_in headers_name pieces) ≡ true
-      → GivesAll (value_in credential_name pieces) (value_in date_name pieces) (value_in expires_name pieces)
-      (value_in signature_name pieces) values
-      → GivesValues pieces values
-  values_given None first host some = rw (first, host) some
-  values_given (Some values) first host are = (rw (first, host, are.0, are.1, are.2, are.3) refl, are)
-
-  pub other_algorithm : is_value algorithm (value_in algorithm_name pieces) ≡ false
-      → are_shaped pieces ≡ false
-  other_algorithm other = and_left _ _ other
-
-  pub other_headers : is_value (codes "host") (value_in headers_name pieces) ≡ false
-      → are_shaped pieces ≡ false
-  other_headers other = and_right _ _ (and_left _ _ other)
 
 module _ (query : List ℕ) (pieces : List Piece) (are : ArePiecesOf query pieces) where
   pub no_values : are_shaped (keyed_pieces pieces) ≡ false → IsNoClaim query

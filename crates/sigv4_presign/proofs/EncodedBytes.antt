@@ -60,6 +60,3 @@ percent_encoded-AreUnreserved (b ∷ bs) h =
 
 pub AreUnreserved-IsAscii : (text : List ℕ) → AreUnreserved text → IsAscii text
 AreUnreserved-IsAscii text h = IsAscii-from_all text (All-weaker (λ b. is_unreserved b ≡ true) (λ b. b < 128) unreserved_small text h)
-
-pub AreEncoded-IsAscii : (text : List ℕ) → AreEncoded text → IsAscii text
-AreEncoded-IsAscii text h = IsAscii-from_all text (All-weaker (λ b. is_encoded_byte b ≡ true) (λ b. b < 128) encoded_small text h)

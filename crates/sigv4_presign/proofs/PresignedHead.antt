@@ -8,10 +8,9 @@ use Rattle.sign_request.specs.PlainTarget.{PlainTarget, target_of}
 use Rattle.sigv4_core.specs.Scope.{Scope}
 use Rattle.sigv4_core.specs.Credential.{Credential as Keys}
 use Rattle.sigv4_core.specs.SignedHead.{target_to_sign, is_before_year_0}
-use Rattle.sigv4_core.specs.declared.sig_error.SigError.{SigError}
 use Rattle.sigv4_presign.specs.LinkPairs.{has_link_name}
-use Rattle.sigv4_presign.specs.PresignedLink.{is_expiry, most_expires, raw_query, presigned_link, refused_as, presigning_of}
-use Rattle.sigv4_presign.specs.declared.presign_error.PresignError.TheVariants.{Moment, Already, Expires, Link}
+use Rattle.sigv4_presign.specs.PresignedLink.{is_expiry, most_expires, raw_query, presigned_link, presigning_of}
+use Rattle.sigv4_presign.specs.declared.presign_error.PresignError.TheVariants.{Already, Expires, Link}
 use Rattle.sigv4_presign.proofs.AcceptedLink.{signable-accepted, with_uri-accepted}
 
 -- a number of seconds is refused where it is no expiry
@@ -19,17 +18,7 @@ is_refused_expiry : (n : ℕ) (b : Bool) → is_expiry n ≡ b → ((n == 0) || 
 is_refused_expiry n b e = grind (arith, nat_tests, e)
 
 module _ (keys : Keys) (scope : Scope) (expires : ℕ) (now : ℤ) (head : Head) where
-  pub presigning-refused : (why : SigError) → target_to_sign scope head ≡ Err why
-      → presigning_of keys scope expires now head ≡ Err (refused_as why)
-  unfolding presigning_of
-  presigning-refused why refused = rw refused refl
-
   module _ (target : PlainTarget) (signable : target_to_sign scope head ≡ Ok target) where
-    pub presigning-early : is_before_year_0 now ≡ true
-        → presigning_of keys scope expires now head ≡ Err Moment
-    unfolding presigning_of
-    presigning-early early = rw (signable, early) refl
-
     module _ (later : is_before_year_0 now ≡ false) where
       pub presigning-already : has_link_name (raw_query target) ≡ true
           → presigning_of keys scope expires now head ≡ Err Already
