@@ -1,7 +1,6 @@
 -- What a query claims is read of its pieces.
 use Rattle.std.proofs.Common.{◌≡◌, ℕ, false, inl, inr, List, Some, None, sym, ap, ◌∙◌}
 use Rattle.std.specs.Prelude.{string_bytes}
-use Rattle.sign_request.specs.Query.{Pair}
 use Rattle.sigv4_presign.specs.LinkPairs.{credential_name, date_name, expires_name, signature_name}
 use Rattle.sigv4_presign.specs.CheckedLink.{value_of}
 use Rattle.sigv4_presign.specs.LinkDate.{moment_of_text, expires_of_text}
@@ -12,8 +11,6 @@ use Rattle.sigv4_presign.specs.declared.link_claim.LinkValues.{LinkValues}
 use Rattle.sigv4_presign.specs.declared.link_query.Piece.{Piece}
 use Rattle.sigv4_presign.proofs.PiecesRead.{value_in-of, unsigned_text-of}
 use Rattle.sigv4_presign.proofs.LinkShape.{are_shaped-of, value_of-only}
-
-module _ (pieces : List Pair) where
 
 module _ (query : List ℕ) (pieces : List Piece) (are : ArePiecesOf query pieces) where
   pub no_values : are_shaped (keyed_pieces pieces) ≡ false → IsNoClaim query
