@@ -10,7 +10,7 @@ use Rattle.signctl_format.specs.declared.credential.ScriptRule.TheVariants.{Now,
 use Rattle.signctl_format.specs.declared.script_version.ScriptVersion.{ScriptVersion}
 use Rattle.signctl_format.specs.Policy.{script_policy}
 use Rattle.signctl_format.specs.ScriptSetup.{setup_in, events_in, event_in}
-use Rattle.signctl_format.proofs.SetupIn.{picked-few}
+use Rattle.signctl_format.proofs.SetupIn.{picked-few, caches-few}
 use Rattle.signctl_audit.specs.Account.{Account, no_lines, account_of, counted, with_line}
 use Rattle.signctl_audit.specs.SessionState.{SessionState, IsSetUp, RepresentsAccount, SessionRepresents}
 use Rattle.signctl_audit.specs.Taking.{HasRoom}
@@ -56,6 +56,11 @@ has-room lines few = record {
 pub lines-fit : (session : SessionState) (a : Account) → RepresentsAccount session a → HasRoom a
     → session.lines < 18446744073709551615
 lines-fit session a stands room = omega (arith, stands.lines, room.lines)
+
+-- so do its caches
+pub caches-fit : (session : SessionState) (a : Account) → RepresentsAccount session a → HasRoom a
+    → session.caches + 1 < 4294967296
+caches-fit session a stands room = omega (arith, stands.caches, caches-few a.items, room.items)
 
 events-few : (a : Account) → length (events_in a.items) ≤ length a.items
 unfolding events_in

@@ -1,10 +1,11 @@
 -- What a line says is decided where its grammar is.
-use Rattle.std.proofs.Common.{◌≡◌, ℕ, true, false, not, List, Option, Some, None, Result, Ok, refl, ap, inl, inr}
-use Rattle.std.specs.Prelude.{◌↔◌}
-use Rattle.std.proofs.lemmas.Bool.{not-true}
-use Rattle.signctl_format.specs.Words.{is_silent}
+use Rattle.std.proofs.Common.{◌≡◌, ℕ, Bool, true, false, not, cond, List, ◌∷◌, Option, Some, None, Result, Ok, refl, sym, ap, ◌∙◌, inl, inr}
+use Rattle.std.specs.Prelude.{◌↔◌, IsTrue}
+use Rattle.std.proofs.lemmas.Bool.{not-true, false≢true}
+use Rattle.signctl_format.specs.Words.{is_silent, words}
 use Rattle.signctl_format.specs.declared.line_error.LineError.{LineError}
-use Rattle.signctl_format.proofs.ReadingSteps.{chosen}
+use Rattle.signctl_format.proofs.Grammars.{named_silent}
+use Rattle.signctl_format.proofs.ReadingSteps.{some_is, chosen}
 use Rattle.signctl_each_line.specs.LineByLine.{understood, said_by, SpellsLine}
 
 -- a line reads as an item exactly where it spells it
@@ -63,3 +64,15 @@ pub decided : {Item : Type 0} (Spells : List ℕ → Item → Type 0) (item_of :
     → IsDecided Spells item_of → (line : List ℕ) (said : Option Item)
     → SpellsLine Spells line said ↔ (said_by item_of line ≡ Ok said)
 decided Spells item_of reads line said = (spelled_said Spells item_of reads line said, said_spelled Spells item_of reads line said)
+
+-- and it says at most one thing
+pub one_thing : {Item : Type 0} (Spells : List ℕ → Item → Type 0) (item_of : List ℕ → Option Item)
+    → IsDecided Spells item_of → (line : List ℕ) (a b : Option Item) → SpellsLine Spells line a
+    → SpellsLine Spells line b → a ≡ b
+one_thing Spells item_of reads line a b first second =
+    ok_is a b (sym (spelled_said Spells item_of reads line a first) ∙ spelled_said Spells item_of reads line b second)
+
+-- a line whose first word says something does so itself
+pub loud_line : (line name : List ℕ) (rest : List (List ℕ)) → words line ≡ name ∷ rest
+    → IsTrue (not (is_silent name)) → IsTrue (not (is_silent line))
+loud_line line name rest parted loud = ap not (named_silent line name rest (is_silent line) parted (not-true (is_silent name) loud) refl)
