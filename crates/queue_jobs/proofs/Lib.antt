@@ -3,3 +3,5 @@ pub mod Places
 pub mod Shares
 pub mod RunSlots
 pub mod Finishes
+pub mod OneJob
+pub mod PromptQueues

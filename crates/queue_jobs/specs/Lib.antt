@@ -2,3 +2,4 @@ pub mod Jobs
 pub mod Served
 pub mod Slots
 pub mod Run
+pub mod Laws

@@ -4,6 +4,7 @@
 
 mod check;
 mod desk;
+pub mod laws;
 mod refused;
 mod rest;
 mod seats;
