@@ -8,26 +8,27 @@ use sign_pool::{FinishError, FinishRefused, Outcome};
 use std::alloc::Global;
 use std::sync::Wait;
 
-/// A pool in which worker 0 was done with one job, and worker 1 found no memory for one.
+/// A pool in which worker 0 was done with one job, worker 1 found no memory for one, and a third is left.
 fn worked<R: Wait>(rt: &R, alloc: Global) -> Option<Stand> {
     let mut stand = stand_of(alloc, 2)?;
     stand.submit(rt, 0, head(alloc)?)?.ok()?;
     stand.submit(rt, 1, head(alloc)?)?.ok()?;
     stand.work(rt, 0, &gate_of(alloc, Answers::Signs)?)?;
     stand.work(rt, 1, &gate_of(alloc, Answers::LoadsWithoutMemory)?)?;
+    stand.submit(rt, 0, head(alloc)?)?.ok()?;
     Some(stand)
 }
 
 /// So many submitters and workers are handed in at first.
 const TOO_FEW: [(usize, usize); 4] = [(1, 2), (2, 1), (1, 1), (0, 0)];
 
-/// Why the pool is not finished with so few seats, and how many workers' answers there are once
-/// the others are handed in too.
+/// Why the pool is not finished with so few seats, and how many workers' answers and how many jobs that are left
+/// there are once the others are handed in too.
 fn finished_late<R: Wait>(
     rt: &R,
     seats: Seats,
     (submits, works): (usize, usize),
-) -> Option<(FinishError, usize)> {
+) -> Option<(FinishError, usize, usize)> {
     let Seats {
         pool,
         mut submitters,
@@ -57,7 +58,7 @@ fn finished_late<R: Wait>(
     submitters.append(&mut late_submitters).ok()?;
     workers.append(&mut late_workers).ok()?;
     let finished = pool.finish(rt, submitters, workers).ok()?;
-    Some((why, finished.answers.len()))
+    Some((why, finished.answers.len(), finished.left.len()))
 }
 
 /// The same of a pool with two slots.
@@ -65,7 +66,7 @@ fn told_late<R: Wait>(
     rt: &R,
     alloc: Global,
     too_few: (usize, usize),
-) -> Option<(FinishError, usize)> {
+) -> Option<(FinishError, usize, usize)> {
     let seats = worked(rt, alloc)?.into_seats(alloc)?;
     finished_late(rt, seats, too_few)
 }
@@ -77,7 +78,7 @@ fn a_pool_waits_for_all_its_seats(rt: HostRuntime) {
         workers: 2,
     };
     for too_few in TOO_FEW {
-        assert!(rt; told_late(&rt, rt.alloc(), too_few) == Some((why, 2)));
+        assert!(rt; told_late(&rt, rt.alloc(), too_few) == Some((why, 2, 1)));
     }
 }
 

@@ -37,7 +37,7 @@ help_text =
     ++ codes "\n"
     ++ codes "  --help, --version    print this text, the version\n"
     ++ codes "\n"
-    ++ codes "exit status: 0 done, 2 no such command, 3 a line was refused, 4 a read failed,\n"
+    ++ codes "exit status: 0 done, 2 no such command, 3 a line is bad, 4 a read failed,\n"
     ++ codes "5 a write failed, 6 out of memory. The lines are described in docs/FORMATS.md.\n"
 
 -- the text of `--version`

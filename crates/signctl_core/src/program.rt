@@ -164,7 +164,7 @@ output; the last three read nothing.
 
   --help, --version    print this text, the version
 
-exit status: 0 done, 2 no such command, 3 a line was refused, 4 a read failed,
+exit status: 0 done, 2 no such command, 3 a line is bad, 4 a read failed,
 5 a write failed, 6 out of memory. The lines are described in docs/FORMATS.md.
 "
     )
