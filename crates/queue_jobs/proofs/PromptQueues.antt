@@ -1,7 +1,6 @@
 -- A finished queue whose gate is the pool's: all its jobs are signed, with at most one load.
-use Rattle.std.proofs.Common.{◌≡◌, ◌≢◌, ℕ, pos, zero, suc, ◌+◌, ◌<◌, ◌≤◌, Bool, true, false, cond, List, [], ◌∷◌, ◌++◌, Option, Some, None, length, replicate, slice_get, option_map, option_and_then, refl, sym, ◌∙◌, ap, subst, arith}
+use Rattle.std.proofs.Common.{◌≡◌, ◌≢◌, ℕ, pos, zero, suc, ◌+◌, ◌<◌, true, false, cond, List, [], ◌∷◌, ◌++◌, Option, Some, None, length, replicate, slice_get, option_map, option_and_then, refl, sym, ◌∙◌, ap, subst, arith}
 use Rattle.std.specs.Prelude.{All, Contains, MatchBool, min}
-use Rattle.std.specs.List.{AllZip}
 use Rattle.std.specs.Duration.{as_nanos}
 use Rattle.std.specs.declared.time.Duration.{Duration}
 use Rattle.std.proofs.lemmas.List.{length-append}
@@ -23,7 +22,7 @@ use Rattle.signctl_format.specs.declared.credential.ScriptRule.TheVariants.{Now}
 use Rattle.signer_book.specs.Settled.{IsEntryOf, IsSettled}
 use Rattle.signer_book.specs.declared.pass.Receipt.{Receipt}
 use Rattle.signer_shared.specs.Pools.{ServesLists}
-use Rattle.signer_shared.specs.Serving.{IsServing, ServesAll, StopsAtAJob, replies}
+use Rattle.signer_shared.specs.Serving.{ServesAll, StopsAtAJob, replies}
 use Rattle.signer_shared.specs.declared.job.Job.{Job}
 use Rattle.signer_shared.specs.declared.job.Served.{Served}
 use Rattle.sign_pool.specs.Cleared.{AreBegunAs, IsBegunAs, joined, lists_of}
@@ -31,7 +30,6 @@ use Rattle.sign_pool.specs.TrueAnswers.{AreGoodAnswers, IsGoodAnswer}
 use Rattle.sign_pool.specs.Work.{job_of, last_reply, outcome_of}
 use Rattle.sign_pool.specs.declared.answer.Answer.{Answer}
 use Rattle.sign_pool.specs.declared.answer.Outcome.TheVariants as outcome
-use Rattle.sign_pool.specs.declared.finished.Finished.{Finished}
 use Rattle.sign_pool.specs.declared.job.PoolJob.{PoolJob}
 use Rattle.pool_jobs.specs.Laws.{SignsAll}
 use Rattle.pool_jobs.specs.Meaning.{pool_credential, pool_meaning}
@@ -42,7 +40,7 @@ use Rattle.pool_jobs.proofs.PoolLists.{prompt}
 use Rattle.queue_jobs.specs.Jobs.{IsQueueJob}
 use Rattle.queue_jobs.specs.Laws.{EveryQueueJobIsSigned}
 use Rattle.queue_jobs.specs.Run.{IsClosedQueue}
-use Rattle.queue_jobs.specs.Served.{DidNotRunOut, IsAnswered, ServesAnswers, ServesHandles}
+use Rattle.queue_jobs.specs.Served.{DidNotRunOut, ServesAnswers, ServesHandles}
 use Rattle.queue_jobs.proofs.OneJob.{before_others, begins, did_not}
 
 module _ {X : Type 0} (P : X → Type 0) where
