@@ -58,9 +58,7 @@ pub(crate) fn cancel_call<K: SigningCredential, D: DeadlineRule<Credential = K>>
     ensures others { LeavesOthers begun.now.id desk.old desk.new }
 {
     let event = GrantEvent::Cancel { call: begun.id };
-    let cancelled = desk.step(&event);
-    drop(event);
-    drop(cancelled);
+    let _cancelled = desk.step(&event);
 }
 
 /// A poll of a call that has not looked at its cache yet.
@@ -81,9 +79,7 @@ pub(crate) fn poll_call<K: SigningCredential, D: DeadlineRule<Credential = K>>(
         call: begun.id,
         now,
     };
-    let reply = desk.step(&event);
-    drop(event);
-    reply
+    desk.step(&event)
 }
 
 /// A source that the asked provider found, which is handed back beside the reply.
@@ -133,9 +129,7 @@ pub(crate) fn give_missing<K: SigningCredential, D: DeadlineRule<Credential = K>
         now,
         answer: Answer::Missing,
     };
-    let reply = desk.step(&event);
-    drop(event);
-    reply
+    desk.step(&event)
 }
 
 /// The asked provider failed.
@@ -157,9 +151,7 @@ pub(crate) fn give_failed<K: SigningCredential, D: DeadlineRule<Credential = K>>
         now,
         answer: Answer::Failed(ERROR),
     };
-    let reply = desk.step(&event);
-    drop(event);
-    reply
+    desk.step(&event)
 }
 
 /// The service made this credential, which is handed back beside the reply.
@@ -206,9 +198,7 @@ pub(crate) fn give_unmade<K: SigningCredential, D: DeadlineRule<Credential = K>>
         now,
         answer: Made::Failed(ERROR),
     };
-    let refused = desk.step(&event);
-    drop(event);
-    drop(refused);
+    let _refused = desk.step(&event);
 }
 
 /// The source that a provider found.

@@ -328,8 +328,7 @@ where
         ensures others { KeepsOthers (meanings_of P.ProvideCredential G.GrantCredential.own) grant.begun.id
             (record { old = self.old; new = self.new }) }
     {
-        cancel_call(&mut self.desk, &grant.begun);
-        drop(grant);
+        cancel_call(&mut self.desk, &grant.begun)
     }
 
     /// The desk that the granter drives.

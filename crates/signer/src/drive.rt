@@ -94,9 +94,7 @@ pub(crate) fn poll_call<K: SigningCredential, D: DeadlineRule<Credential = K>>(
         call: begun.id,
         now,
     };
-    let reply = desk.step(&event);
-    drop(event);
-    reply
+    desk.step(&event)
 }
 
 /// A credential that the asked provider found, which is handed back beside the reply.
@@ -146,9 +144,7 @@ pub(crate) fn give_missing<K: SigningCredential, D: DeadlineRule<Credential = K>
         now,
         answer: Answer::Missing,
     };
-    let reply = desk.step(&event);
-    drop(event);
-    reply
+    desk.step(&event)
 }
 
 /// The asked provider failed.
@@ -170,9 +166,7 @@ pub(crate) fn give_failed<K: SigningCredential, D: DeadlineRule<Credential = K>>
         now,
         answer: Answer::Failed(ERROR),
     };
-    let reply = desk.step(&event);
-    drop(event);
-    reply
+    desk.step(&event)
 }
 
 /// The service signed this head, which is handed back beside the reply.
@@ -212,9 +206,7 @@ pub(crate) fn give_rejected<K: SigningCredential, D: DeadlineRule<Credential = K
         call: begun.id,
         answer: Verdict::Failed(ERROR),
     };
-    let refused = desk.step(&event);
-    drop(event);
-    drop(refused);
+    let _refused = desk.step(&event);
 }
 
 /// The head that a call began with.

@@ -336,9 +336,7 @@ where
         ensures others { KeepsOthers (meanings_of P.ProvideCredential S.SignRequest.own) sign.begun.id
             (record { old = self.old; new = self.new }) }
     {
-        let wake = cancel_call(&mut self.desk, &sign.begun);
-        drop(sign);
-        wake
+        cancel_call(&mut self.desk, &sign.begun)
     }
 
     /// The desk that the signer drives.
