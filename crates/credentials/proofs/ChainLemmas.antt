@@ -1,10 +1,10 @@
 -- A chain that goes on past a provider, and that answers.
-use Rattle.std.proofs.Common.{◌≡◌, ◌++◌, ◌∷◌, [], ◌+◌, ◌⊎◌, inl, inr, true, false, ℕ, suc, List, take, drop, length, Option, Some, None, slice_get, drop-cons, get_or, add-one, sym, ◌∙◌, ap, subst, refl, ◌<◌}
+use Rattle.std.proofs.Common.{◌≡◌, ◌++◌, ◌∷◌, [], ◌+◌, inl, inr, true, false, ℕ, suc, List, take, drop, length, Option, Some, None, Result, Ok, Err, OnErr, slice_get, drop-cons, get_or, add-one, sym, ◌∙◌, ap, subst, refl, ◌<◌}
 use Rattle.std.specs.Prelude.{IfSome, IsSomeAnd, MatchOption}
 use Rattle.std.proofs.Math.Seq.{take-suc}
 use Rattle.std.proofs.lemmas.List.{take-append-drop}
 use Rattle.std.proofs.lemmas.Option.{slice_get_within, slice_get_read, get_or_from_slice_get}
-use Rattle.std.proofs.lemmas.List.Elements.{All-push, All-head, All-tail}
+use Rattle.std.proofs.lemmas.List.Elements.{All-nil, All-push, All-head, All-tail}
 use Rattle.credentials.specs.Polled.{CanBePolledAgain}
 use Rattle.credentials.specs.declared.polled.Polled.{Polled}
 use Rattle.credentials.specs.declared.polled.Polled.TheVariants.{Pending, Ready, Failed, OutOfMemory}
@@ -39,13 +39,21 @@ module _ {P K : Type 0} (gives : P → Polled (Option K) → Type 0) where
       → AllPassedOver gives (take k xs) → gives p answer → FirstGives gives xs answer
   first-gives xs k p answer e before here = (take k xs, p, drop (k + 1) xs, cut-at xs k p e, before, here)
 
+  -- where the first load can't be started for want of memory, the first provider gives that
+  pub first-without-memory : {L E : Type 0} (xs ys : List P) (p : P) (begun : Result L E) → ys ≡ xs
+      → 0 < length ys → ((q : P) → p ≡ get_or ys 0 q) → gives p OutOfMemory
+      → OnErr begun (ChainGives gives xs OutOfMemory)
+  first-without-memory xs ys p (Ok load) same within here h = tt
+  first-without-memory xs ys p (Err e) same within here h =
+      let first : slice_get ys 0 ≡ Some p = slice_get_read ys (length ys) 0 p refl within (here p) in
+      first-gives xs 0 p OutOfMemory (subst (λ (zs : List P). slice_get zs 0 ≡ Some p) same first)
+      (All-nil (λ q. MayBePassedOver (gives q))) h
+
   -- an answer after which the next provider is asked shows that this one may be passed over
   pub passed-over : (p : P) (answer : Polled (Option K)) → is_passed_over answer ≡ true
-      → (answer ≡ OutOfMemory) ⊎ gives p answer → MayBePassedOver (gives p)
-  passed-over p (Ready None) is (inl e) = cc
-  passed-over p (Ready None) is (inr h) = inl h
-  passed-over p (Failed e) is (inl e') = cc
-  passed-over p (Failed e) is (inr h) = inr (e, h)
+      → gives p answer → MayBePassedOver (gives p)
+  passed-over p (Ready None) is h = inl h
+  passed-over p (Failed e) is h = inr (e, h)
   passed-over p (Ready (Some c)) is h = cc
   passed-over p Pending is h = cc
   passed-over p OutOfMemory is h = cc
@@ -53,14 +61,12 @@ module _ {P K : Type 0} (gives : P → Polled (Option K) → Type 0) where
   -- and every other answer is the chain's
   pub answers-chain : (xs : List P) (k : ℕ) (p : P) (answer : Polled (Option K)) → slice_get xs k ≡ Some p
       → AllPassedOver gives (take k xs) → is_passed_over answer ≡ false
-      → (answer ≡ OutOfMemory) ⊎ gives p answer → ChainGives gives xs answer
+      → gives p answer → ChainGives gives xs answer
   answers-chain xs k p (Ready None) e before is h = cc
   answers-chain xs k p (Failed f) e before is h = cc
-  answers-chain xs k p (Ready (Some c)) e before is (inl oom) = cc
-  answers-chain xs k p (Ready (Some c)) e before is (inr h) = first-gives xs k p (Ready (Some c)) e before h
-  answers-chain xs k p Pending e before is (inl oom) = cc
-  answers-chain xs k p Pending e before is (inr h) = first-gives xs k p Pending e before h
-  answers-chain xs k p OutOfMemory e before is h = tt
+  answers-chain xs k p (Ready (Some c)) e before is h = first-gives xs k p (Ready (Some c)) e before h
+  answers-chain xs k p Pending e before is h = first-gives xs k p Pending e before h
+  answers-chain xs k p OutOfMemory e before is h = first-gives xs k p OutOfMemory e before h
 
 module _ {P L : Type 0} (started ready : P → L → Type 0) where
   -- the open load is the provider's at that place
@@ -115,7 +121,7 @@ module _ {P K L : Type 0} (gives : P → Polled (Option K) → Type 0) (started 
   pub next-gives : (xs : List P) (load : ChainProgress L) (k : ℕ) (o : Option L) (p : P)
       (answer : Polled (Option K)) → record { place = k; open_load = o } ≡ load → slice_get xs k ≡ Some p
       → is_passed_over answer ≡ false
-      → (IfSome o (λ l. started p l) → (answer ≡ OutOfMemory) ⊎ gives p answer)
+      → (IfSome o (λ l. started p l) → gives p answer)
       → ChainStarted gives started xs load → ChainGives gives xs answer
   next-gives xs load k o p answer at e last gave h =
       let h' : ChainStarted gives started xs (record { place = k; open_load = o }) = subst (λ (l : ChainProgress L). ChainStarted gives started xs l) (sym at) h in
@@ -124,7 +130,7 @@ module _ {P K L : Type 0} (gives : P → Polled (Option K) → Type 0) (started 
   -- past the provider the load is started at the next place
   pub next-passed : (xs : List P) (load : ChainProgress L) (k : ℕ) (o : Option L) (p : P)
       (answer : Polled (Option K)) → record { place = k; open_load = o } ≡ load → slice_get xs k ≡ Some p
-      → is_passed_over answer ≡ true → (IfSome o (λ l. started p l) → (answer ≡ OutOfMemory) ⊎ gives p answer)
+      → is_passed_over answer ≡ true → (IfSome o (λ l. started p l) → gives p answer)
       → ChainStarted gives started xs load
       → ChainStarted gives started xs (record { place = k + 1; open_load = None })
   next-passed xs load k o p answer at e passes gave h =

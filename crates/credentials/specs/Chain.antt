@@ -1,6 +1,6 @@
 -- Providers that are asked in order. Of each provider the definitions take what it gives, and which of its
 -- loads it started and has ready, all in one context.
-use Rattle.std.specs.Prelude.{◌≡◌, ◌++◌, ◌∷◌, ◌+◌, ◌⊎◌, ⊤, ℕ, Bool, true, false, List, All, take, drop, Option, Some, None, IfSome, IsSomeAnd, MatchOption, slice_get}
+use Rattle.std.specs.Prelude.{◌≡◌, ◌++◌, ◌∷◌, ◌+◌, ◌⊎◌, ℕ, Bool, true, false, List, All, take, drop, Option, Some, None, IfSome, IsSomeAnd, MatchOption, slice_get}
 use Rattle.sign_base.specs.Error.{ErrorParts}
 use Rattle.credentials.specs.declared.polled.Polled.{Polled}
 use Rattle.credentials.specs.declared.polled.Polled.TheVariants.{Pending, Ready, Failed, OutOfMemory}
@@ -34,13 +34,14 @@ module _ {P K : Type 0} (gives : P → Polled (Option K) → Type 0) where
       (before : List P) × (p : P) × (after : List P) × (providers ≡ before ++ p ∷ after)
       × AllPassedOver before × gives p answer
 
-  -- what a chain gives: a credential that was found first, or Missing where none is found; it never fails
+  -- what a chain gives: Missing where no provider finds a credential, else what the first gives that is not
+  -- passed over; it never fails
   abbrev pub ChainGives : List P → Polled (Option K) → Type 0
   ChainGives providers (Ready (Some c)) = FirstGives providers (Ready (Some c))
   ChainGives providers (Ready None) = AllPassedOver providers
   ChainGives providers (Failed e) = ⊥
   ChainGives providers Pending = FirstGives providers Pending
-  ChainGives providers OutOfMemory = ⊤
+  ChainGives providers OutOfMemory = FirstGives providers OutOfMemory
 
 -- an open load was started by the provider that was asked last, and each one before that, or before the one
 -- that is asked next, may be passed over

@@ -1,5 +1,5 @@
 //! How a chain asks its providers.
-ghost use Rattle.std.specs.Prelude.{◌≡◌, ◌≢◌, ◌+◌, ◌^◌, ◌<◌, ◌⊎◌, length, [], IfOk, IsOk, IfSome, IsSome, IfNone, None, Some, OnErr, MatchOption};
+ghost use Rattle.std.specs.Prelude.{◌≡◌, ◌≢◌, ◌+◌, ◌^◌, ◌<◌, ◌≤◌, length, [], IfOk, IsOk, IfSome, IsSome, IfNone, None, Some, OnErr, MatchOption};
 ghost use Rattle.credentials.specs.Chain.{ChainStarted, ChainReady, ChainGives, is_passed_over};
 ghost use Rattle.credentials.specs.Polled.{CanBePolledAgain};
 
@@ -89,6 +89,7 @@ impl<P: ProvideCredential> ProvideCredential for ProvideCredentialChain<P> {
             (λ p l. P.ready p ctx.now l) self.now load.old
             → result ≢ Polled.Pending }
         ensures pending { result ≡ Polled.Pending → IsSome load.new.open_load }
+        ensures onward { load.old.place ≤ load.new.place }
         ensures gives { ChainStarted (λ p a. P.gives p ctx.now a)
             (λ p l. P.started p ctx.now l) self.now load.old
             → ChainGives (λ p a. P.gives p ctx.now a) self.now result }
@@ -112,7 +113,8 @@ fn poll_next<P: ProvideCredential>(
     load: &mut ChainLoad<P::Load>,
 ) -> Option<Polled<Option<P::Credential>>>
     requires { load.old.place < length chain.now }
-    ensures next { IfNone result (load.new.place ≡ load.old.place + 1) }
+    ensures next { MatchOption result (load.new.place ≡ load.old.place + 1)
+        (λ answer. load.new.place ≡ load.old.place) }
     ensures passed { IfNone result
         (ChainStarted (λ p a. P.gives p ctx.now a) (λ p l. P.started p ctx.now l) chain.now load.old
         → ChainStarted (λ p a. P.gives p ctx.now a) (λ p l. P.started p ctx.now l) chain.now load.new) }
@@ -162,7 +164,7 @@ fn poll_provider<P: ProvideCredential>(
         (λ l. P.ready provider.now ctx.now l)
         → result ≢ Polled.Pending }
     ensures gives { IfSome open_load.old (λ l. P.started provider.now ctx.now l)
-        → (result ≡ Polled.OutOfMemory) ⊎ P.gives provider.now ctx.now result }
+        → P.gives provider.now ctx.now result }
     ensures pending { result ≡ Polled.Pending → IsSome open_load.new }
 {
     let mut load = match open_load.take() {

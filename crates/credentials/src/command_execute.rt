@@ -10,9 +10,10 @@ use crate::Polled;
 use crate::unsupported::unsupported;
 use sign_base::NoMemory;
 use std::alloc::Global;
+use std::fmt;
 
-/// What a command left.
-#[derive(Debug, Drop)]
+/// What a command left. `Debug` shows its status, and of what it wrote the number of bytes alone.
+#[derive(Drop)]
 pub struct CommandOutput {
     /// Its exit status, 0 where it succeeded.
     pub status: i32,
@@ -28,6 +29,24 @@ impl CommandOutput {
         ensures { IsTrue result ↔ (self.now.status ≡ pos 0) }
     {
         self.status == 0
+    }
+}
+
+impl fmt::Debug for CommandOutput {
+    ghost use Rattle.std.specs.Fmt.{signed_decimal};
+    ghost use Rattle.std.specs.Prelude.{◌++◌, Some, codes, decimal, vec_len};
+
+    ghost debug_output = { λ o. Some (codes "CommandOutput(status " ++ signed_decimal o.status ++ codes ", "
+        ++ decimal (vec_len o.stdout) ++ codes " bytes, " ++ decimal (vec_len o.stderr)
+        ++ codes " bytes of errors)") };
+
+    fn fmt<W: fmt::Write>(&self, f: &mut fmt::Formatter<W>) -> fmt::Result {
+        let (out, errors) = (self.stdout.len(), self.stderr.len());
+        write!(
+            f,
+            "CommandOutput(status {}, {out} bytes, {errors} bytes of errors)",
+            self.status
+        )
     }
 }
 

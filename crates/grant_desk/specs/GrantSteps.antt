@@ -50,10 +50,18 @@ pub record IsGrantStep {K D : Type 0} (policy : Policy K D) (event : GrantEvent 
   pub setup : setup_of new ≡ setup_of old
   pub unchanged : GrantUnchangedBy reply old new
 
+-- what a caller knows of a step of a run: besides, where clones of a credential take no memory, it runs out of
+-- memory at a begin alone
+abbrev pub IsGrantRunStep : {K D : Type 0} → Policy K D → (FreeClones : Type 0) → GrantEvent K → GrantState K D
+    → GrantReply K → GrantState K D → Type 0
+IsGrantRunStep policy FreeClones event old reply new =
+    IsGrantStep policy event old reply new × (FreeClones → RunsOutAtBegins event reply)
+
 -- each event in turn has the reply at its place, by a step from the desk that the step before it left
-abbrev pub AreGrantSteps : {K D : Type 0} → Policy K D → List (GrantEvent K) → List (GrantReply K)
-    → GrantState K D → GrantState K D → Type 0
-AreGrantSteps policy events replies old new = StepsBy (IsGrantStep policy) events replies old new
+abbrev pub AreGrantSteps : {K D : Type 0} → Policy K D → (FreeClones : Type 0) → List (GrantEvent K)
+    → List (GrantReply K) → GrantState K D → GrantState K D → Type 0
+AreGrantSteps policy FreeClones events replies old new =
+    StepsBy (IsGrantRunStep policy FreeClones) events replies old new
 
 -- an event with its reply
 abbrev pub grant_entry_of : {K : Type 0} → GrantEvent K → GrantReply K → GrantEntry K

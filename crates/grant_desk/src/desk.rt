@@ -241,7 +241,7 @@ impl<K: SigningCredential, D: DeadlineRule<Credential = K>> GrantDesk<K, D> {
     pub fn run(&mut self, events: &[GrantEvent<K>]) -> Result<Vec<GrantReply<K>>, RunError>
         ensures replies { IfOk result (λ replies. length replies.items ≡ length events.now) }
         ensures steps { IfOk result (λ replies.
-            AreGrantSteps (policy_of K.valid K.valid_at D.deadline)
+            AreGrantSteps (policy_of K.valid K.valid_at D.deadline) (ClonesAreFree K.clones_freely)
             events.now replies.items self.old self.new) }
         ensures represents { IfOk result (λ replies. (entries : List (GrantEntry K))
             → GrantRepresents (policy_of K.valid K.valid_at D.deadline) self.old entries

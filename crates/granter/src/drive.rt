@@ -58,7 +58,9 @@ pub(crate) fn cancel_call<K: SigningCredential, D: DeadlineRule<Credential = K>>
     ensures others { LeavesOthers begun.now.id desk.old desk.new }
 {
     let event = GrantEvent::Cancel { call: begun.id };
-    let _cancelled = desk.step(&event);
+    let cancelled = desk.step(&event);
+    drop(event);
+    drop(cancelled);
 }
 
 /// A poll of a call that has not looked at its cache yet.
@@ -79,7 +81,9 @@ pub(crate) fn poll_call<K: SigningCredential, D: DeadlineRule<Credential = K>>(
         call: begun.id,
         now,
     };
-    desk.step(&event)
+    let reply = desk.step(&event);
+    drop(event);
+    reply
 }
 
 /// A source that the asked provider found, which is handed back beside the reply.
@@ -129,7 +133,9 @@ pub(crate) fn give_missing<K: SigningCredential, D: DeadlineRule<Credential = K>
         now,
         answer: Answer::Missing,
     };
-    desk.step(&event)
+    let reply = desk.step(&event);
+    drop(event);
+    reply
 }
 
 /// The asked provider failed.
@@ -151,7 +157,9 @@ pub(crate) fn give_failed<K: SigningCredential, D: DeadlineRule<Credential = K>>
         now,
         answer: Answer::Failed(ERROR),
     };
-    desk.step(&event)
+    let reply = desk.step(&event);
+    drop(event);
+    reply
 }
 
 /// The service made this credential, which is handed back beside the reply.
@@ -198,7 +206,9 @@ pub(crate) fn give_unmade<K: SigningCredential, D: DeadlineRule<Credential = K>>
         now,
         answer: Made::Failed(ERROR),
     };
-    let _refused = desk.step(&event);
+    let refused = desk.step(&event);
+    drop(event);
+    drop(refused);
 }
 
 /// The source that a provider found.

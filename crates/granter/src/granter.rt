@@ -328,7 +328,8 @@ where
         ensures others { KeepsOthers (meanings_of P.ProvideCredential G.GrantCredential.own) grant.begun.id
             (record { old = self.old; new = self.new }) }
     {
-        cancel_call(&mut self.desk, &grant.begun)
+        cancel_call(&mut self.desk, &grant.begun);
+        drop(grant);
     }
 
     /// The desk that the granter drives.

@@ -1,11 +1,14 @@
 -- The lists of a pool: each is of its worker's handle, with numbers that rise, and together they have all
 -- jobs.
-use Rattle.std.proofs.Common.{◌≡◌, ℕ, pos, zero, suc, ◌+◌, ◌*◌, ◌/◌, ◌%◌, ◌≤◌, ◌<◌, ◌==◌, nat_lt, Bool, true, false, List, [], ◌∷◌, Some, filter, length, map, replicate, slice_get, option_map, option_and_then, refl, sym, ◌∙◌, ap, subst, arith}
+use Rattle.std.proofs.Common.{◌≡◌, ℕ, pos, zero, suc, ◌+◌, ◌*◌, ◌/◌, ◌%◌, ◌≤◌, ◌<◌, ◌==◌, nat_lt, Bool, true, false, List, [], ◌∷◌, Some, filter, length, map, replicate, slice_get, Option, None, option_map, option_and_then, refl, sym, ◌∙◌, ap, subst, arith}
+use Rattle.std.specs.Duration.{as_nanos}
 use Rattle.std.specs.List.{range_with_len}
+use Rattle.std.specs.declared.time.Duration.{Duration}
 use Rattle.std.proofs.Math.Nat.{mul-le-mul_left}
 use Rattle.std.proofs.lemmas.Bool.Decides.{nat_tests}
 use Rattle.std.proofs.lemmas.List.{length-map}
 use Rattle.std.proofs.lemmas.Nat.{mod_below}
+use Rattle.sequential_signer.specs.LawsOfCaches.{serves_at}
 use Rattle.sequential_signer.specs.Setup.{Handle}
 use Rattle.signctl_format.specs.Policy.{script_policy}
 use Rattle.signctl_format.specs.declared.credential.ScriptRule.{ScriptRule}
@@ -46,17 +49,18 @@ quotient_rises n a b more lt same = by_test (nat_lt (a / n) (b / n)) refl
         let products : n * (b / n) ≤ n * (a / n) = mul-le-mul_left n le in
         absurd (omega arith)
 
-module _ (workers : ℕ) (some : 0 < workers) where
-  worker_job : (first number : ℕ) → first < workers
-      → IsWorkerJob script_policy (pool_setup workers) pool_credential (pos 0) first (pool_job first number)
-  worker_job first number lt = record {
-    under = refl;
-    cache = ap (option_map (λ (h : Handle). h.cache)) (handle_at workers first lt);
-    rule = Now;
-    ruled = ap (option_and_then (λ (h : Handle). slice_get {X = ScriptRule} (Now ∷ []) h.rule)) (handle_at workers first lt);
-    lasts = refl;
-  }
+-- a job of a worker's handle that has no duration
+pub worker_job : (workers : ℕ) (job : Job) → job.call.handle < workers → job.expires_in ≡ None
+    → IsWorkerJob script_policy (pool_setup workers) pool_credential (pos 0) job.call.handle job
+worker_job workers job lt none = record {
+  under = refl;
+  cache = ap (option_map (λ (h : Handle). h.cache)) (handle_at workers job.call.handle lt);
+  rule = Now;
+  ruled = ap (option_and_then (λ (h : Handle). slice_get {X = ScriptRule} (Now ∷ []) h.rule)) (handle_at workers job.call.handle lt);
+  lasts = subst (λ (d : Option Duration). serves_at script_policy pool_credential Now (option_map as_nanos d) (pos 0) ≡ true) (sym none) refl;
+}
 
+module _ (workers : ℕ) (some : 0 < workers) where
   -- the jobs of a worker among those from one on
   abbrev jobs_from : ℕ → ℕ → ℕ → List Job
   jobs_from first at n = map (λ j. pool_job first (j / workers)) (filter (λ j. j % workers == first) (range_with_len at n))
@@ -77,7 +81,7 @@ module _ (workers : ℕ) (some : 0 < workers) where
       by_test true t later =
           let here : at % workers ≡ first = grind (arith, nat_tests) in
           rw t (
-            worker_job first (at / workers) lt,
+            worker_job workers (pool_job first (at / workers)) lt refl,
             above at (omega arith) here,
             later (suc (at / workers)) (λ j le same. quotient_rises workers at j some (omega arith) (here ∙ sym same)),
           )

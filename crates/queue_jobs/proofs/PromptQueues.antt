@@ -1,8 +1,6 @@
 -- A finished queue whose gate is the pool's: all its jobs are signed, with at most one load.
-use Rattle.std.proofs.Common.{◌≡◌, ◌≢◌, ℕ, pos, zero, suc, ◌+◌, ◌<◌, ◌≤◌, Bool, true, false, cond, List, [], ◌∷◌, ◌++◌, Option, Some, None, length, replicate, slice_get, option_map, option_and_then, refl, sym, ◌∙◌, ap, subst, arith}
+use Rattle.std.proofs.Common.{◌≡◌, ◌≢◌, ℕ, pos, suc, ◌+◌, ◌<◌, false, cond, List, [], ◌∷◌, ◌++◌, Option, None, length, refl, sym, ◌∙◌, ap, subst, arith}
 use Rattle.std.specs.Prelude.{All, Contains, MatchBool, min}
-use Rattle.std.specs.List.{AllZip}
-use Rattle.std.specs.Duration.{as_nanos}
 use Rattle.std.specs.declared.time.Duration.{Duration}
 use Rattle.std.proofs.lemmas.List.{length-append}
 use Rattle.std.proofs.lemmas.List.Sums.{sum_by-append}
@@ -10,20 +8,18 @@ use Rattle.std.proofs.lemmas.Option.{slice_get_within, get_or_from_slice_get}
 use Rattle.std.proofs.lemmas.List.Elements.{All-nil, All-cons, All-head, All-tail, All-contains, All-weaker}
 use Rattle.wake_lock.specs.declared.CallId.{CallId}
 use Rattle.sequential_signer.specs.Legal.{IsLegal}
-use Rattle.sequential_signer.specs.LawsOfCaches.{serves_at}
 use Rattle.sequential_signer.specs.Phase.{is_not_now}
 use Rattle.sequential_signer.specs.Replies.{is_cancelled, is_done, is_refused}
-use Rattle.sequential_signer.specs.Setup.{Handle, Setup}
+use Rattle.sequential_signer.specs.Setup.{Setup}
 use Rattle.sequential_signer.specs.declared.event.Entry.{Entry}
 use Rattle.sequential_signer.specs.declared.event.Event.TheVariants as event
 use Rattle.signctl_format.specs.Policy.{script_policy}
 use Rattle.signctl_format.specs.declared.credential.ScriptCredential.{ScriptCredential}
 use Rattle.signctl_format.specs.declared.credential.ScriptRule.{ScriptRule}
-use Rattle.signctl_format.specs.declared.credential.ScriptRule.TheVariants.{Now}
 use Rattle.signer_book.specs.Settled.{IsEntryOf, IsSettled}
 use Rattle.signer_book.specs.declared.pass.Receipt.{Receipt}
 use Rattle.signer_shared.specs.Pools.{ServesLists}
-use Rattle.signer_shared.specs.Serving.{IsServing, ServesAll, StopsAtAJob, replies}
+use Rattle.signer_shared.specs.Serving.{ServesAll, StopsAtAJob, replies}
 use Rattle.signer_shared.specs.declared.job.Job.{Job}
 use Rattle.signer_shared.specs.declared.job.Served.{Served}
 use Rattle.sign_pool.specs.Cleared.{AreBegunAs, IsBegunAs, joined, lists_of}
@@ -31,18 +27,17 @@ use Rattle.sign_pool.specs.TrueAnswers.{AreGoodAnswers, IsGoodAnswer}
 use Rattle.sign_pool.specs.Work.{job_of, last_reply, outcome_of}
 use Rattle.sign_pool.specs.declared.answer.Answer.{Answer}
 use Rattle.sign_pool.specs.declared.answer.Outcome.TheVariants as outcome
-use Rattle.sign_pool.specs.declared.finished.Finished.{Finished}
 use Rattle.sign_pool.specs.declared.job.PoolJob.{PoolJob}
 use Rattle.pool_jobs.specs.Laws.{SignsAll}
 use Rattle.pool_jobs.specs.Meaning.{pool_credential, pool_meaning}
-use Rattle.pool_jobs.specs.PromptGates.{AreWorkerJobs, AreWorkerLists, IsWorkerJob, jobs_in}
+use Rattle.pool_jobs.specs.PromptGates.{AreWorkerJobs, AreWorkerLists, jobs_in}
 use Rattle.pool_jobs.specs.Setup.{pool_setup}
 use Rattle.pool_jobs.proofs.PoolLaw.{prompt_calls_are_signed}
-use Rattle.pool_jobs.proofs.PoolLists.{prompt}
+use Rattle.pool_jobs.proofs.PoolLists.{prompt, worker_job}
 use Rattle.queue_jobs.specs.Jobs.{IsQueueJob}
 use Rattle.queue_jobs.specs.Laws.{EveryQueueJobIsSigned}
 use Rattle.queue_jobs.specs.Run.{IsClosedQueue}
-use Rattle.queue_jobs.specs.Served.{DidNotRunOut, IsAnswered, ServesAnswers, ServesHandles}
+use Rattle.queue_jobs.specs.Served.{DidNotRunOut, ServesAnswers, ServesHandles}
 use Rattle.queue_jobs.proofs.OneJob.{before_others, begins, did_not}
 
 module _ {X : Type 0} (P : X → Type 0) where
@@ -53,15 +48,6 @@ module _ {X : Type 0} (P : X → Type 0) where
   all_right : (xs ys : List X) → All P (xs ++ ys) → All P ys
   all_right [] ys h = h
   all_right (x ∷ xs) ys h = all_right xs ys (All-tail P x (xs ++ ys) h)
-
--- the handle of each worker
-abbrev pool_handle : Handle
-pool_handle = record { cache = 0; rule = 0 }
-
-handle_at : (workers n : ℕ) → n < workers → slice_get (replicate workers pool_handle) n ≡ Some pool_handle
-handle_at zero n lt = absurd (omega arith)
-handle_at (suc workers) zero lt = refl
-handle_at (suc workers) (suc n) lt = handle_at workers n (omega arith)
 
 -- the answer's call was not answered `NotNow`
 abbrev IsNotNotNow : Answer → Type 0
@@ -101,17 +87,6 @@ in_journal : (journal : List (Entry ScriptCredential)) (r : Receipt ScriptCreden
 in_journal journal r at = (r.place, slice_get_within journal r.place r.entry at, get_or_from_slice_get journal r.place r.entry r.entry at)
 
 module _ (workers : ℕ) (journal : List (Entry ScriptCredential)) (submitted : List PoolJob) (queue_jobs : All IsQueueJob submitted) where
-  -- a job without a duration
-  worker_job : (handle number : ℕ) (job : PoolJob) → handle < workers → job.expires_in ≡ None
-      → IsWorkerJob script_policy (pool_setup workers) pool_credential (pos 0) handle (job_of job handle number)
-  worker_job handle number job lt none = record {
-    under = refl;
-    cache = ap (option_map (λ (h : Handle). h.cache)) (handle_at workers handle lt);
-    rule = Now;
-    ruled = ap (option_and_then (λ (h : Handle). slice_get {X = ScriptRule} (Now ∷ []) h.rule)) (handle_at workers handle lt);
-    lasts = subst (λ (d : Option Duration). serves_at script_policy pool_credential Now (option_map as_nanos d) (pos 0) ≡ true) (sym none) refl;
-  }
-
   -- an answer's call was begun without a duration
   no_duration : (call : CallId) (answer : Answer) (head : _) (expires_in : Option Duration)
       (x : Receipt ScriptCredential) → AreBegunAs submitted journal answer → IsInJournal journal x
@@ -156,7 +131,7 @@ module _ (workers : ℕ) (journal : List (Entry ScriptCredential)) (submitted : 
       let one : replies_over own ≡ 1 = omega (arith, s.all out, s.done, s.refused, s.not_now, s.given_up out) in
       record {
         jobs = job ∷ others.jobs;
-        are = (worker_job handle number here.job lt none, omega arith, others.are);
+        are = (worker_job workers (job_of here.job handle number) lt none, omega arith, others.are);
         count = ap suc others.count;
         serves = before_others pool_meaning 1 job others.jobs own rest receipts course others.serves is;
         all = ap (λ (l : List (Receipt ScriptCredential)). replies_over l) is ∙ replies_over-append own rest ∙ omega (arith, one, others.all);

@@ -5,8 +5,8 @@ use std::alloc::{AllocError, AllocFailed};
 use std::error::Error;
 use std::fmt;
 
-/// An allocation failed; what the call had taken is handed back.
-#[derive(Debug, Drop)]
+/// An allocation failed; what the call had taken is handed back. `Debug` shows nothing of that.
+#[derive(Drop)]
 pub struct NoMemory<B> {
     pub back: B,
 }
@@ -19,7 +19,15 @@ impl<B> fmt::Display for NoMemory<B> {
     }
 }
 
-impl<B: fmt::Debug + Drop> Error for NoMemory<B> {}
+impl<B> fmt::Debug for NoMemory<B> {
+    ghost debug_output = { λ _. Some (codes "NoMemory(***)") };
+
+    fn fmt<W: fmt::Write>(&self, f: &mut fmt::Formatter<W>) -> fmt::Result {
+        f.write_str("NoMemory(***)")
+    }
+}
+
+impl<B: Drop> Error for NoMemory<B> {}
 
 impl From<AllocError> for NoMemory<()> {
     fn from(_: AllocError) -> NoMemory<()> {

@@ -12,6 +12,7 @@ use Rattle.desk_parts.specs.Tables.{setup_of}
 use Rattle.sign_desk.specs.Change.{UnchangedBy}
 use Rattle.sign_desk.specs.Cause.{cause_of, IsCaused}
 use Rattle.sign_desk.specs.CachesAfter.{CachesAfter}
+use Rattle.sign_desk.specs.Memory.{RunsOutAtHeads}
 
 -- what a caller knows of a step at this event: the desk before it, its reply, and the desk after it
 pub record IsStep {K D : Type 0} (policy : Policy K D) (event : Event K) (old : DeskState K D)
@@ -26,7 +27,14 @@ pub record IsStep {K D : Type 0} (policy : Policy K D) (event : Event K) (old : 
   pub setup : setup_of new ≡ setup_of old
   pub unchanged : UnchangedBy reply old new
 
--- each event in turn has the reply at its place, by a step from the desk that the step before it left
-abbrev pub AreSteps : {K D : Type 0} → Policy K D → List (Event K) → List (Reply K) → DeskState K D
+-- what a caller knows of a step of a run: besides, where clones of a credential take no memory, it runs out of
+-- memory at an event that carries a head alone
+abbrev pub IsRunStep : {K D : Type 0} → Policy K D → (FreeClones : Type 0) → Event K → DeskState K D → Reply K
     → DeskState K D → Type 0
-AreSteps policy events replies old new = StepsBy (IsStep policy) events replies old new
+IsRunStep policy FreeClones event old reply new =
+    IsStep policy event old reply new × (FreeClones → RunsOutAtHeads event reply)
+
+-- each event in turn has the reply at its place, by a step from the desk that the step before it left
+abbrev pub AreSteps : {K D : Type 0} → Policy K D → (FreeClones : Type 0) → List (Event K) → List (Reply K)
+    → DeskState K D → DeskState K D → Type 0
+AreSteps policy FreeClones events replies old new = StepsBy (IsRunStep policy FreeClones) events replies old new

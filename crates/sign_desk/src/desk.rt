@@ -300,7 +300,8 @@ impl<K: SigningCredential, D: DeadlineRule<Credential = K>> Desk<K, D> {
     pub fn run(&mut self, events: &[Event<K>]) -> Result<Vec<Reply<K>>, RunError>
         ensures replies { IfOk result (λ replies. length replies.items ≡ length events.now) }
         ensures steps { IfOk result (λ replies.
-            AreSteps (policy_of K.valid K.valid_at D.deadline) events.now replies.items self.old self.new) }
+            AreSteps (policy_of K.valid K.valid_at D.deadline) (ClonesAreFree K.clones_freely)
+            events.now replies.items self.old self.new) }
         ensures represents { IfOk result (λ replies. (entries : List (Entry K))
             → Represents (policy_of K.valid K.valid_at D.deadline) self.old entries
             → Represents (policy_of K.valid K.valid_at D.deadline) self.new

@@ -7,6 +7,7 @@ use crate::plain_head::parts_of_keyed;
 use crate::{HeaderKeys, SigningRequest};
 use sign_base::{Error, ErrorKind, Head, NoMemory};
 use std::alloc::Global;
+use std::fmt;
 use std::marker::Model;
 
 /// Why a plain head has no view.
@@ -20,10 +21,21 @@ pub enum ViewRefusal {
     OutOfMemory,
 }
 
-/// The view of a plain head. It shows the bytes of the head alone, and changes nothing.
-#[derive(Debug, Drop)]
+/// The view of a plain head. It shows the bytes of the head alone, and changes nothing. `Debug` shows none of
+/// them.
+#[derive(Drop)]
 pub struct HeadView {
     request: SigningRequest,
+}
+
+impl fmt::Debug for HeadView {
+    ghost use Rattle.std.specs.Prelude.{Some, codes};
+
+    ghost debug_output = { λ _. Some (codes "HeadView(***)") };
+
+    fn fmt<W: fmt::Write>(&self, f: &mut fmt::Formatter<W>) -> fmt::Result {
+        f.write_str("HeadView(***)")
+    }
 }
 
 impl Model for HeadView {

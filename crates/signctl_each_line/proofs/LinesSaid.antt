@@ -1,11 +1,11 @@
 -- What a line says is decided where its grammar is.
-use Rattle.std.proofs.Common.{◌≡◌, ℕ, Bool, true, false, not, cond, List, ◌∷◌, Option, Some, None, Result, Ok, refl, sym, ap, ◌∙◌, inl, inr}
+use Rattle.std.proofs.Common.{◌≡◌, ℕ, true, false, not, List, ◌∷◌, Option, Some, None, Result, Ok, refl, sym, ap, ◌∙◌, inl, inr}
 use Rattle.std.specs.Prelude.{◌↔◌, IsTrue}
-use Rattle.std.proofs.lemmas.Bool.{not-true, false≢true}
+use Rattle.std.proofs.lemmas.Bool.{not-true}
 use Rattle.signctl_format.specs.Words.{is_silent, words}
 use Rattle.signctl_format.specs.declared.line_error.LineError.{LineError}
 use Rattle.signctl_format.proofs.Grammars.{named_silent}
-use Rattle.signctl_format.proofs.ReadingSteps.{some_is, chosen}
+use Rattle.signctl_format.proofs.ReadingSteps.{chosen}
 use Rattle.signctl_each_line.specs.LineByLine.{understood, said_by, SpellsLine}
 
 -- a line reads as an item exactly where it spells it

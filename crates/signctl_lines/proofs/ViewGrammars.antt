@@ -4,7 +4,7 @@ use Rattle.std.specs.Prelude.{◌↔◌}
 use Rattle.sign_base.specs.declared.head.Head.{Head}
 use Rattle.signctl_each_line.specs.LineByLine.{SpellsLine}
 use Rattle.signctl_each_line.proofs.LinesSaid as said
-use Rattle.signctl_format.specs.Heads.{IsLineHead, head_words}
+use Rattle.signctl_format.specs.Heads.{head_words}
 use Rattle.signctl_format.specs.Words.{line_of, words}
 use Rattle.signctl_format.proofs.Grammars.{same_line}
 use Rattle.signctl_format.proofs.Headers.{head_in-words, head_in-some}

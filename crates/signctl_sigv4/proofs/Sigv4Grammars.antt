@@ -1,6 +1,6 @@
 -- The grammar of `sigv4` is decided: a line reads as the one item that it spells.
-use Rattle.std.proofs.Common.{◌≡◌, ℕ, true, not, List, [], ◌∷◌, ◌++◌, Option, Some, None, Ok, refl, ap, subst, ◌∙◌}
-use Rattle.std.specs.Prelude.{◌↔◌, ℤ, codes}
+use Rattle.std.proofs.Common.{◌≡◌, ℕ, true, not, List, [], ◌∷◌, ◌++◌, Option, Some, Ok, refl, ap, subst, ◌∙◌}
+use Rattle.std.specs.Prelude.{◌↔◌, ℤ}
 use Rattle.sign_base.specs.declared.head.Head.{Head}
 use Rattle.sigv4_core.specs.Credential.{Credential}
 use Rattle.sigv4_core.specs.Scope.{Scope}

@@ -1,5 +1,5 @@
 -- Each part of a line of `sigv4`: its words read as it, what reads as it is its words, and they are visible.
-use Rattle.std.proofs.Common.{◌≡◌, ℕ, Bool, true, false, leb, List, [], ◌∷◌, ◌++◌, length, Option, Some, None, refl, sym, ap, subst, ◌∙◌, inl, inr, arith}
+use Rattle.std.proofs.Common.{◌≡◌, ℕ, true, leb, List, [], ◌∷◌, ◌++◌, length, Option, Some, None, refl, sym, ap, subst, ◌∙◌, inl, inr, arith}
 use Rattle.std.specs.Prelude.{codes, decimal, nat_lt, ◌≤◌, ◌==◌, ◌||◌}
 use Rattle.std.specs.Char.{is_ascii_graphic, is_ascii_lowercase, is_ascii_digit}
 use Rattle.std.specs.List.{list_all}
@@ -8,7 +8,7 @@ use Rattle.std.proofs.lemmas.Bool.{and_parts, and_from, or_cases, eqb-true, leb-
 use Rattle.sigv4_core.specs.Credential.{Credential, is_credential}
 use Rattle.sigv4_core.specs.PayloadWord.{unsigned_payload, is_digest, is_lower_hex}
 use Rattle.sigv4_core.specs.Scope.{Scope, is_scope, is_scope_name, is_scope_byte}
-use Rattle.signctl_format.specs.Bytes.{is_byte, is_digit, is_visible, percent}
+use Rattle.signctl_format.specs.Bytes.{is_byte, is_digit, is_visible}
 use Rattle.signctl_format.specs.Escapes.{is_plain, value_word, value_of}
 use Rattle.signctl_format.specs.Reading.{number_at}
 use Rattle.signctl_format.specs.Steps.{◌>>=◌, first_word}

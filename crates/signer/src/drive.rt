@@ -94,7 +94,9 @@ pub(crate) fn poll_call<K: SigningCredential, D: DeadlineRule<Credential = K>>(
         call: begun.id,
         now,
     };
-    desk.step(&event)
+    let reply = desk.step(&event);
+    drop(event);
+    reply
 }
 
 /// A credential that the asked provider found, which is handed back beside the reply.
@@ -144,7 +146,9 @@ pub(crate) fn give_missing<K: SigningCredential, D: DeadlineRule<Credential = K>
         now,
         answer: Answer::Missing,
     };
-    desk.step(&event)
+    let reply = desk.step(&event);
+    drop(event);
+    reply
 }
 
 /// The asked provider failed.
@@ -166,7 +170,9 @@ pub(crate) fn give_failed<K: SigningCredential, D: DeadlineRule<Credential = K>>
         now,
         answer: Answer::Failed(ERROR),
     };
-    desk.step(&event)
+    let reply = desk.step(&event);
+    drop(event);
+    reply
 }
 
 /// The service signed this head, which is handed back beside the reply.
@@ -206,7 +212,9 @@ pub(crate) fn give_rejected<K: SigningCredential, D: DeadlineRule<Credential = K
         call: begun.id,
         answer: Verdict::Failed(ERROR),
     };
-    let _refused = desk.step(&event);
+    let refused = desk.step(&event);
+    drop(event);
+    drop(refused);
 }
 
 /// The head that a call began with.

@@ -336,7 +336,9 @@ where
         ensures others { KeepsOthers (meanings_of P.ProvideCredential S.SignRequest.own) sign.begun.id
             (record { old = self.old; new = self.new }) }
     {
-        cancel_call(&mut self.desk, &sign.begun)
+        let wake = cancel_call(&mut self.desk, &sign.begun);
+        drop(sign);
+        wake
     }
 
     /// The desk that the signer drives.

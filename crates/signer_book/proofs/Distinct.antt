@@ -1,6 +1,6 @@
 -- No two receipts name one place, where no two passes do and the places of each pass rise.
-use Rattle.std.proofs.Common.{◌≡◌, ◌≢◌, ℕ, zero, suc, ◌<◌, ◌≤◌, ◌+◌, ◌⊎◌, inl, inr, List, [], ◌∷◌, ◌++◌, Option, Some, None, option_map, slice_get, slice_index, length, get_or, map, All, arith, sym, ◌∙◌, ap, refl, subst, rules}
-use Rattle.std.specs.List.{flat_map, AllPairs}
+use Rattle.std.proofs.Common.{◌≡◌, ◌≢◌, ℕ, suc, ◌<◌, ◌+◌, List, [], ◌∷◌, ◌++◌, Some, option_map, slice_get, slice_index, length, get_or, All, arith, sym, ◌∙◌, ap, subst, rules}
+use Rattle.std.specs.List.{AllPairs}
 use Rattle.std.specs.List.Sorted.{IsStrictlyIncreasing}
 use Rattle.std.proofs.lemmas.List.{get_or-map, length-map}
 use Rattle.std.proofs.lemmas.List.Elements.{All-append, All-nil, All-head, All-tail}
@@ -9,7 +9,6 @@ use Rattle.std.proofs.lemmas.Option.{slice_get-get_or}
 use Rattle.signer_book.specs.Settled.{all_receipts, places, AreRising, AreDistinct}
 use Rattle.signer_book.specs.Close.{HasPlace}
 use Rattle.signer_book.specs.declared.pass.Receipt.{Receipt}
-use Rattle.signer_book.proofs.Passes.{Names}
 
 module _ {K : Type 0} where
   abbrev Apart : Receipt K → Receipt K → Type 0

@@ -1,7 +1,6 @@
 -- A book of a fresh desk.
-use Rattle.std.proofs.Common.{◌≡◌, ◌+◌, ◌≤◌, List, [], length, ℕ, refl, ap, ◌∙◌, arith}
+use Rattle.std.proofs.Common.{◌≡◌, List, [], length, ℕ, refl, ap, ◌∙◌, arith}
 use Rattle.sequential_signer.specs.Policy.{Policy}
-use Rattle.sequential_signer.specs.Transcript.{committed_entries}
 use Rattle.sequential_signer.specs.LiveCall.{live_calls, begun_calls}
 use Rattle.sequential_signer.specs.declared.event.Entry.{Entry}
 use Rattle.sequential_signer.proofs.Run.{committed_entries-none}

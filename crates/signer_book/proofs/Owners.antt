@@ -1,5 +1,5 @@
 -- Owners of places, after one more receipt: of the pass `n`, at `place`.
-use Rattle.std.proofs.Common.{◌≡◌, ◌≢◌, ℕ, ◌<◌, ◌≤◌, ◌⊎◌, inl, inr, Bool, true, false, List, Option, Some, None, length, get_or, slice_index, slice_set, arith, get_or-set_same, get_or-set_other, sym, ◌∙◌, ap, subst, refl, length-set}
+use Rattle.std.proofs.Common.{◌≡◌, ◌≢◌, ℕ, ◌<◌, ◌≤◌, ◌⊎◌, inl, inr, List, Option, Some, None, length, slice_index, slice_set, arith, get_or-set_same, get_or-set_other, sym, ◌∙◌, ap, subst, length-set}
 use Rattle.std.proofs.lemmas.Bool.Decides.{eqb_tells, leb_tells}
 use Rattle.signer_book.specs.Close.{IsFirstDouble}
 use Rattle.signer_book.specs.Doubles.{AreOwners, IsLowest, lower_double}

@@ -1,6 +1,6 @@
 -- Which places the passes so far have, with one more receipt and one more pass.
-use Rattle.std.proofs.Common.{◌≡◌, ◌≢◌, ℕ, zero, suc, ◌<◌, ◌≤◌, ◌+◌, ◌⊎◌, inl, inr, List, [], ◌∷◌, ◌++◌, Option, Some, None, option_map, option_and_then, slice_get, length, arith, sym, ◌∙◌, ap, refl}
-use Rattle.signer_book.specs.Close.{place_at, HasPlace}
+use Rattle.std.proofs.Common.{◌≡◌, ℕ, zero, suc, ◌<◌, ◌≤◌, ◌+◌, ◌⊎◌, inl, inr, List, [], ◌∷◌, ◌++◌, Some, option_map, slice_get, length, arith, refl}
+use Rattle.signer_book.specs.Close.{HasPlace}
 use Rattle.signer_book.specs.declared.pass.Receipt.{Receipt}
 
 module _ {K : Type 0} where

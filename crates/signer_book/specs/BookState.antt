@@ -1,5 +1,5 @@
 -- What a book keeps.
-use Rattle.std.specs.Prelude.{◌≡◌, ◌+◌, ◌≤◌, List, ℕ, length}
+use Rattle.std.specs.Prelude.{◌+◌, ◌≤◌, List, ℕ, length}
 use Rattle.sequential_signer.specs.Policy.{Policy}
 use Rattle.sequential_signer.specs.declared.event.Entry.{Entry}
 use Rattle.sign_desk.specs.DeskState.{DeskState, Represents}

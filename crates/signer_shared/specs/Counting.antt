@@ -1,5 +1,5 @@
 -- How jobs are counted by their ends.
-use Rattle.std.specs.Prelude.{ℕ, ◌+◌, Bool, true, false, if◌then◌else◌}
+use Rattle.std.specs.Prelude.{◌+◌, true, if◌then◌else◌}
 use Rattle.signer_shared.specs.declared.job.Served.{Served}
 use Rattle.signer_shared.specs.declared.next.JobEnd.{JobEnd}
 use Rattle.signer_shared.specs.declared.next.JobEnd.TheVariants.{Done, Refused, NotNow, GivenUp, OutOfMemory}

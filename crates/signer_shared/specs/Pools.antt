@@ -1,6 +1,5 @@
 -- What a pool of workers leaves: a pass and counts for each list of jobs.
-use Rattle.std.specs.Prelude.{◌≡◌, ℕ, List, [], ◌∷◌}
-use Rattle.std.specs.Global.{Vec}
+use Rattle.std.specs.Prelude.{ℕ, List, [], ◌∷◌}
 use Rattle.sign_desk.specs.DeskState.{DeskState}
 use Rattle.signer_book.specs.declared.pass.Receipt.{Receipt}
 use Rattle.signer_book.specs.declared.settled.CloseRefused.{CloseRefused}

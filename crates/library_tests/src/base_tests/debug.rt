@@ -3,8 +3,8 @@
 use crate::heads::{Headers, plain_head};
 use crate::told::{hides, hides_as, is_told, shown};
 use sign_base::{
-    FaultySink, FaultySource, LineReader, MemorySink, MemorySource, Octets, Sink, StdSink,
-    StdSource,
+    FaultySink, FaultySource, LineReader, MemorySink, MemorySource, NoMemory, Octets, Sink,
+    StdSink, StdSource,
 };
 use std::alloc::Global;
 use std::collections::VecDeque;
@@ -27,6 +27,12 @@ fn heads_show_no_secret(rt: HostRuntime) {
     let uri = "https://e.x/a?sig=sesame&n=1";
     let signed = plain_head(rt.alloc(), "GET", uri, HEADERS).expect(&rt, "memory");
     hides_as(&rt, rt.alloc(), &signed, SHOWN_HEAD);
+}
+
+#[test]
+fn what_is_handed_back_is_not_shown(rt: HostRuntime) {
+    let back = secret_bytes(&rt, rt.alloc());
+    hides_as(&rt, rt.alloc(), &NoMemory { back }, "NoMemory(***)");
 }
 
 #[test]

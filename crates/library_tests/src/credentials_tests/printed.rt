@@ -2,7 +2,7 @@
 use super::providers::{Says, chain_of};
 use crate::pairs::owned;
 use crate::told::hides_as;
-use credentials::{Context, Env, OsEnv, StaticEnv};
+use credentials::{CommandOutput, Context, Env, OsEnv, StaticEnv};
 use std::alloc::Global;
 
 #[test]
@@ -40,4 +40,15 @@ fn a_context_shows_no_variable(rt: HostRuntime) {
     let env = secret_environment(rt.alloc()).expect(&rt, "memory");
     let ctx = Context::new().with_env(env);
     hides_as(&rt, rt.alloc(), &ctx, "Context");
+}
+
+#[test]
+fn what_a_command_wrote_is_counted(rt: HostRuntime) {
+    let output = CommandOutput {
+        status: -1,
+        stdout: Vec::from_slice(rt.alloc(), b"5551234").expect(&rt, "memory"),
+        stderr: Vec::from_slice(rt.alloc(), b"no sesame").expect(&rt, "memory"),
+    };
+    let wanted = "CommandOutput(status -1, 7 bytes, 9 bytes of errors)";
+    hides_as(&rt, rt.alloc(), &output, wanted);
 }

@@ -5,9 +5,9 @@ use Rattle.granter.proofs.drive.poll_call.Goals as goal
 pub returns-clause-after : goal.returns-clause-after
 returns-clause-after g c =
     let policy = policy_of g.K.SigningCredential.valid g.K.SigningCredential.valid_at g.D.DeadlineRule.deadline in
-    (after-poll policy c.args.desk.now c.step.new.self c.step.result c.args.begun.now c.step.ensures.sound c.requires.there c.args.now c.requires.unpolled c.step.ensures.transition).after
+    (after-poll policy c.args.desk.now c.step-reply.new.self c.step-reply.result c.args.begun.now c.step-reply.ensures.sound c.requires.there c.args.now c.requires.unpolled c.step-reply.ensures.transition).after
 
 pub returns-clause-others : goal.returns-clause-others
 returns-clause-others g c =
     let policy = policy_of g.K.SigningCredential.valid g.K.SigningCredential.valid_at g.D.DeadlineRule.deadline in
-    (after-poll policy c.args.desk.now c.step.new.self c.step.result c.args.begun.now c.step.ensures.sound c.requires.there c.args.now c.requires.unpolled c.step.ensures.transition).others
+    (after-poll policy c.args.desk.now c.step-reply.new.self c.step-reply.result c.args.begun.now c.step-reply.ensures.sound c.requires.there c.args.now c.requires.unpolled c.step-reply.ensures.transition).others

@@ -1,4 +1,4 @@
-use Rattle.std.proofs.Common.{List, ℕ, subst, sym, inl, inr, rules}
+use Rattle.std.proofs.Common.{List, ℕ, subst, sym, inl, inr}
 use Rattle.http_uri.specs.Uri.{SpellsNone}
 use Rattle.sign_request.proofs.plain_head.target_of.Goals as goal
 

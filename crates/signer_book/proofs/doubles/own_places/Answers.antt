@@ -1,4 +1,8 @@
-use Rattle.std.proofs.Common.{arith, refl}
+use Rattle.std.proofs.Common.{◌++◌, ◌∷◌, [], List, arith, refl, subst}
+use Rattle.std.proofs.lemmas.List.{take_all}
+use Rattle.signer_book.specs.Close.{HasPlace}
+use Rattle.signer_book.specs.Doubles.{AreOwners}
+use Rattle.signer_book.specs.declared.pass.Receipt.{Receipt}
 use Rattle.signer_book.proofs.Marks.{marks-begin, step-new, step-stay}
 use Rattle.signer_book.proofs.doubles.own_places.Goals as goal
 use Rattle.signer_book.proofs.doubles.own_places.Goals.{then-owner, else-owner}
@@ -17,3 +21,8 @@ loop-receipt-preserved g c = λ passes n had.
           c.loop-receipt.owners c.loop-receipt.lowest c.loop-receipt.auto.owners (c.loop-receipt.invariant passes n had) _ c.if-owner.owners c.if-owner.lowest w.lower.result c.requires.rising
           refl w.if-owner.false w.owners-is w.lowest-is w.lower.ensures
     ]
+
+pub returns : goal.returns
+returns g c = λ passes n had.
+    let P : List (Receipt g.row.K.Denot) → Type 0 = λ receipts. AreOwners (HasPlace (passes ++ receipts ∷ [])) c.loop-receipt.owners c.loop-receipt.lowest in
+    subst P (take_all c.loop-receipt.receipt-index c.args.receipts.now (omega arith)) (c.loop-receipt.invariant passes n had)

@@ -7,6 +7,7 @@ pub loop-load-preserved : goal.loop-load-preserved
 loop-load-preserved g c = record {
   started = λ h. (c.in_default.ensures {u = tt}).passed (c.loop-load.invariant.started h);
   ready = λ h. (c.in_default.ensures {u = tt}).ready (c.loop-load.invariant.ready h);
+  onward = omega (arith, (c.in_default.ensures {u = tt}).next, c.loop-load.invariant.onward);
 }
 
 pub returns-in-Some-clause-kept : goal.returns-in-Some-clause-kept

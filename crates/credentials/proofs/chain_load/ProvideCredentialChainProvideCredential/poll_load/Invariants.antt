@@ -1,8 +1,8 @@
-use Rattle.std.proofs.Common.{◌-◌, vec_len}
+use Rattle.std.proofs.Common.{◌-◌, ◌≤◌, vec_len}
 use Rattle.credentials.specs.Chain.{ChainStarted, ChainReady}
 use Rattle.credentials.proofs.chain_load.ProvideCredentialChainProvideCredential.poll_load.Given as goal
 
--- a load that was started, or ready, is so still
+-- a load that was started, or ready, is so still, and its place does not fall
 abbrev pub invariant-loop-load : goal.invariant-loop-load
 invariant-loop-load g l = record {
   started : ChainStarted (λ p answer. g.P.ProvideCredential.gives p l.ctx answer)
@@ -13,6 +13,7 @@ invariant-loop-load g l = record {
       (λ p load. g.P.ProvideCredential.ready p l.ctx load) l.self l.fn.load
       → ChainReady (λ p load. g.P.ProvideCredential.started p l.ctx load)
       (λ p load. g.P.ProvideCredential.ready p l.ctx load) l.self l.load;
+  onward : l.fn.load.place ≤ l.load.place;
 }
 
 -- the providers that are still to be asked

@@ -2,7 +2,8 @@ use Rattle.std.proofs.Common.{◌≡◌, ◌∙◌, ◌<◌, ◌+◌, ◌++◌, 
 use Rattle.std.proofs.lemmas.List.{take_more, length-append, length-take}
 use Rattle.sequential_signer.specs.declared.grant_event.GrantEvent.{GrantEvent}
 use Rattle.sequential_signer.specs.Policy.{policy_of}
-use Rattle.grant_desk.specs.GrantSteps.{IsGrantStep, grant_entry_of, paired_grants}
+use Rattle.grant_desk.specs.GrantSteps.{IsGrantRunStep, grant_entry_of, paired_grants}
+use Rattle.desk_parts.specs.Memory.{ClonesAreFree}
 use Rattle.desk_parts.proofs.MoreSteps.{paired-append, steps-more}
 use Rattle.grant_desk.proofs.desk.GrantDesk.run.Goals as goal
 
@@ -17,7 +18,8 @@ loop-event-preserved g c =
       count = rw (c.push_reserved.ensures.items, length-append) (omega (arith, c.loop-event.invariant.count));
       room = omega arith;
       steps = rw (taken, c.push_reserved.ensures.items)
-          (steps-more (IsGrantStep policy) (take c.loop-event.event-index c.args.events.now) c.loop-event.replies.items c.event-item.result c.step-reply.result c.args.self.now c.loop-event.self c.step-reply.new.self c.loop-event.invariant.steps c.step-reply.ensures.step);
+          (steps-more (IsGrantRunStep policy (ClonesAreFree g.K.SigningCredential.clones_freely)) (take c.loop-event.event-index c.args.events.now) c.loop-event.replies.items c.event-item.result c.step-reply.result c.args.self.now c.loop-event.self c.step-reply.new.self c.loop-event.invariant.steps
+          (c.step-reply.ensures.step, c.step-reply.ensures.memory));
       setup = c.step-reply.ensures.step.setup ∙ c.loop-event.invariant.setup;
       represents = λ entries stood.
           rw (taken, c.push_reserved.ensures.items, sym (paired-append grant_entry_of entries (take c.loop-event.event-index c.args.events.now) c.loop-event.replies.items c.event-item.result c.step-reply.result count))

@@ -2,6 +2,7 @@ use Rattle.std.proofs.Common.{◌≡◌, ◌≤◌, ◌++◌, List, length, take
 use Rattle.sequential_signer.specs.Policy.{policy_of}
 use Rattle.sequential_signer.specs.declared.event.Entry.{Entry}
 use Rattle.sign_desk.specs.DeskState.{Represents}
+use Rattle.desk_parts.specs.Memory.{ClonesAreFree}
 use Rattle.desk_parts.specs.Tables.{setup_of}
 use Rattle.sign_desk.specs.Steps.{AreSteps}
 use Rattle.sign_desk.specs.PairedEntries.{paired_entries}
@@ -14,6 +15,7 @@ invariant-loop-event g l = record {
   room : length l.events ≤ vec_capacity l.replies;
   steps : AreSteps
       (policy_of g.K.SigningCredential.valid g.K.SigningCredential.valid_at g.D.DeadlineRule.deadline)
+      (ClonesAreFree g.K.SigningCredential.clones_freely)
       (take l.event-index l.events) l.replies.items l.initial.self l.self;
   setup : setup_of l.self ≡ setup_of l.initial.self;
   represents : (entries : List (Entry g.row.K.Denot))

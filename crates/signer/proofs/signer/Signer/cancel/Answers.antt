@@ -10,8 +10,8 @@ use Rattle.signer.proofs.SignerOthers.{keeps-others, issued-live}
 use Rattle.signer.proofs.SignerSetup.{signer-desk}
 use Rattle.signer.proofs.signer.Signer.cancel.Goals as goal
 
-pub cancel_call-requires-clause-there : goal.cancel_call-requires-clause-there
-cancel_call-requires-clause-there g c =
+pub cancel_call-wake-requires-clause-there : goal.cancel_call-wake-requires-clause-there
+cancel_call-wake-requires-clause-there g c =
     let m = meanings_of g.P.ProvideCredential g.S.SignRequest in
     let handle = c.args.sign.begun.id.handle in
     let s = signer_view c.self.inside in
@@ -22,8 +22,8 @@ cancel_call-requires-clause-there g c =
     let h = has-objects s handle o is in
     subst (λ x. IsSome x) (sym h.handle_is) refl)
 
-pub cancel_call-requires-clause-live : goal.cancel_call-requires-clause-live
-cancel_call-requires-clause-live g c =
+pub cancel_call-wake-requires-clause-live : goal.cancel_call-wake-requires-clause-live
+cancel_call-wake-requires-clause-live g c =
     let m = meanings_of g.P.ProvideCredential g.S.SignRequest in
     let handle = c.args.sign.begun.id.handle in
     let s = signer_view c.self.inside in
@@ -35,13 +35,13 @@ cancel_call-requires-clause-live g c =
 
 pub invariant_of-self : goal.invariant_of-self
 invariant_of-self g c =
-    let l = c.cancel_call.ensures.others in
+    let l = c.cancel_call-wake.ensures.others in
     let s = signer_view c.self.inside in
-    signer-desk s c.self.invariant c.cancel_call.new.desk s.begun l.loaders l.rules l.handles (ap (is_above_all s.begun) l.greatest ∙ c.self.invariant.numbers)
+    signer-desk s c.self.invariant c.cancel_call-wake.new.desk s.begun l.loaders l.rules l.handles (ap (is_above_all s.begun) l.greatest ∙ c.self.invariant.numbers)
 
 pub returns-clause-others : goal.returns-clause-others
 returns-clause-others g c = λ other apart issued.
     let m = meanings_of g.P.ProvideCredential g.S.SignRequest in
     let handle = c.args.sign.begun.id.handle in
     let s = signer_view c.self.inside in
-    keeps-others m c.args.sign.begun.id s c.cancel_call.new.desk c.cancel_call.ensures.others other apart (subst (λ x. IsIssuedBy m x other) (sym c.self.view_is) issued)
+    keeps-others m c.args.sign.begun.id s c.cancel_call-wake.new.desk c.cancel_call-wake.ensures.others other apart (subst (λ x. IsIssuedBy m x other) (sym c.self.view_is) issued)

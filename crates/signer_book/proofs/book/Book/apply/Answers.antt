@@ -1,4 +1,4 @@
-use Rattle.std.proofs.Common.{rules, ◌≡◌, ◌≤◌, ◌<◌, ◌+◌, ◌++◌, ◌∷◌, [], true, false, ℕ, List, IsTrue, IsSome, length, sym, ◌∙◌, ap, subst, arith, vec_capacity, min, length-append}
+use Rattle.std.proofs.Common.{rules, ◌≡◌, ◌≤◌, ◌+◌, ◌++◌, ◌∷◌, [], true, false, ℕ, List, IsTrue, IsSome, length, sym, ◌∙◌, ap, subst, arith, vec_capacity, min, length-append}
 use Rattle.sequential_signer.specs.Policy.{policy_of}
 use Rattle.sequential_signer.specs.Transcript.{committed_entries, is_out_of_memory, call_of}
 use Rattle.sequential_signer.specs.declared.event.Entry.{Entry}

@@ -1,4 +1,4 @@
-use Rattle.std.proofs.Common.{◌≡◌, ◌+◌, length, [], ◌∷◌, subst, sym, arith, refl, List}
+use Rattle.std.proofs.Common.{◌+◌, [], subst, sym, arith, List}
 use Rattle.signer_shared.specs.Slots.{AreEmptySlots}
 use Rattle.signer_shared.specs.declared.slots.Slot.{Slot}
 use Rattle.signer_shared.proofs.SlotLemmas.{one_slot_more}

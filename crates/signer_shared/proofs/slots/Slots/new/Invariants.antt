@@ -1,5 +1,5 @@
-use Rattle.std.proofs.Common.{◌≡◌, ◌≤◌, length, []}
-use Rattle.std.specs.Prelude.{All, vec_capacity}
+use Rattle.std.proofs.Common.{◌≤◌, []}
+use Rattle.std.specs.Prelude.{vec_capacity}
 use Rattle.signer_shared.specs.Slots.{AreEmptySlots}
 use Rattle.signer_shared.proofs.slots.Slots.new.Given as goal
 

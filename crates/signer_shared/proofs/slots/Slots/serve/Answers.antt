@@ -1,4 +1,4 @@
-use Rattle.std.proofs.Common.{◌≡◌, List, length, sym, subst, rules}
+use Rattle.std.proofs.Common.{List, sym, subst, rules}
 use Rattle.signer_shared.specs.Slots.{ServesSlots}
 use Rattle.signer_shared.specs.declared.slots.Slot.{Slot}
 use Rattle.signer_shared.proofs.SlotLemmas.{written_back}
