@@ -1,7 +1,7 @@
 //! One run of the command over a source and sinks in memory.
 ghost use Rattle.std.specs.Prelude.{◌<◌};
 
-use sign_base::{FaultySink, FaultySource};
+use sign_io::{FaultySink, FaultySource};
 use signctl_core::{HeaderKeys, run_program};
 use std::alloc::{AllocError, Global};
 

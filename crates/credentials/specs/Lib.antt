@@ -1,8 +1,6 @@
 pub mod Polled
 pub mod Operation
 pub mod Chain
-pub mod OptionValid
-pub mod Deadline
 pub mod Unsupported
 pub mod Env
 pub mod EnvShown

@@ -1,6 +1,6 @@
 -- What a desk's step on a call leaves: the setup, the records of the other calls, and where the call is.
 use Rattle.std.proofs.Common.{◌≡◌, ℕ, ◌<◌, length, Option, Some, None, IsSomeAnd, is_some, true, option_map, option_and_then, slice_get, refl, sym, ◌∙◌, ap, subst}
-use Rattle.wake_lock.specs.declared.CallId.{CallId}
+use Rattle.sign_base.specs.declared.call_id.CallId.{CallId}
 use Rattle.sequential_signer.specs.Setup.{Handle}
 use Rattle.sequential_signer.specs.declared.event.Loader.{Loader}
 use Rattle.desk_parts.specs.Action.{as_viewed}

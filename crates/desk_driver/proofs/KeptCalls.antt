@@ -1,8 +1,8 @@
 -- Where a step leaves the others, each other call is where it was.
 use Rattle.std.proofs.Common.{◌≡◌, ℕ, ◌<◌, Bool, true, false, IsSomeAnd, refl, sym, subst}
-use Rattle.wake_lock.specs.declared.CallId.{CallId}
-use Rattle.wake_lock.specs.Calls.{same_call}
-use Rattle.wake_lock.proofs.Calls.{same_call-eq}
+use Rattle.sign_base.specs.declared.call_id.CallId.{CallId}
+use Rattle.sign_base.specs.Calls.{same_call}
+use Rattle.sign_base.proofs.Calls.{same_call-eq}
 use Rattle.sequential_signer.specs.declared.event.Loader.{Loader}
 use Rattle.desk_parts.specs.Places.{provider_count}
 use Rattle.desk_parts.specs.Tables.{DeskTables, find_call}

@@ -1,6 +1,6 @@
 //! What a call was begun with.
+use sign_base::CallId;
 use std::time::Duration;
-use wake_lock::CallId;
 
 /// A call that a driver of a desk began, with this head or with none.
 #[derive(Drop)]

@@ -1,8 +1,8 @@
 -- What a begin that is taken in relies on, and what it leaves where it is not.
 use Rattle.std.proofs.Common.{◌≡◌, ℕ, zero, suc, ◌<◌, ◌+◌, ◌-◌, true, List, [], ◌∷◌, Option, Some, None, is_some, option_map, slice_get, length, IfSome, refl, ◌∙◌, ap, arith}
-use Rattle.wake_lock.specs.declared.CallId.{CallId}
+use Rattle.sign_base.specs.declared.call_id.CallId.{CallId}
 use Rattle.sequential_signer.specs.Setup.{Handle}
-use Rattle.wake_lock.proofs.Truth.{and_left, and_right}
+use Rattle.sign_base.proofs.Truth.{and_left, and_right}
 use Rattle.desk_parts.specs.Queue.{Queue, with_room, without_room, with_changed}
 use Rattle.desk_parts.specs.Tables.{DeskTables}
 use Rattle.desk_parts.specs.Places.{HasPlaces}

@@ -7,12 +7,12 @@ use Rattle.std.specs.Ordering.{is_eq, ordering_then}
 use Rattle.std.specs.BTreeMap.{BTreeMap, get, is_at}
 use Rattle.std.specs.Map.{lookup}
 use Rattle.std.specs.Option.{option_copied_mut}
-use Rattle.wake_lock.specs.declared.CallId.{CallId}
-use Rattle.wake_lock.specs.Calls.{same_call}
+use Rattle.sign_base.specs.declared.call_id.CallId.{CallId}
+use Rattle.sign_base.specs.Calls.{same_call}
 use Rattle.desk_parts.specs.Tables.{DeskTables, find_call}
 use Rattle.desk_parts.specs.Change.{ChangesOnlyCall, one_if}
 use Rattle.desk_parts.specs.declared.call_record.CallRecord.{CallRecord}
-use Rattle.wake_lock.proofs.Calls.{same_call-refl}
+use Rattle.sign_base.proofs.Calls.{same_call-refl}
 
 module _ {H : Type 0} (cmp : CallId → CallId → Ordering) (same : (a b : CallId) → is_eq (cmp a b) ≡ same_call a b) where
   lookup_is : (q : CallId) (es : List (CallId × CallRecord H)) → lookup (is_at (cmp q)) es ≡ find_call q es

@@ -1,6 +1,6 @@
 -- The reply to an event is of the kind that its cause calls for.
 use Rattle.std.proofs.Common.{inl, inr}
-use Rattle.wake_lock.specs.declared.CallId.{CallId}
+use Rattle.sign_base.specs.declared.call_id.CallId.{CallId}
 use Rattle.desk_parts.specs.Action.{ActionOn, Leaves, Does, Allocates, PerformsOr, PreviewsOr}
 use Rattle.desk_parts.specs.Cause.{CauseBy, TakesMemory, cause_by}
 use Rattle.desk_parts.specs.Tables.{DeskTables}

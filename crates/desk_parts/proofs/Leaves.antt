@@ -1,10 +1,10 @@
 -- Who gets the lock when a call leaves it.
 use Rattle.std.proofs.Common.{◌≡◌, Bool, true, false, cond, List, [], ◌∷◌, Option, Some, None, is_some, refl, sym, ◌∙◌, ap}
-use Rattle.wake_lock.specs.declared.CallId.{CallId}
+use Rattle.sign_base.specs.declared.call_id.CallId.{CallId}
 use Rattle.wake_lock.specs.declared.lock.Left.TheVariants.{Holder, Waiter, Absent}
-use Rattle.wake_lock.specs.Calls.{first_of}
+use Rattle.sign_base.specs.Calls.{first_of}
 use Rattle.wake_lock.specs.Lock.{in_line, is_holder}
-use Rattle.wake_lock.proofs.Calls.{same_call-comm}
+use Rattle.sign_base.proofs.Calls.{same_call-comm}
 use Rattle.desk_parts.specs.Queue.{next_holder}
 use Rattle.desk_parts.specs.QueueView.{next_of_left}
 

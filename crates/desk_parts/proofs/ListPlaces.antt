@@ -1,6 +1,6 @@
 -- Which places a list has.
 use Rattle.std.proofs.Common.{◌≡◌, ℕ, zero, suc, Bool, true, false, ◌<◌, ◌==◌, List, [], ◌∷◌, ◌++◌, Option, Some, None, is_some, option_map, slice_get, slice_set, length, refl, sym, ◌∙◌, ap, subst, IfSome, arith}
-use Rattle.wake_lock.proofs.Truth.{same_number, other_number}
+use Rattle.sign_base.proofs.Truth.{same_number, other_number}
 use Rattle.sequential_signer.proofs.Places.{slice_get-set_same, slice_get-set_other}
 
 -- a place that has an item is below the length

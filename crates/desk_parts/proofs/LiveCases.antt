@@ -1,6 +1,6 @@
 -- A call that is live in a desk, and one that is not.
 use Rattle.std.proofs.Common.{◌≡◌, ◌<◌, true, Option, Some, None, is_some, slice_get, length, refl}
-use Rattle.wake_lock.specs.declared.CallId.{CallId}
+use Rattle.sign_base.specs.declared.call_id.CallId.{CallId}
 use Rattle.sequential_signer.specs.Setup.{Handle}
 use Rattle.sequential_signer.specs.declared.event.Loader.{Loader}
 use Rattle.desk_parts.specs.LiveCallView.{stored_view, find_view}

@@ -1,9 +1,9 @@
 -- A desk where one call changed, beside a transcript that has one more entry.
 use Rattle.std.proofs.Common.{◌≡◌, ◌<◌, ℕ, Bool, true, false, ◌+◌, Option, Some, None, option_map, slice_set, length, refl, sym, ◌∙◌, ap, arith}
 use Rattle.std.specs.Option.{IsSomeAnd}
-use Rattle.wake_lock.specs.declared.CallId.{CallId}
-use Rattle.wake_lock.specs.Calls.{same_call}
-use Rattle.wake_lock.proofs.Calls.{same_call-eq, same_call-comm}
+use Rattle.sign_base.specs.declared.call_id.CallId.{CallId}
+use Rattle.sign_base.specs.Calls.{same_call}
+use Rattle.sign_base.proofs.Calls.{same_call-eq, same_call-comm}
 use Rattle.sequential_signer.specs.LiveCall.{LiveCall}
 use Rattle.sequential_signer.specs.Setup.{cache_of}
 use Rattle.desk_parts.specs.Caches.{Caches}

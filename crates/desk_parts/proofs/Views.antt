@@ -1,6 +1,6 @@
 -- The live call of a name, by its handle and its record.
 use Rattle.std.proofs.Common.{◌≡◌, Option, Some, None, slice_get, refl}
-use Rattle.wake_lock.specs.declared.CallId.{CallId}
+use Rattle.sign_base.specs.declared.call_id.CallId.{CallId}
 use Rattle.sequential_signer.specs.Setup.{Handle}
 use Rattle.desk_parts.specs.Tables.{DeskTables, find_call}
 use Rattle.desk_parts.specs.LiveCallView.{stored_view, view_by, find_view}

@@ -1,6 +1,6 @@
 -- What is done at an event: the reply, and what becomes of the desk and of the event's call.
 use Rattle.std.specs.Prelude.{◌≡◌, ◌⊎◌, Option, None, option_map}
-use Rattle.wake_lock.specs.declared.CallId.{CallId}
+use Rattle.sign_base.specs.declared.call_id.CallId.{CallId}
 use Rattle.desk_parts.specs.Tables.{DeskTables, find_call}
 use Rattle.desk_parts.specs.Change.{ChangesOnlyCall}
 use Rattle.desk_parts.specs.declared.call_record.CallRecord.{CallRecord}

@@ -1,7 +1,7 @@
 -- A begin, at the tables of a desk.
 use Rattle.std.specs.Prelude.{ℕ, Bool, true, false, ◌&&◌, Option, Some, None, slice_get, slice_set, is_some}
 use Rattle.std.specs.declared.time.Duration.{Duration}
-use Rattle.wake_lock.specs.declared.CallId.{CallId}
+use Rattle.sign_base.specs.declared.call_id.CallId.{CallId}
 use Rattle.sequential_signer.specs.LiveCall.{is_above}
 use Rattle.sequential_signer.specs.Setup.{Handle}
 use Rattle.desk_parts.specs.Queue.{Queue, with_room, with_changed}

@@ -1,6 +1,6 @@
 -- What a step does to the caches, where it stores a credential.
 use Rattle.std.specs.Prelude.{◌≡◌, ◌<◌, Some, IsSomeAnd, length, slice_set}
-use Rattle.wake_lock.specs.declared.CallId.{CallId}
+use Rattle.sign_base.specs.declared.call_id.CallId.{CallId}
 use Rattle.sequential_signer.specs.Setup.{cache_of}
 use Rattle.desk_parts.specs.Tables.{DeskTables, setup_of}
 

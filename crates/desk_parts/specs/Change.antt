@@ -1,7 +1,7 @@
 -- What one step changes of the live calls, the queues and the caches.
 use Rattle.std.specs.Prelude.{◌≡◌, ℕ, ◌+◌, false, Option, Some, None, length, slice_set}
-use Rattle.wake_lock.specs.declared.CallId.{CallId}
-use Rattle.wake_lock.specs.Calls.{same_call}
+use Rattle.sign_base.specs.declared.call_id.CallId.{CallId}
+use Rattle.sign_base.specs.Calls.{same_call}
 use Rattle.desk_parts.specs.Queue.{Queue, with_changed}
 use Rattle.desk_parts.specs.Tables.{DeskTables, find_call}
 use Rattle.desk_parts.specs.declared.call_record.CallRecord.{CallRecord}

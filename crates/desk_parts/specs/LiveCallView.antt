@@ -1,6 +1,6 @@
 -- A live call as an event finds it.
 use Rattle.std.specs.Prelude.{Option, Some, None, slice_get}
-use Rattle.wake_lock.specs.declared.CallId.{CallId}
+use Rattle.sign_base.specs.declared.call_id.CallId.{CallId}
 use Rattle.sequential_signer.specs.Setup.{Handle}
 use Rattle.desk_parts.specs.Tables.{DeskTables, find_call}
 use Rattle.desk_parts.specs.declared.call_record.CallRecord.{CallRecord}

@@ -1,7 +1,7 @@
 -- The queue of a cache: the calls that hold and wait, and the number of those that were begun and not polled.
 use Rattle.std.specs.Prelude.{◌≡◌, ◌<◌, ℕ, zero, suc, ◌+◌, ◌-◌, Bool, true, false, not, List, [], ◌∷◌, ◌++◌, Option, Some, None, filter, slice_get, if◌then◌else◌}
-use Rattle.wake_lock.specs.declared.CallId.{CallId}
-use Rattle.wake_lock.specs.Calls.{same_call, first_of, is_among}
+use Rattle.sign_base.specs.declared.call_id.CallId.{CallId}
+use Rattle.sign_base.specs.Calls.{same_call, first_of, is_among}
 
 -- the call that holds, then the calls that wait; and how many calls may still come
 pub record Queue : Type 0 where

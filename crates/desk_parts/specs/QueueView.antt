@@ -1,7 +1,7 @@
 -- What contracts see of a queue.
 use Rattle.std.specs.Prelude.{◌≤◌, Option, None}
 use Rattle.wake_lock.specs.Lock.{line}
-use Rattle.wake_lock.specs.declared.CallId.{CallId}
+use Rattle.sign_base.specs.declared.call_id.CallId.{CallId}
 use Rattle.wake_lock.specs.declared.lock.Left.{Left}
 use Rattle.wake_lock.specs.declared.lock.Left.TheVariants.{Holder, Waiter, Absent}
 use Rattle.desk_parts.specs.Queue.{Queue}

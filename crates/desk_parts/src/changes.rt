@@ -4,9 +4,8 @@ ghost use Rattle.std.specs.Prelude.{◌≡◌, true, Some, None, option_map, IsS
 
 use crate::call_record::CallRecord;
 use crate::tables::{LiveCallView, Tables};
-use credentials::{DeadlineRule, SigningCredential};
-use sign_base::NoMemory;
-use wake_lock::CallId;
+use sequential_signer::{DeadlineRule, SigningCredential};
+use sign_base::{CallId, NoMemory};
 
 impl<K: SigningCredential, D: DeadlineRule<Credential = K>, Q: Drop, H: Drop> Tables<K, D, Q, H> {
     ghost use Rattle.desk_parts.specs.Tables.{find_call};

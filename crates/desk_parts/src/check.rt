@@ -2,8 +2,7 @@
 ghost use Rattle.std.specs.Prelude.{◌≡◌, ◌<◌, IfSome, length, slice_get};
 
 use crate::tables::{LiveCallView, Tables};
-use credentials::{DeadlineRule, SigningCredential};
-use sequential_signer::{Loader, Why};
+use sequential_signer::{DeadlineRule, Loader, SigningCredential, Why};
 use sign_base::Timestamp;
 
 impl<K: SigningCredential, D: DeadlineRule<Credential = K>, Q: Drop, H: Drop> Tables<K, D, Q, H> {

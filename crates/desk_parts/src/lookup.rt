@@ -2,8 +2,7 @@
 ghost use Rattle.std.specs.Prelude.{◌≢◌, ◌<◌, length};
 
 use crate::tables::{LiveCallView, Tables};
-use credentials::{DeadlineRule, SigningCredential};
-use sequential_signer::{Loader, Why};
+use sequential_signer::{DeadlineRule, Loader, SigningCredential, Why};
 use sign_base::Timestamp;
 
 /// What a look at a cache gives.

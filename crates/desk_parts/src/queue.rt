@@ -1,13 +1,13 @@
 //! The queue of a cache: its lock, with room for each call that was begun and may still come.
 ghost use Rattle.std.specs.Prelude.{◌≡◌, ◌+◌, ◌-◌, ◌<◌, ◌++◌, ◌∷◌, [], false, OnOk, OnErr, ◌^◌};
-ghost use Rattle.wake_lock.specs.Calls.{is_first, is_among};
+ghost use Rattle.sign_base.specs.Calls.{is_first, is_among};
 ghost use Rattle.desk_parts.specs.Queue.{is_held, with_last, without_room, without_call, next_holder, with_room};
 ghost use Rattle.desk_parts.specs.QueueView.{next_of_left};
 
-use sign_base::NoMemory;
+use sign_base::{CallId, NoMemory};
 use std::alloc::Global;
 use std::marker::Model;
-use wake_lock::{CallId, Left, WaitLock};
+use wake_lock::{Left, WaitLock};
 
 /// The lock of a cache and the number of its calls that were begun and not polled. There is room
 /// in the lock for each of them.

@@ -4,12 +4,11 @@ ghost use Rattle.std.specs.Prelude.{◌≡◌, ℕ, true, Some, IfSome, OnOk, On
 use crate::call_record::CallRecord;
 use crate::queue::CallQueue;
 use crate::tables::Tables;
-use credentials::{DeadlineRule, SigningCredential};
-use sign_base::NoMemory;
-use wake_lock::CallId;
+use sequential_signer::{DeadlineRule, SigningCredential};
+use sign_base::{CallId, NoMemory};
 
 impl<K: SigningCredential, D: DeadlineRule<Credential = K>, H: Drop> Tables<K, D, CallQueue, H> {
-    ghost use Rattle.wake_lock.specs.Calls.{is_first};
+    ghost use Rattle.sign_base.specs.Calls.{is_first};
     ghost use Rattle.desk_parts.specs.Queue.{is_held_line, line_at, with_last, without_room, without_call, next_holder, with_room, MayEnter};
     ghost use Rattle.desk_parts.specs.Places.{HasPlaces};
     ghost use Rattle.desk_parts.specs.Begin.{can_begin, with_begin};

@@ -2,8 +2,7 @@
 ghost use Rattle.std.specs.Prelude.{◌≡◌, ◌<◌, IfSome, length, option_and_then, option_copied, slice_get};
 
 use crate::tables::Tables;
-use credentials::{DeadlineRule, SigningCredential};
-use sequential_signer::Loader;
+use sequential_signer::{DeadlineRule, Loader, SigningCredential};
 use std::alloc::Global;
 
 impl<K: SigningCredential, D: DeadlineRule<Credential = K>, Q: Drop, H: Drop> Tables<K, D, Q, H> {

@@ -3,8 +3,7 @@ ghost use Rattle.std.specs.Prelude.{◌≡◌, ◌<◌, length, OnOk, OnErr, IfE
 
 use crate::adding::{AddError, AddRefused};
 use crate::tables::{HandleRecord, Tables};
-use credentials::{DeadlineRule, SigningCredential};
-use sequential_signer::Loader;
+use sequential_signer::{DeadlineRule, Loader, SigningCredential};
 use std::alloc::AllocError;
 
 /// Takes room for the row of one more cache, or changes nothing.

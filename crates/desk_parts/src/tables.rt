@@ -3,14 +3,12 @@
 ghost use Rattle.std.specs.Prelude.{◌≡◌, [], false, option_map, option_copied, IfSome, slice_get};
 
 use crate::call_record::{CallRecord, Stage};
-use credentials::{DeadlineRule, SigningCredential};
-use sequential_signer::Loader;
-use sign_base::EqualByValue;
+use sequential_signer::{DeadlineRule, Loader, SigningCredential};
+use sign_base::{CallId, EqualByValue};
 use std::alloc::Global;
 use std::collections::BTreeMap;
 use std::marker::Model;
 use std::time::Duration;
-use wake_lock::CallId;
 
 /// A handle: its cache and its rule, by their places.
 #[derive(Clone, Copy, Debug, PartialEq, Eq)]

@@ -1,6 +1,6 @@
 -- What a granter's desk replies, by its cause.
 use Rattle.std.proofs.Common.{ℤ, Bool, true, false, cond, Option, Some, None, refl, inl, inr}
-use Rattle.wake_lock.specs.declared.CallId.{CallId}
+use Rattle.sign_base.specs.declared.call_id.CallId.{CallId}
 use Rattle.sequential_signer.specs.Lookup.{HandOut, Refuse}
 use Rattle.sequential_signer.specs.Policy.{Policy}
 use Rattle.sequential_signer.specs.SequentialCall.{Progress, Asking, Over}

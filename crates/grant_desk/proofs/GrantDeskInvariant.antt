@@ -14,7 +14,7 @@ use Rattle.sequential_signer.specs.declared.grant_event.GrantEvent.{GrantEvent}
 use Rattle.sequential_signer.specs.declared.grant_event.GrantEvent.TheVariants.{Begin, Poll, Provided, Granted, Cancel}
 use Rattle.sequential_signer.specs.declared.grant_event.GrantReply.{GrantReply}
 use Rattle.sequential_signer.specs.declared.grant_event.GrantReply.TheVariants.{Begun, Pending, NotNow, OutOfMemory, Ask, Grant, Refused, Given, Cancelled}
-use Rattle.wake_lock.proofs.Truth.{or_left, or_right}
+use Rattle.sign_base.proofs.Truth.{or_left, or_right}
 use Rattle.sequential_signer.proofs.Lists.{list_any-more, or_false}
 use Rattle.sequential_signer.proofs.GrantEntries.{as_signer-more}
 use Rattle.sequential_signer.proofs.GrantRuns.{committed_grants-more}

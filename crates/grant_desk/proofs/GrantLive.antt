@@ -1,6 +1,6 @@
 -- What is known of a granter's live call, and the replies to events that do not fit.
 use Rattle.std.proofs.Common.{◌≡◌, ℤ, false, List, Some, None, option_map, option_and_then, slice_get, length, refl, sym, ◌∙◌, ap}
-use Rattle.wake_lock.specs.declared.CallId.{CallId}
+use Rattle.sign_base.specs.declared.call_id.CallId.{CallId}
 use Rattle.sequential_signer.specs.Policy.{Policy}
 use Rattle.sequential_signer.specs.Setup.{Handle, cache_of, rule_of}
 use Rattle.sequential_signer.specs.Phase.{Phase, is_live}

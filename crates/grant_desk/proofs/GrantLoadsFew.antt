@@ -1,7 +1,7 @@
 -- A granter's call that loads had fewer answers than there are providers.
 use Rattle.std.proofs.Common.{◌≡◌, ◌<◌, ℕ, ℤ, Bool, true, false, cond, List, [], ◌∷◌, ◌++◌, Option, Some, None, slice_get, length, refl, sym, ◌∙◌, ap, subst}
-use Rattle.wake_lock.specs.declared.CallId.{CallId}
-use Rattle.wake_lock.specs.Calls.{same_call}
+use Rattle.sign_base.specs.declared.call_id.CallId.{CallId}
+use Rattle.sign_base.specs.Calls.{same_call}
 use Rattle.sequential_signer.specs.Lookup.{HandOut, Refuse, cache_lookup, check_refreshed}
 use Rattle.sequential_signer.specs.Policy.{Policy}
 use Rattle.sequential_signer.specs.SequentialCall.{Progress, Asking, Over, call_load}
@@ -22,7 +22,7 @@ use Rattle.sequential_signer.specs.declared.grant_event.GrantReply.{GrantReply}
 use Rattle.sequential_signer.specs.declared.grant_event.GrantReply.TheVariants.{Begun, Pending, NotNow, OutOfMemory, Ask, Grant, Refused, Given, Cancelled}
 use Rattle.sequential_signer.specs.declared.grant_event.GrantWhy.TheVariants.{Stale}
 use Rattle.sequential_signer.specs.declared.grant_event.Made.TheVariants.{Made, Failed}
-use Rattle.wake_lock.proofs.Calls.{same_call-eq, same_call-refl}
+use Rattle.sign_base.proofs.Calls.{same_call-eq, same_call-refl}
 use Rattle.sequential_signer.proofs.GrantEntries.{grant_phase-other, grant_answers-other, grant_answers-own_none, answers_after-provided, answers_after-not_now, phase_after-grant, phase_after-refused, phase_after-given, phase_after-cancelled, phase_after-begun, phase_after-not_now, phase_after-pending}
 use Rattle.sequential_signer.proofs.GrantCalls.{GrantCallInvariant, unpolled_grant, grant_stands, run_grant_unpolled, run_grant_blank}
 use Rattle.sequential_signer.proofs.GrantSteps.{IsGrantRun, start, more, goes_on, GrantStep, misfits, begins, waits, takes_on, expected_is_step}

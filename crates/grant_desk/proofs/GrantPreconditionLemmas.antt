@@ -1,6 +1,6 @@
 -- What a step relies on, of a granter's desk that represents a transcript.
 use Rattle.std.proofs.Common.{◌≡◌, ◌<◌, ℕ, true, List, Some, IsSome, is_some, option_map, slice_get, length, refl, sym, ◌∙◌, ap, subst, IfSome}
-use Rattle.wake_lock.specs.declared.CallId.{CallId}
+use Rattle.sign_base.specs.declared.call_id.CallId.{CallId}
 use Rattle.sequential_signer.specs.Policy.{Policy}
 use Rattle.sequential_signer.specs.Setup.{Handle, cache_of}
 use Rattle.sequential_signer.specs.Phase.{is_loading}

@@ -1,8 +1,8 @@
 -- A granter's desk that represents a transcript represents it with one more entry, where what it keeps
 -- follows the entry.
 use Rattle.std.proofs.Common.{◌≡◌, ◌<◌, ℕ, true, false, cond, ◌&&◌, ◌||◌, ◌+◌, ◌==◌, List, [], ◌∷◌, ◌++◌, Option, Some, None, option_map, slice_get, slice_set, length, refl, sym, ◌∙◌, ap, subst, inl, inr, IsTrue, arith}
-use Rattle.wake_lock.specs.declared.CallId.{CallId}
-use Rattle.wake_lock.specs.Calls.{same_call}
+use Rattle.sign_base.specs.declared.call_id.CallId.{CallId}
+use Rattle.sign_base.specs.Calls.{same_call}
 use Rattle.sequential_signer.specs.Policy.{Policy}
 use Rattle.sequential_signer.specs.Setup.{cache_of, is_number}
 use Rattle.sequential_signer.specs.Transcript.{is_out_of_memory}
@@ -19,8 +19,8 @@ use Rattle.sequential_signer.specs.declared.grant_event.GrantEvent.{GrantEvent}
 use Rattle.sequential_signer.specs.declared.grant_event.GrantEvent.TheVariants.{Provided}
 use Rattle.sequential_signer.specs.declared.grant_event.GrantReply.{GrantReply}
 use Rattle.sequential_signer.specs.declared.grant_event.GrantReply.TheVariants.{Begun, Pending, NotNow, OutOfMemory, Ask, Grant, Refused, Given, Cancelled}
-use Rattle.wake_lock.proofs.Calls.{same_call-refl}
-use Rattle.wake_lock.proofs.Truth.{number_comm, number_refl}
+use Rattle.sign_base.proofs.Calls.{same_call-refl}
+use Rattle.sign_base.proofs.Truth.{number_comm, number_refl}
 use Rattle.sequential_signer.proofs.Lists.{list_any-more, or_false}
 use Rattle.sequential_signer.proofs.GrantEntries.{as_signer-more, grant_greatest-more, live_grant-other, phase_after-not_now, live_after-not_now}
 use Rattle.sequential_signer.proofs.GrantSteps.{IsGrantRun, legal_grant_run, legal_grant-more}

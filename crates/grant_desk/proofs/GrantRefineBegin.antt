@@ -1,7 +1,7 @@
 -- What is done at a granter's begin is one more entry of the transcript.
 use Rattle.std.proofs.Common.{◌≡◌, ℕ, Bool, true, false, cond, ◌&&◌, ◌+◌, ◌==◌, List, [], ◌∷◌, ◌++◌, Option, Some, None, is_some, option_map, slice_get, slice_set, length, refl, sym, ◌∙◌, ap, subst, inl, inr, arith}
 use Rattle.std.specs.declared.time.Duration.{Duration}
-use Rattle.wake_lock.specs.declared.CallId.{CallId}
+use Rattle.sign_base.specs.declared.call_id.CallId.{CallId}
 use Rattle.sequential_signer.specs.Policy.{Policy}
 use Rattle.sequential_signer.specs.Setup.{Handle, cache_of}
 use Rattle.sequential_signer.specs.Phase.{Unpolled, is_live, is_begun, is_new_number, begin_fits}
@@ -12,8 +12,8 @@ use Rattle.sequential_signer.specs.declared.grant_event.GrantEntry.{GrantEntry}
 use Rattle.sequential_signer.specs.declared.grant_event.GrantEvent.TheVariants.{Begin}
 use Rattle.sequential_signer.specs.declared.grant_event.GrantReply.{GrantReply}
 use Rattle.sequential_signer.specs.declared.grant_event.GrantReply.TheVariants.{Begun, NotNow, OutOfMemory}
-use Rattle.wake_lock.proofs.Calls.{same_call-refl}
-use Rattle.wake_lock.proofs.Truth.{number_refl, and_left, and_right, same_number, other_number}
+use Rattle.sign_base.proofs.Calls.{same_call-refl}
+use Rattle.sign_base.proofs.Truth.{number_refl, and_left, and_right, same_number, other_number}
 use Rattle.sequential_signer.proofs.Lists.{list_any-more, or_true}
 use Rattle.sequential_signer.proofs.Places.{slice_get-set_same, slice_get-set_other}
 use Rattle.sequential_signer.proofs.Greatest.{is_new_number-is, greater_above}

@@ -1,7 +1,7 @@
 -- What is done at the granter's answer and at a cancel is one more entry of the transcript.
 use Rattle.std.proofs.Common.{◌≡◌, ℤ, Bool, true, false, cond, List, Some, refl, ◌∙◌, ap, inl, inr}
-use Rattle.wake_lock.specs.declared.CallId.{CallId}
-use Rattle.wake_lock.specs.Calls.{same_call}
+use Rattle.sign_base.specs.declared.call_id.CallId.{CallId}
+use Rattle.sign_base.specs.Calls.{same_call}
 use Rattle.sequential_signer.specs.Policy.{Policy}
 use Rattle.sequential_signer.specs.Setup.{Handle, cache_of}
 use Rattle.sequential_signer.specs.Phase.{Signing, is_signing}
@@ -13,7 +13,7 @@ use Rattle.sequential_signer.specs.declared.grant_event.GrantReply.TheVariants.{
 use Rattle.sequential_signer.specs.declared.grant_event.GrantWhy.TheVariants.{Service, Stale}
 use Rattle.sequential_signer.specs.declared.grant_event.Made.{Made as MadeOrFailed}
 use Rattle.sequential_signer.specs.declared.grant_event.Made.TheVariants.{Made, Failed}
-use Rattle.wake_lock.proofs.Calls.{same_call-refl}
+use Rattle.sign_base.proofs.Calls.{same_call-refl}
 use Rattle.sequential_signer.proofs.GrantEntries.{phase_after-refused, phase_after-given, phase_after-cancelled}
 use Rattle.sequential_signer.proofs.GrantRows.{grant_misfit, expected_check, made_allocates, expected_failure, expected_cancel}
 use Rattle.desk_parts.specs.Action.{TakesEffect, Does, Allocates, end_effect}

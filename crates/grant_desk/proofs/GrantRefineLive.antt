@@ -2,8 +2,8 @@
 -- follows the
 -- entry; and so is what is done by how far a look or a load gets.
 use Rattle.std.proofs.Common.{◌≡◌, ℕ, true, false, List, [], ◌∷◌, ◌++◌, Option, Some, None, option_map, length, refl, sym, ◌∙◌, ap, subst, inl, inr, IsTrue}
-use Rattle.wake_lock.specs.declared.CallId.{CallId}
-use Rattle.wake_lock.specs.Calls.{same_call}
+use Rattle.sign_base.specs.declared.call_id.CallId.{CallId}
+use Rattle.sign_base.specs.Calls.{same_call}
 use Rattle.sequential_signer.specs.Lookup.{HandOut, Refuse}
 use Rattle.sequential_signer.specs.Policy.{Policy}
 use Rattle.sequential_signer.specs.SequentialCall.{Progress, Asking, Over}
@@ -19,7 +19,7 @@ use Rattle.sequential_signer.specs.declared.grant_event.GrantEntry.{GrantEntry}
 use Rattle.sequential_signer.specs.declared.grant_event.GrantEvent.{GrantEvent}
 use Rattle.sequential_signer.specs.declared.grant_event.GrantReply.{GrantReply}
 use Rattle.sequential_signer.specs.declared.grant_event.GrantReply.TheVariants.{Ask, Grant, Refused}
-use Rattle.wake_lock.proofs.Calls.{same_call-refl}
+use Rattle.sign_base.proofs.Calls.{same_call-refl}
 use Rattle.sequential_signer.proofs.GrantEntries.{live_grant, ended_grant-not_live, grant_begin-own, phase_after-ask, phase_after-grant, phase_after-refused}
 use Rattle.desk_parts.specs.Action.{TakesEffect, as_viewed, live_effect, end_effect}
 use Rattle.desk_parts.specs.Change.{ChangesOnlyCall}

@@ -1,6 +1,6 @@
 -- What is done at a poll of a granter's call is one more entry of the transcript.
 use Rattle.std.proofs.Common.{◌≡◌, ◌+◌, ℤ, true, List, [], ◌∷◌, ◌++◌, length, refl, sym, ◌∙◌, ap}
-use Rattle.wake_lock.specs.declared.CallId.{CallId}
+use Rattle.sign_base.specs.declared.call_id.CallId.{CallId}
 use Rattle.sequential_signer.specs.Policy.{Policy}
 use Rattle.sequential_signer.specs.Setup.{Handle}
 use Rattle.sequential_signer.specs.Phase.{is_live, is_waiting}
@@ -11,7 +11,7 @@ use Rattle.sequential_signer.specs.declared.grant_event.GrantEntry.{GrantEntry}
 use Rattle.sequential_signer.specs.declared.grant_event.GrantEvent.TheVariants.{Poll}
 use Rattle.sequential_signer.specs.declared.grant_event.GrantReply.{GrantReply}
 use Rattle.sequential_signer.specs.declared.grant_event.GrantReply.TheVariants.{Pending, Grant}
-use Rattle.wake_lock.proofs.Calls.{same_call-refl}
+use Rattle.sign_base.proofs.Calls.{same_call-refl}
 use Rattle.sequential_signer.proofs.LegalStep.{is_busy}
 use Rattle.sequential_signer.proofs.GrantBegun.{live_grants-same}
 use Rattle.sequential_signer.proofs.GrantEntries.{grant_answers-own_none, phase_after-pending, live_after-pending}

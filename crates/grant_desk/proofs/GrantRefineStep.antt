@@ -1,6 +1,6 @@
 -- What a step of a granter's desk does is one more entry of the transcript.
 use Rattle.std.proofs.Common.{◌≡◌, ℤ, false, List, None, refl}
-use Rattle.wake_lock.specs.declared.CallId.{CallId}
+use Rattle.sign_base.specs.declared.call_id.CallId.{CallId}
 use Rattle.sequential_signer.specs.Policy.{Policy}
 use Rattle.sequential_signer.specs.Setup.{Handle}
 use Rattle.sequential_signer.specs.Phase.{is_live}

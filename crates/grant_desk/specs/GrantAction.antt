@@ -1,6 +1,6 @@
 -- What a granter's desk does at an event, on what it keeps.
 use Rattle.std.specs.Prelude.{ℤ, Option, Some, None, if◌then◌else◌}
-use Rattle.wake_lock.specs.declared.CallId.{CallId}
+use Rattle.sign_base.specs.declared.call_id.CallId.{CallId}
 use Rattle.sequential_signer.specs.Policy.{Policy}
 use Rattle.sequential_signer.specs.Lookup.{HandOut, Refuse}
 use Rattle.sequential_signer.specs.SequentialCall.{Progress, Asking, Over}

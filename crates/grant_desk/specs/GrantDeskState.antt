@@ -1,7 +1,7 @@
 -- What a granter's desk keeps, and the transcripts that it represents. A granter's
 -- transcript is read as a signer's.
 use Rattle.std.specs.Prelude.{◌≡◌, ℕ, List, slice_get, option_map, length}
-use Rattle.wake_lock.specs.declared.CallId.{CallId}
+use Rattle.sign_base.specs.declared.call_id.CallId.{CallId}
 use Rattle.sequential_signer.specs.Policy.{Policy}
 use Rattle.sequential_signer.specs.LiveCall.{LiveCall, live_call, greatest_begun, live_calls}
 use Rattle.sequential_signer.specs.GrantTranscript.{no_head, as_signer, committed_grants}

@@ -1,6 +1,6 @@
 -- What a step of a granter's desk relies on.
 use Rattle.std.specs.Prelude.{◌≡◌, ℕ, ◌<◌, IsSome, length, slice_get, IfSome}
-use Rattle.wake_lock.specs.declared.CallId.{CallId}
+use Rattle.sign_base.specs.declared.call_id.CallId.{CallId}
 use Rattle.desk_parts.specs.LiveCallView.{find_view}
 use Rattle.desk_parts.specs.Places.{provider_count}
 use Rattle.desk_parts.specs.Tables.{find_call}

@@ -11,9 +11,8 @@
 ghost use Rattle.std.specs.Prelude.{◌≡◌, ◌<◌, ◌++◌, ◌∷◌, [], List, IsOk, true, not, OnOk, OnErr, IfOk, IfErr, length, option_map, option_and_then, option_copied, slice_get};
 
 use crate::state::State;
-use credentials::{DeadlineRule, SigningCredential};
 use desk_parts::{AddError, AddRefused, HandleRecord, RunError, Tables};
-use sequential_signer::{GrantEvent, GrantReply, Loader};
+use sequential_signer::{DeadlineRule, GrantEvent, GrantReply, Loader, SigningCredential};
 use std::alloc::Global;
 use std::marker::Model;
 

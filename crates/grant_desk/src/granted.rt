@@ -2,11 +2,9 @@
 ghost use Rattle.std.specs.Prelude.{◌≡◌, ◌≢◌};
 
 use crate::state::State;
-use credentials::{DeadlineRule, SigningCredential};
 use desk_parts::Stage;
-use sequential_signer::{GrantReply, GrantWhy, Made};
-use sign_base::Timestamp;
-use wake_lock::CallId;
+use sequential_signer::{DeadlineRule, GrantReply, GrantWhy, Made, SigningCredential};
+use sign_base::{CallId, Timestamp};
 
 impl<K: SigningCredential, D: DeadlineRule<Credential = K>> State<K, D> {
     ghost use Rattle.sequential_signer.specs.Policy.{policy_of};

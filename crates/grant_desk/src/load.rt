@@ -3,11 +3,11 @@ ghost use Rattle.std.specs.Prelude.{◌≡◌, ◌≢◌, ◌<◌, IsSome, lengt
 
 use crate::replies::as_grant_why;
 use crate::state::State;
-use credentials::{DeadlineRule, SigningCredential};
 use desk_parts::{LiveCallView, Stage};
-use sequential_signer::{Answer, GrantReply, GrantWhy, Loader, Why};
-use sign_base::Timestamp;
-use wake_lock::CallId;
+use sequential_signer::{
+    Answer, DeadlineRule, GrantReply, GrantWhy, Loader, SigningCredential, Why,
+};
+use sign_base::{CallId, Timestamp};
 
 impl<K: SigningCredential, D: DeadlineRule<Credential = K>> State<K, D> {
     ghost use Rattle.sequential_signer.specs.Policy.{policy_of};

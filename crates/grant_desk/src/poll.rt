@@ -3,11 +3,9 @@ ghost use Rattle.std.specs.Prelude.{◌≡◌, ◌≢◌};
 
 use crate::replies::as_grant_why;
 use crate::state::State;
-use credentials::{DeadlineRule, SigningCredential};
 use desk_parts::{LiveCallView, Lookup, Stage};
-use sequential_signer::GrantReply;
-use sign_base::Timestamp;
-use wake_lock::CallId;
+use sequential_signer::{DeadlineRule, GrantReply, SigningCredential};
+use sign_base::{CallId, Timestamp};
 
 impl<K: SigningCredential, D: DeadlineRule<Credential = K>> State<K, D> {
     ghost use Rattle.sequential_signer.specs.Policy.{policy_of};

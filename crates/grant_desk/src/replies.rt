@@ -3,10 +3,9 @@ ghost use Rattle.std.specs.Prelude.{◌≡◌, IsSome};
 ghost use Rattle.sequential_signer.specs.ExpectedGrantReply.{grant_why};
 
 use crate::state::State;
-use credentials::{DeadlineRule, SigningCredential};
 use desk_parts::{LiveCallView, Stage};
-use sequential_signer::{GrantReply, GrantWhy, Why};
-use wake_lock::CallId;
+use sequential_signer::{DeadlineRule, GrantReply, GrantWhy, SigningCredential, Why};
+use sign_base::CallId;
 
 impl<K: SigningCredential, D: DeadlineRule<Credential = K>> State<K, D> {
     ghost use Rattle.sequential_signer.specs.declared.grant_event.GrantReply.TheVariants.{Ask, Grant, Refused};

@@ -2,10 +2,10 @@
 //! of a queue, and no call is begun with a head.
 ghost use Rattle.std.specs.Prelude.{◌≡◌, IfSome};
 
-use credentials::{DeadlineRule, SigningCredential};
 use desk_parts::{LiveCallView, Tables};
+use sequential_signer::{DeadlineRule, SigningCredential};
+use sign_base::CallId;
 use std::marker::Model;
-use wake_lock::CallId;
 
 /// What a granter's desk keeps.
 #[derive(Drop)]

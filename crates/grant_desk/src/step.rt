@@ -3,11 +3,10 @@
 ghost use Rattle.std.specs.Prelude.{◌≡◌, ◌≢◌};
 
 use crate::state::State;
-use credentials::{DeadlineRule, SigningCredential};
 use desk_parts::{CallRecord, Stage};
-use sequential_signer::{GrantEvent, GrantReply};
+use sequential_signer::{DeadlineRule, GrantEvent, GrantReply, SigningCredential};
+use sign_base::CallId;
 use std::time::Duration;
-use wake_lock::CallId;
 
 impl<K: SigningCredential, D: DeadlineRule<Credential = K>> State<K, D> {
     ghost use Rattle.sequential_signer.specs.Policy.{policy_of};

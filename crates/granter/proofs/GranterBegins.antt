@@ -1,6 +1,6 @@
 -- A granter that begins a call.
 use Rattle.std.proofs.Common.{◌≡◌, ◌<◌, ◌+◌, ℕ, length, IsSomeAnd, refl, sym, ◌∙◌, subst}
-use Rattle.wake_lock.specs.declared.CallId.{CallId}
+use Rattle.sign_base.specs.declared.call_id.CallId.{CallId}
 use Rattle.sequential_signer.specs.Policy.{Policy}
 use Rattle.sequential_signer.specs.declared.grant_event.GrantEvent.TheVariants.{Begin}
 use Rattle.sequential_signer.specs.declared.grant_event.GrantReply.TheVariants.{Begun}

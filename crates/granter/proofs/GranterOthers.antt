@@ -1,6 +1,6 @@
 -- The states of other calls stay those that the granter issued.
 use Rattle.std.proofs.Common.{ap, ◌≡◌, ℕ, Option, Some, None, IsSomeAnd, refl, sym, ◌∙◌, subst}
-use Rattle.wake_lock.specs.declared.CallId.{CallId}
+use Rattle.sign_base.specs.declared.call_id.CallId.{CallId}
 use Rattle.grant_desk.specs.GrantDeskState.{GrantState}
 use Rattle.desk_driver.specs.CallAt.{IsLive, LeavesOthers}
 use Rattle.desk_driver.proofs.KeptCalls.{KeepsCall, keeps-other, keeps-provider}

@@ -1,9 +1,9 @@
 -- A call that is polled with the objects of a granter.
 use Rattle.std.specs.Prelude.{◌≡◌, ℤ, Some}
 use Rattle.sequential_signer.specs.Policy.{Policy, policy_of}
-use Rattle.credentials.specs.declared.credential.SigningCredential as SigningCredential
+use Rattle.sequential_signer.specs.declared.credential.SigningCredential as SigningCredential
 use Rattle.credentials.specs.declared.provide.ProvideCredential as ProvideCredential
-use Rattle.credentials.specs.declared.rule.DeadlineRule as DeadlineRule
+use Rattle.sequential_signer.specs.declared.rule.DeadlineRule as DeadlineRule
 use Rattle.credentials.specs.declared.grant.GrantCredential as GrantCredential
 use Rattle.grant_desk.specs.GrantDeskState.{GrantState}
 use Rattle.granter.specs.Course.{PolledCall, polled_call, IsDriven}

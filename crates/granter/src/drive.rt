@@ -12,13 +12,11 @@ ghost use Rattle.grant_desk.specs.GrantSteps.{IsGrantStep, RunsOutAtBegins};
 ghost use Rattle.desk_driver.specs.CallAt.{IsLive, IsAsking, IsSigning, LeavesOthers};
 ghost use Rattle.granter.specs.DeskReplies.{IsUnpolled, IsBegun, AfterPoll, AfterFound, AfterNone, AfterMade, found_in_event, made_in_event};
 
-use credentials::{DeadlineRule, SigningCredential};
 use desk_driver::BegunCall;
 use grant_desk::GrantDesk;
-use sequential_signer::{Answer, GrantEvent, GrantReply, Made};
-use sign_base::{NoMemory, Timestamp};
+use sequential_signer::{Answer, DeadlineRule, GrantEvent, GrantReply, Made, SigningCredential};
+use sign_base::{CallId, NoMemory, Timestamp};
 use std::time::Duration;
-use wake_lock::CallId;
 
 /// The number of an error in the desk's events. The error itself stays with the granter.
 const ERROR: u64 = 0;

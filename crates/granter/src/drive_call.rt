@@ -10,9 +10,10 @@ use crate::grant::Grant;
 use crate::grant_poll::GrantPoll;
 use crate::step_call::step;
 use crate::step_outcome::{StepEnd, StepFlow};
-use credentials::{GrantCredential, ProvideCredential, SigningCredential};
+use credentials::{GrantCredential, ProvideCredential};
 use desk_driver::BegunCall;
 use grant_desk::GrantDesk;
+use sequential_signer::SigningCredential;
 use sign_base::Timestamp;
 
 /// Polls a call of a granter with these objects.

@@ -23,16 +23,16 @@ use crate::drive_call::drive;
 use crate::grant::{CallState, Grant};
 use crate::grant_poll::GrantPoll;
 use crate::handle_room::{FirstRoom, make_room};
-use credentials::{GrantCredential, ProvideCredential, Providers, SigningCredential};
+use credentials::{GrantCredential, ProvideCredential, Providers};
 use desk_driver::{BegunCall, loader_of};
 use desk_parts::AddRefused;
 use grant_desk::GrantDesk;
-use sign_base::{Error, NoMemory, Timestamp};
+use sequential_signer::SigningCredential;
+use sign_base::{CallId, Error, NoMemory, Timestamp};
 use std::alloc::Global;
 use std::fmt;
 use std::marker::Model;
 use std::time::Duration;
-use wake_lock::CallId;
 
 const USED_UP: &str = "call numbers are used up";
 

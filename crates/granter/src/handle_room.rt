@@ -3,10 +3,10 @@ ghost use Rattle.std.specs.Prelude.{◌≡◌, ◌<◌, [], ◌∷◌, length, O
 ghost use Rattle.std.specs.Vec.{vec_len, vec_capacity};
 ghost use Rattle.desk_parts.specs.Adding.{late_refusal, AddAnswer};
 
-use credentials::{DeadlineRule, Providers, SigningCredential};
+use credentials::Providers;
 use desk_parts::AddError;
 use grant_desk::GrantDesk;
-use sequential_signer::Loader;
+use sequential_signer::{DeadlineRule, Loader, SigningCredential};
 use std::alloc::Global;
 
 /// A desk with one empty cache, and room for the objects of its first handle.

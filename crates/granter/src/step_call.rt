@@ -13,9 +13,10 @@ use crate::object_answer::WorkAnswer;
 use crate::refusal::GrantRefusal;
 use crate::step_outcome::{StepEnd, StepFlow};
 use crate::step_reply::{after_found, after_made, after_none, after_poll};
-use credentials::{GrantCredential, ProvideCredential, SigningCredential};
+use credentials::{GrantCredential, ProvideCredential};
 use desk_driver::{BegunCall, LoadAnswer, LoadState, poll_provider, provider_at};
 use grant_desk::GrantDesk;
+use sequential_signer::SigningCredential;
 use sign_base::Timestamp;
 
 /// One step of a call in this state.

@@ -2,8 +2,6 @@
 //! with ample memory.
 mod chains;
 mod contexts;
-mod deadlines;
 mod environments;
 mod objects;
-mod printed;
 mod providers;

@@ -1,17 +1,16 @@
 //! Debug texts of entries show no secret of a head, and of a credential what its type shows.
-use crate::heads::{Headers, plain_head};
-use crate::told::hides_with_stars;
+use crate::told::hides_as;
+use fixtures::{Headers, head_with_headers};
 use sequential_signer::{
     Answer, Entry, Event, GrantEntry, GrantEvent, GrantReply, Made, Reply, Verdict,
 };
-use sign_base::{Head, Timestamp};
+use sign_base::{CallId, Head, Timestamp};
 use std::alloc::Global;
 use std::fmt;
 use std::process::Abort;
-use wake_lock::CallId;
 
 /// A credential whose author hides it.
-#[derive(Drop)]
+#[derive(Clone, Copy)]
 struct Key {
     number: u64,
 }
@@ -22,6 +21,8 @@ impl fmt::Debug for Key {
     }
 }
 
+const KEY: Key = Key { number: 736_573 };
+
 const CALL: CallId = CallId {
     handle: 0,
     number: 1,
@@ -30,28 +31,47 @@ const CALL: CallId = CallId {
 const HEADERS: Headers<'static> = &[("authorization", b"open sesame to the cave")];
 
 fn signed(rt: &impl Abort, alloc: Global) -> Head {
-    plain_head(alloc, "GET", "https://e.x/a?sig=sesame", HEADERS).expect(rt, "memory")
+    head_with_headers(alloc, "GET", "https://e.x/a?sig=sesame", HEADERS).expect(rt, "memory")
 }
 
-fn begun(head: Head, done: Head) -> Entry<Key> {
-    Entry {
-        event: Event::Begin {
-            call: CALL,
-            head,
-            expires_in: None,
-        },
-        reply: Reply::Done { head: done },
+fn begun(head: Head) -> Event<Key> {
+    Event::Begin {
+        call: CALL,
+        head,
+        expires_in: None,
     }
 }
 
-fn accepted(head: Head) -> Entry<Key> {
-    Entry {
-        event: Event::Signed {
-            call: CALL,
-            answer: Verdict::Accepted(head),
-        },
-        reply: Reply::Pending,
+fn accepted(head: Head) -> Event<Key> {
+    Event::Signed {
+        call: CALL,
+        answer: Verdict::Accepted(head),
     }
+}
+
+fn done(head: Head) -> Reply<Key> {
+    Reply::Done { head }
+}
+
+const BEGUN: &str =
+    r#"Begin { call: CallId { handle: 0, number: 1 }, head: Head { method: "GET", uri: "https://e.x/a"?***, version: V11, headers: ["authorization": ope***ave] }, expires_in: None }"#;
+
+const ACCEPTED: &str =
+    r#"Signed { call: CallId { handle: 0, number: 1 }, answer: Accepted(Head { method: "GET", uri: "https://e.x/a"?***, version: V11, headers: ["authorization": ope***ave] }) }"#;
+
+const DONE: &str =
+    r#"Done { head: Head { method: "GET", uri: "https://e.x/a"?***, version: V11, headers: ["authorization": ope***ave] } }"#;
+
+#[test]
+fn heads_of_events_and_replies_show_no_secret(rt: HostRuntime) {
+    hides_as(&rt, rt.alloc(), &begun(signed(&rt, rt.alloc())), BEGUN);
+    hides_as(
+        &rt,
+        rt.alloc(),
+        &accepted(signed(&rt, rt.alloc())),
+        ACCEPTED,
+    );
+    hides_as(&rt, rt.alloc(), &done(signed(&rt, rt.alloc())), DONE);
 }
 
 fn provided(now: Timestamp) -> Entry<Key> {
@@ -59,10 +79,10 @@ fn provided(now: Timestamp) -> Entry<Key> {
         event: Event::Provided {
             call: CALL,
             now,
-            answer: Answer::Found(Key { number: 736_573 }),
+            answer: Answer::Found(KEY),
         },
         reply: Reply::Sign {
-            credential: Key { number: 736_573 },
+            credential: KEY,
             wake: None,
         },
     }
@@ -73,11 +93,9 @@ fn found(now: Timestamp) -> GrantEntry<Key> {
         event: GrantEvent::Provided {
             call: CALL,
             now,
-            answer: Answer::Found(Key { number: 736_573 }),
+            answer: Answer::Found(KEY),
         },
-        reply: GrantReply::Grant {
-            source: Key { number: 736_573 },
-        },
+        reply: GrantReply::Grant { source: KEY },
     }
 }
 
@@ -86,43 +104,25 @@ fn granted(now: Timestamp) -> GrantEntry<Key> {
         event: GrantEvent::Granted {
             call: CALL,
             now,
-            answer: Made::Made(Key { number: 736_573 }),
+            answer: Made::Made(KEY),
         },
-        reply: GrantReply::Given {
-            credential: Key { number: 736_573 },
-        },
+        reply: GrantReply::Given { credential: KEY },
     }
 }
 
-fn begun_hides(rt: &impl Abort, alloc: Global) {
-    let entry = begun(signed(rt, alloc), signed(rt, alloc));
-    hides_with_stars(rt, alloc, &entry);
-}
+const PROVIDED: &str =
+    "Entry { event: Provided { call: CallId { handle: 0, number: 1 }, now: Timestamp { nanos: 7 }, answer: Found(Key(***)) }, reply: Sign { credential: Key(***), wake: None } }";
 
-fn accepted_hides(rt: &impl Abort, alloc: Global) {
-    let entry = accepted(signed(rt, alloc));
-    hides_with_stars(rt, alloc, &entry);
-}
+const FOUND: &str =
+    "GrantEntry { event: Provided { call: CallId { handle: 0, number: 1 }, now: Timestamp { nanos: 7 }, answer: Found(Key(***)) }, reply: Grant { source: Key(***) } }";
 
-fn provided_hides(rt: &impl Abort, alloc: Global, now: Timestamp) {
-    hides_with_stars(rt, alloc, &provided(now));
-}
+const GRANTED: &str =
+    "GrantEntry { event: Granted { call: CallId { handle: 0, number: 1 }, now: Timestamp { nanos: 7 }, answer: Made(Key(***)) }, reply: Given { credential: Key(***) } }";
 
-fn found_hides(rt: &impl Abort, alloc: Global, now: Timestamp) {
-    hides_with_stars(rt, alloc, &found(now));
-}
-
-fn granted_hides(rt: &impl Abort, alloc: Global, now: Timestamp) {
-    hides_with_stars(rt, alloc, &granted(now));
-}
-
-/// A function each, since one that holds several entries takes minutes to prove.
 #[test]
-fn entries_show_no_secret(rt: HostRuntime) {
+fn credentials_of_entries_show_what_their_type_shows(rt: HostRuntime) {
     let now = Timestamp::from_nanos(7).expect(&rt, "a moment");
-    begun_hides(&rt, rt.alloc());
-    accepted_hides(&rt, rt.alloc());
-    provided_hides(&rt, rt.alloc(), now);
-    found_hides(&rt, rt.alloc(), now);
-    granted_hides(&rt, rt.alloc(), now);
+    hides_as(&rt, rt.alloc(), &provided(now), PROVIDED);
+    hides_as(&rt, rt.alloc(), &found(now), FOUND);
+    hides_as(&rt, rt.alloc(), &granted(now), GRANTED);
 }

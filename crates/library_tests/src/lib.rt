@@ -7,11 +7,7 @@ mod base_tests;
 #[cfg(test)]
 mod credentials_tests;
 #[cfg(test)]
-mod digests;
-#[cfg(test)]
 mod entries;
-#[cfg(test)]
-mod heads;
 #[cfg(test)]
 mod locks;
 #[cfg(test)]

@@ -14,15 +14,10 @@ fn push_pair(
     pairs.push((key, value)).ok()
 }
 
-fn push_pairs(alloc: Global, pairs: &mut Vec<(String, String)>, texts: Pairs<'_>) -> Option<()> {
-    for (key, value) in texts {
-        push_pair(alloc, pairs, *key, *value)?;
-    }
-    Some(())
-}
-
 pub(crate) fn owned(alloc: Global, texts: Pairs<'_>) -> Option<Vec<(String, String)>> {
     let mut pairs = Vec::new(alloc);
-    push_pairs(alloc, &mut pairs, texts)?;
+    for (key, value) in texts {
+        push_pair(alloc, &mut pairs, *key, *value)?;
+    }
     Some(pairs)
 }

@@ -1,7 +1,7 @@
 -- How far a call is after one more entry of its own.
 use Rattle.std.proofs.Common.{◌≡◌, Bool, true, false, List, [], ◌∷◌, ◌++◌, refl, ap}
-use Rattle.wake_lock.specs.declared.CallId.{CallId}
-use Rattle.wake_lock.specs.Calls.{same_call}
+use Rattle.sign_base.specs.declared.call_id.CallId.{CallId}
+use Rattle.sign_base.specs.Calls.{same_call}
 use Rattle.sequential_signer.specs.Transcript.{call_of, entries_of}
 use Rattle.sequential_signer.specs.Phase.{Phase, Unknown, Unpolled, Queued, Loading, Signing, Ended, phase_of, phase_in, phase_by, is_waiting, is_live, is_loading, is_signing}
 use Rattle.sequential_signer.specs.declared.event.Entry.{Entry}

@@ -9,7 +9,7 @@ use Rattle.sequential_signer.specs.Transcript.{call_of}
 use Rattle.sequential_signer.specs.declared.event.Entry.{Entry}
 use Rattle.signer_book.specs.Settled.{IsEntryOf, places, all_receipts}
 use Rattle.signer_book.specs.declared.pass.Receipt.{Receipt}
-use Rattle.wake_lock.proofs.Truth.{and_left, and_right}
+use Rattle.sign_base.proofs.Truth.{and_left, and_right}
 use Rattle.pool_jobs.proofs.Dealt.{is_of, is_from, split_from, all_from}
 use Rattle.pool_jobs.proofs.Picked.{ArePicked, picked_few, picked_all}
 use Rattle.pool_jobs.proofs.WorkerCourses.{entries}

@@ -1,7 +1,7 @@
 -- The expected replies at a cache with one provider, whose credential is good for the calls.
 use Rattle.std.proofs.Common.{◌≡◌, ℕ, ℤ, true, false, List, [], ◌∷◌, ◌++◌, Option, Some, None, length, slice_get, refl, ◌∙◌, ap}
 use Rattle.sign_base.specs.declared.head.Head.{Head}
-use Rattle.wake_lock.specs.declared.CallId.{CallId}
+use Rattle.sign_base.specs.declared.call_id.CallId.{CallId}
 use Rattle.sequential_signer.specs.Lookup.{Outcome, HandOut, cache_lookup, lookup_by, check_by, check_refreshed}
 use Rattle.sequential_signer.specs.Policy.{Policy}
 use Rattle.sequential_signer.specs.SequentialCall.{HoldInput, sequential_call, after_lookup, found_progress, load_progress}
@@ -20,7 +20,7 @@ use Rattle.sequential_signer.specs.declared.event.Loader.TheVariants.{Single}
 use Rattle.sequential_signer.specs.declared.event.Reply.TheVariants.{Begun, Pending, Ask, Sign, Done}
 use Rattle.sequential_signer.specs.declared.event.Verdict.TheVariants.{Accepted}
 use Rattle.std.specs.declared.time.Duration.{Duration}
-use Rattle.wake_lock.proofs.Truth.{and_left, and_right}
+use Rattle.sign_base.proofs.Truth.{and_left, and_right}
 use Rattle.sequential_signer.proofs.Lists.{last_of-more}
 use Rattle.pool_jobs.proofs.CallPhases.{waiting_lives}
 

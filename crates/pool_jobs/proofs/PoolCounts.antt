@@ -12,7 +12,7 @@ use Rattle.sequential_signer.specs.declared.event.Entry.{Entry}
 use Rattle.sequential_signer.specs.declared.event.Loader.TheVariants.{Single}
 use Rattle.sequential_signer.specs.declared.event.Reply.{Reply}
 use Rattle.sequential_signer.specs.declared.event.Reply.TheVariants as reply
-use Rattle.wake_lock.proofs.Truth.{and_left, and_right}
+use Rattle.sign_base.proofs.Truth.{and_left, and_right}
 use Rattle.sequential_signer.proofs.Lists.{filter-swap}
 use Rattle.sequential_signer.proofs.Distinct.{list_all-filter_of}
 use Rattle.signer_book.specs.Settled.{all_receipts}

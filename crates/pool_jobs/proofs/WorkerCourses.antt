@@ -5,7 +5,7 @@ use Rattle.std.specs.List.{list_all}
 use Rattle.std.proofs.lemmas.Bool.{false≢true}
 use Rattle.std.proofs.lemmas.Bool.Decides.{nat_tests}
 use Rattle.std.proofs.lemmas.List.{append-nil, append_assoc, map-append}
-use Rattle.wake_lock.specs.declared.CallId.{CallId}
+use Rattle.sign_base.specs.declared.call_id.CallId.{CallId}
 use Rattle.sequential_signer.specs.Policy.{Policy}
 use Rattle.sequential_signer.specs.Setup.{Setup}
 use Rattle.sequential_signer.specs.Transcript.{call_of, is_out_of_memory}
@@ -16,7 +16,7 @@ use Rattle.sequential_signer.specs.declared.event.Event.{Event}
 use Rattle.sequential_signer.specs.declared.event.Event.TheVariants.{Begin}
 use Rattle.sequential_signer.specs.declared.event.Reply.{Reply}
 use Rattle.sequential_signer.specs.declared.event.Reply.TheVariants as reply
-use Rattle.wake_lock.proofs.Truth.{and_left, and_right, number_refl}
+use Rattle.sign_base.proofs.Truth.{and_left, and_right, number_refl}
 use Rattle.sequential_signer.proofs.Lists.{list_all-more, list_all-by, false_by, or_true}
 use Rattle.sequential_signer.proofs.Run.{out_of_memory-is}
 use Rattle.sign_desk.specs.ReplyKinds.{is_reply_to}

@@ -3,8 +3,8 @@
 use Rattle.std.proofs.Common.{◌≡◌, ℕ, ℤ, true, ◌||◌, List, [], ◌∷◌, ◌++◌, Option, Some, is_some, option_map, refl, sym, ◌∙◌, ap, subst}
 use Rattle.std.specs.List.{list_any}
 use Rattle.std.specs.Duration.{as_nanos}
-use Rattle.wake_lock.specs.declared.CallId.{CallId}
-use Rattle.wake_lock.specs.Calls.{same_call}
+use Rattle.sign_base.specs.declared.call_id.CallId.{CallId}
+use Rattle.sign_base.specs.Calls.{same_call}
 use Rattle.sequential_signer.specs.Policy.{Policy}
 use Rattle.sequential_signer.specs.Setup.{Setup}
 use Rattle.sequential_signer.specs.Transcript.{call_of, entries_of}
@@ -17,7 +17,7 @@ use Rattle.sequential_signer.specs.declared.event.Event.TheVariants.{Begin, Poll
 use Rattle.sequential_signer.specs.declared.event.Reply.{Reply}
 use Rattle.sequential_signer.specs.declared.event.Reply.TheVariants.{Begun, Pending, NotNow, OutOfMemory, Ask, Sign, Refused, Done, Cancelled}
 use Rattle.sequential_signer.specs.declared.event.Verdict.{Verdict}
-use Rattle.wake_lock.proofs.Calls.{same_call-refl}
+use Rattle.sign_base.proofs.Calls.{same_call-refl}
 use Rattle.sequential_signer.proofs.OwnEntries.{entries_of-own, to_queued, phase_in-pending, begin_in-new}
 use Rattle.sequential_signer.proofs.NewNumbers.{new_is_unbegun}
 use Rattle.sequential_signer.proofs.CallInvariant.{phase-own_mark, loads-own_mark, begin-stays}

@@ -5,11 +5,10 @@ ghost use Rattle.pool_jobs.specs.Meaning.{pool_meaning, pool_credential, accepte
 
 use crate::head::added_field;
 use sequential_signer::{Answer, Verdict};
-use sign_base::{Head, NoMemory, Timestamp};
+use sign_base::{CallId, Head, NoMemory, Timestamp};
 use signctl_format::ScriptCredential;
 use signer_shared::{Gate, GateLoad};
 use std::alloc::Global;
-use wake_lock::CallId;
 
 /// Answers each load at once with the credential of generation 7, accepts each head with one header more,
 /// and gives the moment 0. What it accepts is allocated there.

@@ -3,7 +3,7 @@
 ghost use Rattle.sequential_signer.specs.Policy.{policy_of};
 ghost use Rattle.pool_jobs.specs.Laws.{PromptCallsAreSigned, EveryPoolCallIsSigned};
 
-use credentials::{DeadlineRule, SigningCredential};
+use sequential_signer::{DeadlineRule, SigningCredential};
 use signer_shared::Gate;
 
 /// Workers that have handles of their own, all on one cache with one provider, sign all their jobs where

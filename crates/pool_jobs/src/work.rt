@@ -3,10 +3,9 @@ ghost use Rattle.std.specs.Prelude.{◌≡◌, ◌<◌, ◌≤◌, IfOk, OnOk, m
 ghost use Rattle.pool_jobs.specs.Work.{pool_job, pool_work};
 
 use crate::head::pool_head;
-use sign_base::NoMemory;
+use sign_base::{CallId, NoMemory};
 use signer_shared::Job;
 use std::alloc::Global;
-use wake_lock::CallId;
 
 /// The lists of so many jobs, one for each worker: job after job goes to the next worker.
 ///

@@ -1,95 +1,178 @@
 //! Lines and inputs of exactly the limit, and of one byte more.
-ghost use Rattle.std.specs.Prelude.{◌<◌};
-
-use crate::ran::{Fault, ends_as, run_command};
+use crate::ran::{NONE, Run, ends_as, filled};
 use signctl_core::Status;
-use std::alloc::{AllocError, Global};
+use std::alloc::Global;
 use std::process::Abort;
 
-/// The most bytes of an input that are looked at.
-const INPUT_LIMIT: usize = 67_108_864;
+/// No line is so long.
+const ONE_LINE: usize = 100_000_000;
 
-/// A script of so many equal bytes, what it is answered, and how it ends.
-type Repeated = (u8, usize, &'static str, Status);
+/// A read asks for no more bytes.
+const MOST_READ: usize = 32_768;
 
-/// Whether the script is answered so, in pieces of so many bytes.
-fn is_answered(rt: &impl Abort, alloc: Global, row: Repeated, piece: usize)
-    requires { 0 < piece }
-{
-    let (byte, count, output, status) = row;
-    let input = vec![in alloc; byte; count].expect(rt, "memory");
-    let ran = run_command(alloc, "script", input, piece, Fault::Nowhere);
-    ends_as(rt, ran, output.as_bytes(), status);
+const TOO_LONG: &str = "line 1: too long\n";
+
+const NO_NUMBER: &str = "line 2: not understood\n";
+
+/// A command, how its input begins, and the byte that fills it up to so many bytes; whether the read behind
+/// them fails; what is written, and how that ends.
+type Line = (
+    &'static str,
+    &'static str,
+    u8,
+    usize,
+    bool,
+    &'static str,
+    Status,
+);
+
+/// A line that is too long is so also where a read fails behind it, and before a claim that is missing before
+/// it. A number of thousands of digits is none.
+static LINES: [Line; 16] = [
+    ("script", "", b'#', 65_536, false, "", Status::Done),
+    ("script", "", b'#', 65_536, true, "", Status::ReadFault),
+    ("script", "", b'#', 65_537, false, TOO_LONG, Status::Refused),
+    ("script", "", b'#', 65_537, true, TOO_LONG, Status::Refused),
+    ("script", "", b'x', 65_537, false, TOO_LONG, Status::Refused),
+    ("script", "# \0\r", 0xff, 65_536, false, "", Status::Done),
+    (
+        "script",
+        "accept 0 1 GET / 1.1 a:",
+        b'9',
+        65_536,
+        false,
+        "not now\n",
+        Status::Done,
+    ),
+    (
+        "script",
+        "accept 0 1 GET / 1.1 a:",
+        b'9',
+        65_537,
+        false,
+        TOO_LONG,
+        Status::Refused,
+    ),
+    (
+        "script",
+        "signctl 2\npoll 0 1 ",
+        b'0',
+        65_546,
+        false,
+        NO_NUMBER,
+        Status::Refused,
+    ),
+    (
+        "script",
+        "signctl 2\npoll 0 1 ",
+        b'9',
+        65_546,
+        false,
+        NO_NUMBER,
+        Status::Refused,
+    ),
+    (
+        "script",
+        "signctl 2\npoll 0 1 5.",
+        b'0',
+        65_546,
+        false,
+        NO_NUMBER,
+        Status::Refused,
+    ),
+    (
+        "script",
+        "signctl 2\npoll 0 1 5.",
+        b'9',
+        65_546,
+        false,
+        NO_NUMBER,
+        Status::Refused,
+    ),
+    (
+        "script",
+        "signctl 2\nbegin 0 1 ",
+        b'0',
+        65_546,
+        false,
+        NO_NUMBER,
+        Status::Refused,
+    ),
+    (
+        "script",
+        "signctl 2\nbegin 0 1 ",
+        b'9',
+        65_546,
+        false,
+        NO_NUMBER,
+        Status::Refused,
+    ),
+    (
+        "audit",
+        "cache single\n",
+        b'#',
+        65_549,
+        false,
+        "line 1: no claim\n",
+        Status::Refused,
+    ),
+    (
+        "audit",
+        "cache single\n",
+        b'#',
+        65_550,
+        false,
+        "line 2: too long\n",
+        Status::Refused,
+    ),
+];
+
+/// Whether a line is answered so, in pieces of so many bytes.
+fn is_answered(rt: &impl Abort, alloc: Global, row: &Line, piece: usize) {
+    let (words, begin, byte, count, fails, output, status) = *row;
+    let behind = count.div_ceil(piece.min(MOST_READ).max(1)) as u64;
+    let run = Run {
+        words,
+        piece,
+        read: if fails { behind } else { NONE },
+        write: NONE,
+    };
+    let input = filled(rt, alloc, begin, byte, (count, ONE_LINE));
+    ends_as(rt, alloc, run, input, (output.as_bytes(), status));
 }
 
-/// Lines of exactly the limit, and of one byte more.
 #[test]
-fn long_lines_are_refused(rt: HostRuntime) {
-    for piece in [1, 4_096, INPUT_LIMIT] {
-        for row in [
-            (b'#', 65_536, "", Status::Done),
-            (b'#', 65_537, "line 1: too long\n", Status::Refused),
-            (b'x', 65_537, "line 1: too long\n", Status::Refused),
-            (b'#', 67_108_865, "line 1: too long\n", Status::Refused),
-        ] {
+fn lines_may_be_so_long(rt: HostRuntime) {
+    for piece in [1, 4_096, 67_108_864] {
+        for row in &LINES {
             is_answered(&rt, rt.alloc(), row, piece);
         }
     }
 }
 
-/// A log of a cache whose claim is missing, and then a remark of so many bytes.
-fn unclaimed(alloc: Global, count: usize) -> Result<Vec<u8>, AllocError> {
-    let mut bytes = Vec::from_slice(alloc, b"cache single\n")?;
-    bytes.extend_from_slice(vec![in alloc; b'#'; count]?.as_slice())?;
-    Ok(bytes)
-}
+const TOO_MUCH: &str = "input too long\n";
 
-/// A line that is too long is bad before the claim that is missing before it.
+/// A byte that a script has so often, and the length of its lines, with their newlines; what is written, and
+/// how that ends.
+static INPUTS: [(u8, usize, usize, &str, Status); 6] = [
+    (b'\n', 67_108_865, 1, TOO_MUCH, Status::Refused),
+    (b'#', 67_108_864, 64, "", Status::Done),
+    (b'#', 67_108_865, 64, TOO_MUCH, Status::Refused),
+    (b'#', 67_108_864, 65_537, "", Status::Done),
+    (b'#', 67_108_865, 65_537, TOO_MUCH, Status::Refused),
+    (b'#', 67_108_865, ONE_LINE, TOO_LONG, Status::Refused),
+];
+
 #[test]
-fn a_claim_is_missing_before_a_long_line(rt: HostRuntime) {
-    for (count, output) in [
-        (65_536, b"line 1: no claim\n"),
-        (65_537, b"line 2: too long\n"),
-    ] {
-        let input = unclaimed(rt.alloc(), count).expect(&rt, "memory");
-        let ran = run_command(rt.alloc(), "audit", input, 4_096, Fault::Nowhere);
-        ends_as(&rt, ran, output, Status::Refused);
-    }
-}
-
-/// A newline more than an input may have bytes.
-#[test]
-fn newlines_are_too_many_in_pieces(rt: HostRuntime) {
-    let row = (b'\n', 67_108_865, "input too long\n", Status::Refused);
-    is_answered(&rt, rt.alloc(), row, 1);
-    is_answered(&rt, rt.alloc(), row, 4_096);
-}
-
-/// Remarks of 64 bytes, up to exactly the limit, and then this.
-fn remarks(alloc: Global, end: &[u8]) -> Result<Vec<u8>, AllocError> {
-    let mut bytes = vec![in alloc; b'#'; INPUT_LIMIT]?;
-    for line in bytes.chunks_mut(64) {
-        if let Some(last) = line.last_mut() {
-            *last = b'\n';
-        }
-    }
-    bytes.extend_from_slice(end)?;
-    Ok(bytes)
-}
-
-/// Inputs of exactly the limit, in remarks of 64 bytes, and of one byte more.
-#[test]
-fn long_inputs_are_refused(rt: HostRuntime) {
-    for (end, output, status) in [
-        (b"".as_slice(), b"".as_slice(), Status::Done),
-        (
-            b"#".as_slice(),
-            b"input too long\n".as_slice(),
-            Status::Refused,
-        ),
-    ] {
-        let input = remarks(rt.alloc(), end).expect(&rt, "memory");
-        let ran = run_command(rt.alloc(), "script", input, INPUT_LIMIT, Fault::Nowhere);
-        ends_as(&rt, ran, output, status);
+fn inputs_may_be_so_long(rt: HostRuntime) {
+    let run = Run {
+        words: "script",
+        piece: 4_096,
+        read: NONE,
+        write: NONE,
+    };
+    for (byte, count, line, output, status) in &INPUTS {
+        let input = filled(&rt, rt.alloc(), "", *byte, (*count, *line));
+        ends_as(&rt, rt.alloc(), run, input, (output.as_bytes(), *status));
     }
 }

@@ -1,104 +1,89 @@
 //! One run of a command over a source and a sink in memory.
-ghost use Rattle.std.specs.Prelude.{◌<◌};
-
-use sign_base::{FaultySink, FaultySource};
+use sign_io::{FaultySink, FaultySource};
 use signctl_core::{HeaderKeys, Status, run};
-use std::alloc::{AllocError, Global};
+use std::alloc::Global;
 use std::process::Abort;
 
 /// The bytes that a sink has room for.
 const ROOM: usize = 16_384;
 
-/// The read or the write that fails, by its number.
+/// No read and no write has this number.
+pub(crate) const NONE: u64 = u64::MAX;
+
+/// The words of a command, parted by spaces, the most bytes that are read or written at once, and the read
+/// and the write that fail, by their numbers.
 #[derive(Clone, Copy)]
-pub(crate) enum Fault {
-    Nowhere,
-    Read(usize),
-    Write(usize),
+pub(crate) struct Run<'a> {
+    pub(crate) words: &'a str,
+    pub(crate) piece: usize,
+    pub(crate) read: u64,
+    pub(crate) write: u64,
 }
 
-fn failing_reads(alloc: Global, fault: Fault) -> Option<Vec<u64>> {
-    match fault {
-        Fault::Read(number) => vec![in alloc; number as u64].ok(),
-        _ => Some(Vec::new(alloc)),
-    }
-}
-
-fn failing_writes(alloc: Global, fault: Fault) -> Option<Vec<u64>> {
-    match fault {
-        Fault::Write(number) => vec![in alloc; number as u64].ok(),
-        _ => Some(Vec::new(alloc)),
-    }
-}
-
-/// A source that gives at most so many bytes at a time.
-pub(crate) fn source(
-    alloc: Global,
-    input: Vec<u8>,
-    piece: usize,
-    fault: Fault,
-) -> Option<FaultySource>
-    requires { 0 < piece }
-{
-    let fails = failing_reads(alloc, fault)?;
-    Some(FaultySource::new(input, piece, fails))
-}
-
-/// A sink that takes at most so many bytes at a time.
-pub(crate) fn sink(alloc: Global, piece: usize, fault: Fault) -> Option<FaultySink>
-    requires { 0 < piece }
-{
-    let fails = failing_writes(alloc, fault)?;
-    FaultySink::new(alloc, ROOM, piece, fails).ok()
-}
-
-/// What a run wrote, and how it ended.
-#[derive(Drop)]
-pub(crate) struct Ran {
-    pub(crate) sink: FaultySink,
-    pub(crate) status: Status,
-}
-
-/// The words of a command line, parted by spaces.
-pub(crate) fn words(alloc: Global, line: &str) -> Result<Vec<String>, AllocError> {
+/// The words of a command line.
+pub(crate) fn words_of(rt: &impl Abort, alloc: Global, line: &str) -> Vec<String> {
     let mut words = Vec::new(alloc);
     for word in line.split(' ') {
-        words.push(String::from_str(alloc, word)?)?;
+        let word = String::from_str(alloc, word).expect(rt, "memory");
+        words.push(word).expect(rt, "memory");
     }
-    Ok(words)
+    words
 }
 
-/// Runs the command of these words, in pieces of so many bytes on both sides. None where memory is lacking.
-pub(crate) fn run_command(
+/// The source of a run.
+fn source_of(rt: &impl Abort, alloc: Global, run: Run<'_>, input: Vec<u8>) -> FaultySource {
+    let fails = vec![in alloc; run.read].expect(rt, "memory");
+    FaultySource::new(input, run.piece.max(1), fails)
+}
+
+/// The sink of a run.
+fn sink_of(rt: &impl Abort, alloc: Global, run: Run<'_>) -> FaultySink {
+    let fails = vec![in alloc; run.write].expect(rt, "memory");
+    FaultySink::new(alloc, ROOM, run.piece.max(1), fails)
+        .ok()
+        .expect(rt, "memory")
+}
+
+/// Whether a run writes this and ends so.
+pub(crate) fn ends_as(
+    rt: &impl Abort,
     alloc: Global,
-    line: &str,
+    of: Run<'_>,
     input: Vec<u8>,
-    piece: usize,
-    fault: Fault,
-) -> Option<Ran>
-    requires { 0 < piece }
-{
-    let words = words(alloc, line).ok()?;
-    let mut source = source(alloc, input, piece, fault)?;
-    let mut sink = sink(alloc, piece, fault)?;
-    let status = run(
-        alloc,
-        words.as_slice(),
-        &mut source,
-        &mut sink,
-        HeaderKeys::default(),
+    wanted: (&[u8], Status),
+) {
+    let words = words_of(rt, alloc, of.words);
+    let mut source = source_of(rt, alloc, of, input);
+    let mut sink = sink_of(rt, alloc, of);
+    let keys = HeaderKeys::default();
+    let status = run(alloc, words.as_slice(), &mut source, &mut sink, keys);
+    assert!(rt;
+        sink.written() == wanted.0 && status == wanted.1,
+        "{}: {status:?}",
+        of.words
     );
-    Some(Ran { sink, status })
-}
-
-/// Whether a run wrote this and ended so.
-pub(crate) fn ends_as(rt: &impl Abort, ran: Option<Ran>, wanted: &[u8], status: Status) {
-    let ran = ran.expect(rt, "memory");
-    assert!(rt; ran.sink.written() == wanted);
-    assert!(rt; ran.status == status);
 }
 
 /// The bytes of a text.
 pub(crate) fn bytes(rt: &impl Abort, alloc: Global, text: &str) -> Vec<u8> {
     Vec::from_slice(alloc, text.as_bytes()).expect(rt, "memory")
+}
+
+/// A text that is filled up with one byte, to so many bytes, of which the last of each line is a newline,
+/// where lines have this length.
+pub(crate) fn filled(
+    rt: &impl Abort,
+    alloc: Global,
+    begin: &str,
+    byte: u8,
+    (count, length): (usize, usize),
+) -> Vec<u8> {
+    let mut bytes = bytes(rt, alloc, begin);
+    bytes.resize(count, byte).expect(rt, "memory");
+    for line in bytes.chunks_mut(length.max(1)) {
+        if let Some(last) = line.get_mut(length.wrapping_sub(1)) {
+            *last = b'\n';
+        }
+    }
+    bytes
 }

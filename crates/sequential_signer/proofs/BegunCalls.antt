@@ -3,10 +3,10 @@ use Rattle.std.proofs.Common.{◌≡◌, ℕ, ◌+◌, Bool, true, false, not, c
 use Rattle.std.specs.List.{list_any, list_all}
 use Rattle.std.proofs.lemmas.Bool.Decides.{nat_tests}
 use Rattle.std.proofs.lemmas.List.{length-append, map-append}
-use Rattle.wake_lock.specs.declared.CallId.{CallId}
+use Rattle.sign_base.specs.declared.call_id.CallId.{CallId}
 use Rattle.sequential_signer.specs.Policy.{Policy}
 use Rattle.sequential_signer.specs.Setup.{Setup}
-use Rattle.wake_lock.specs.Calls.{same_call, IsOnce}
+use Rattle.sign_base.specs.Calls.{same_call, IsOnce}
 use Rattle.sequential_signer.specs.Transcript.{call_of, is_about, entries_of}
 use Rattle.sequential_signer.specs.Phase.{Phase, phase_of, is_begun, is_begin_under, is_new_number}
 use Rattle.sequential_signer.specs.Hold.{begin_of, begin_in, begun_with}
@@ -16,8 +16,8 @@ use Rattle.sequential_signer.specs.declared.event.Reply.{Reply}
 use Rattle.sequential_signer.specs.declared.event.Event.TheVariants.{Begin, Poll, Provided}
 use Rattle.sequential_signer.specs.declared.event.Reply.TheVariants.{Begun, Pending, NotNow}
 use Rattle.sequential_signer.proofs.Lists.{filter-more_yes, filter-more_no, or_true, list_any-more}
-use Rattle.wake_lock.proofs.Calls.{same_call-eq, same_call-refl, same_call-comm}
-use Rattle.wake_lock.proofs.Truth.{number_refl, and_left, and_right, or_left, or_right}
+use Rattle.sign_base.proofs.Calls.{same_call-eq, same_call-refl, same_call-comm}
+use Rattle.sign_base.proofs.Truth.{number_refl, and_left, and_right, or_left, or_right}
 use Rattle.sequential_signer.proofs.LegalStep.{LegalStep, not_now, begins, waits, pending, looks, takes_effect, accepts, fails, cancels}
 use Rattle.sequential_signer.proofs.Run.{IsRun, start, more}
 use Rattle.sequential_signer.specs.SequentialCall.{Progress, Asking, Over}

@@ -2,11 +2,11 @@
 use Rattle.std.proofs.Common.{◌≡◌, ℕ, Bool, true, false, ◌&&◌, ◌||◌, List, [], ◌∷◌, ◌++◌, Option, Some, None, is_some, refl, sym, ◌∙◌, ap, subst, filter, map, fold, slice_get}
 use Rattle.std.specs.List.{list_any, list_all}
 use Rattle.std.proofs.lemmas.List.Sums.{fold-append}
-use Rattle.wake_lock.specs.declared.CallId.{CallId}
+use Rattle.sign_base.specs.declared.call_id.CallId.{CallId}
 use Rattle.sequential_signer.specs.Policy.{Policy}
 use Rattle.sequential_signer.specs.SequentialCall.{HoldInput}
 use Rattle.sequential_signer.specs.Setup.{Setup, cache_of, is_of_cache, is_number}
-use Rattle.wake_lock.specs.Calls.{same_call, IsOnce}
+use Rattle.sign_base.specs.Calls.{same_call, IsOnce}
 use Rattle.sequential_signer.specs.Transcript.{call_of}
 use Rattle.sequential_signer.specs.Phase.{Phase, Unknown, Unpolled, Queued, Loading, Signing, Ended, phase_of}
 use Rattle.sequential_signer.specs.Turn.{before_call, poll_order, is_fitting_poll, is_poll_at, serves, hold_is_finished, is_served, has_turn}
@@ -14,8 +14,8 @@ use Rattle.sequential_signer.specs.Hold.{begin_of, answers_of, turn_moment, hold
 use Rattle.sequential_signer.specs.SequentialCache.{cache_after, served_calls, sequential_cache}
 use Rattle.sequential_signer.specs.declared.event.Entry.{Entry}
 use Rattle.sequential_signer.proofs.Lists.{filter-more_no, filter-same, list_all-by, list_all-filter, fold-same, or_true, filter-same_on}
-use Rattle.wake_lock.proofs.Calls.{same_call-eq, same_call-refl, same_call-comm}
-use Rattle.wake_lock.proofs.Truth.{same_number, and_left, and_right}
+use Rattle.sign_base.proofs.Calls.{same_call-eq, same_call-refl, same_call-comm}
+use Rattle.sign_base.proofs.Truth.{same_number, and_left, and_right}
 use Rattle.sequential_signer.proofs.Distinct.{first_of_each-once, list_all-filter_of, list_all-first_of_each, list_all-map, filter-newly}
 use Rattle.sequential_signer.proofs.PollOrder.{is_polled, OrderAfter, stays, grows, order_after, calls_ahead-more, is_served-own, is_served-other, turn_moment-found, turn_moment-no}
 use Rattle.sequential_signer.proofs.Run.{IsRun}

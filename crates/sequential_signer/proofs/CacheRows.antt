@@ -1,12 +1,12 @@
 -- What each entry does to the sequential caches, and the input of a hold after one more entry.
 use Rattle.std.proofs.Common.{◌≡◌, ℕ, ℤ, Bool, true, false, cond, ◌||◌, List, [], ◌∷◌, ◌++◌, Option, Some, None, is_some, refl, sym, ◌∙◌, ap, slice_get, ◌⊎◌, inl, inr}
 use Rattle.std.specs.List.{list_any}
-use Rattle.wake_lock.specs.declared.CallId.{CallId}
+use Rattle.sign_base.specs.declared.call_id.CallId.{CallId}
 use Rattle.sequential_signer.specs.Lookup.{Outcome, HandOut, Refuse}
 use Rattle.sequential_signer.specs.Policy.{Policy}
 use Rattle.sequential_signer.specs.SequentialCall.{HoldInput, Over}
 use Rattle.sequential_signer.specs.Setup.{Setup, cache_of, rule_of}
-use Rattle.wake_lock.specs.Calls.{same_call}
+use Rattle.sign_base.specs.Calls.{same_call}
 use Rattle.sequential_signer.specs.Transcript.{call_of, entries_of}
 use Rattle.sequential_signer.specs.Phase.{is_not_now}
 use Rattle.sequential_signer.specs.Turn.{before_call, poll_order, calls_ahead, is_fitting_poll, serves, hold_is_finished, is_served, has_turn}
@@ -21,7 +21,7 @@ use Rattle.sequential_signer.specs.declared.event.Loader.{Loader}
 use Rattle.sequential_signer.specs.declared.event.Reply.{Reply}
 use Rattle.sequential_signer.specs.declared.event.Reply.TheVariants.{NotNow, Sign, Refused}
 use Rattle.sequential_signer.proofs.Lists.{or_false}
-use Rattle.wake_lock.proofs.Calls.{same_call-eq, same_call-refl}
+use Rattle.sign_base.proofs.Calls.{same_call-eq, same_call-refl}
 use Rattle.sequential_signer.proofs.OwnEntries.{entries_of-own, answers_in-more}
 use Rattle.sequential_signer.proofs.PollOrder.{is_polled, is_served-own, is_served-other, turn_moment-found}
 use Rattle.sequential_signer.proofs.LegalStep.{HoldPoint, HoldReaches, at_look, at_answer}

@@ -1,9 +1,9 @@
 -- What holds of each call after a run.
 use Rattle.std.proofs.Common.{◌≡◌, ℕ, ℤ, Bool, true, false, cond, ◌&&◌, ◌||◌, List, [], ◌∷◌, ◌++◌, Option, Some, None, is_some, refl, sym, ◌∙◌, ap, subst}
 use Rattle.std.specs.List.{list_any}
-use Rattle.wake_lock.specs.declared.CallId.{CallId}
+use Rattle.sign_base.specs.declared.call_id.CallId.{CallId}
 use Rattle.sequential_signer.specs.Setup.{Setup, is_of_cache}
-use Rattle.wake_lock.specs.Calls.{same_call}
+use Rattle.sign_base.specs.Calls.{same_call}
 use Rattle.sequential_signer.specs.Transcript.{call_of, is_about, entries_of}
 use Rattle.sequential_signer.specs.Phase.{Phase, Unknown, Unpolled, Queued, Loading, Signing, Ended, is_mark, is_poll, is_begun, is_waiting_poll, is_loading, phase_by, phase_in, phase_of}
 use Rattle.sequential_signer.specs.Turn.{is_fitting_poll, is_poll_at, ends_hold, serves, hold_is_finished, is_served, has_turn}
@@ -13,7 +13,7 @@ use Rattle.sequential_signer.specs.declared.event.Entry.{Entry}
 use Rattle.sequential_signer.specs.declared.event.Event.{Event}
 use Rattle.sequential_signer.specs.declared.event.Reply.TheVariants.{NotNow}
 use Rattle.sequential_signer.proofs.Lists.{list_any-more, or_false, or_true, and_false}
-use Rattle.wake_lock.proofs.Calls.{same_call-eq}
+use Rattle.sign_base.proofs.Calls.{same_call-eq}
 use Rattle.sequential_signer.proofs.OwnEntries.{entries_of-own, entries_of-other, to_queued, to_queued-loading, phase_by-loading, phase_in-mark, phase_in-unmarked, phase_in-not_now, begin_in-found, begin_in-no, answers_in-no, answers_in-not_now}
 use Rattle.sequential_signer.proofs.PollOrder.{poll_order-same, is_polled, is_polled-more, is_polled-other, is_polled-own, hold_is_finished-own, hold_is_finished-other, hold_is_finished-more, is_served-own, is_served-other, has_turn-more, turn_moment-found, HadNoTurn, had_no_turn-more}
 

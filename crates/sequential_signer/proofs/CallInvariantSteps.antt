@@ -2,12 +2,12 @@
 use Rattle.std.proofs.Common.{◌≡◌, ℕ, ℤ, Bool, true, false, ◌||◌, List, [], ◌∷◌, ◌++◌, Option, Some, None, is_some, refl, sym, ◌∙◌, ap, subst, find}
 use Rattle.std.specs.declared.time.Duration.{Duration}
 use Rattle.sign_base.specs.declared.head.Head.{Head}
-use Rattle.wake_lock.specs.declared.CallId.{CallId}
+use Rattle.sign_base.specs.declared.call_id.CallId.{CallId}
 use Rattle.sequential_signer.specs.Lookup.{HandOut, Refuse}
 use Rattle.sequential_signer.specs.Policy.{Policy}
 use Rattle.sequential_signer.specs.SequentialCall.{Progress, Asking, Over}
 use Rattle.sequential_signer.specs.Setup.{Setup, cache_of, is_of_cache, is_number}
-use Rattle.wake_lock.specs.Calls.{same_call}
+use Rattle.sign_base.specs.Calls.{same_call}
 use Rattle.sequential_signer.specs.Transcript.{call_of, entries_of}
 use Rattle.sequential_signer.specs.Phase.{Phase, Unknown, Unpolled, Queued, Loading, Signing, Ended, is_begun, phase_in, phase_of, is_live, is_waiting, is_loading, is_signing, is_new_number}
 use Rattle.sequential_signer.specs.Turn.{poll_order, is_fitting_poll, hold_is_finished, is_served, has_turn}
@@ -19,8 +19,8 @@ use Rattle.sequential_signer.specs.declared.event.Event.{Event}
 use Rattle.sequential_signer.specs.declared.event.Event.TheVariants.{Begin, Poll, Provided, Cancel}
 use Rattle.sequential_signer.specs.declared.event.Reply.{Reply}
 use Rattle.sequential_signer.specs.declared.event.Reply.TheVariants.{Begun, Pending, Ask, Sign, Refused, Cancelled}
-use Rattle.wake_lock.proofs.Calls.{same_call-eq, same_call-refl}
-use Rattle.wake_lock.proofs.Truth.{number_refl}
+use Rattle.sign_base.proofs.Calls.{same_call-eq, same_call-refl}
+use Rattle.sign_base.proofs.Truth.{number_refl}
 use Rattle.sequential_signer.proofs.OwnEntries.{entries_of-own, to_queued, phase_in-pending, begin_in-new}
 use Rattle.sequential_signer.proofs.NewNumbers.{new_is_unbegun}
 use Rattle.sequential_signer.proofs.PollOrder.{is_polled-own, has_turn-own, turn_moment-yes, had_no_turn-more}

@@ -1,10 +1,10 @@
 -- Names of calls, and lists of them.
 use Rattle.std.proofs.Common.{◌≡◌, Bool, true, false, not, cond, ◌||◌, List, [], ◌∷◌, ◌++◌, refl, sym, ◌∙◌, ap, filter}
 use Rattle.std.specs.List.{list_any}
-use Rattle.wake_lock.specs.declared.CallId.{CallId}
-use Rattle.wake_lock.specs.Calls.{same_call}
+use Rattle.sign_base.specs.declared.call_id.CallId.{CallId}
+use Rattle.sign_base.specs.Calls.{same_call}
 use Rattle.sequential_signer.specs.Turn.{first_of_each, before_call}
-use Rattle.wake_lock.proofs.Calls.{same_call-eq, same_call-refl, same_call-comm}
+use Rattle.sign_base.proofs.Calls.{same_call-eq, same_call-refl, same_call-comm}
 use Rattle.sequential_signer.proofs.Lists.{filter-more_yes, filter-more_no}
 
 -- a filter that keeps a call leaves whether it is in the list

@@ -6,12 +6,12 @@ use Rattle.std.specs.List.{list_any}
 use Rattle.std.proofs.lemmas.List.{append-nil, append_assoc}
 use Rattle.std.proofs.lemmas.List.Folds.{list_any-append}
 use Rattle.std.proofs.lemmas.List.Elements.{filter-append}
-use Rattle.wake_lock.specs.declared.CallId.{CallId}
+use Rattle.sign_base.specs.declared.call_id.CallId.{CallId}
 use Rattle.sequential_signer.specs.Lookup.{HandOut, Refuse}
 use Rattle.sequential_signer.specs.Policy.{Policy}
 use Rattle.sequential_signer.specs.SequentialCall.{Asking, Over}
 use Rattle.sequential_signer.specs.Setup.{Setup}
-use Rattle.wake_lock.specs.Calls.{same_call}
+use Rattle.sign_base.specs.Calls.{same_call}
 use Rattle.sequential_signer.specs.Transcript.{call_of, is_about, entries_of, committed_entries, is_out_of_memory}
 use Rattle.sequential_signer.specs.Phase.{Phase, Unknown, Unpolled, Queued, Loading, Signing, Ended, phase_of, phase_in, is_loading}
 use Rattle.sequential_signer.specs.Turn.{poll_order, has_turn, is_served, serves}
@@ -25,8 +25,8 @@ use Rattle.sequential_signer.specs.declared.event.Event.TheVariants.{Cancel}
 use Rattle.sequential_signer.specs.declared.event.Reply.{Reply}
 use Rattle.sequential_signer.specs.declared.event.Reply.TheVariants.{Cancelled}
 use Rattle.sequential_signer.proofs.Lists.{or_true, filter-more_yes, filter-more_no, list_all-more, not_false, filter-swap, find-same}
-use Rattle.wake_lock.proofs.Calls.{same_call-eq, same_call-comm}
-use Rattle.wake_lock.proofs.Truth.{and_left, and_right, or_left}
+use Rattle.sign_base.proofs.Calls.{same_call-eq, same_call-comm}
+use Rattle.sign_base.proofs.Truth.{and_left, and_right, or_left}
 use Rattle.sequential_signer.proofs.OwnEntries.{entries_of-own, entries_of-other, phase_in-alike}
 use Rattle.sequential_signer.proofs.PollOrder.{is_served-own, is_served-other}
 use Rattle.sequential_signer.proofs.LegalStep.{LegalStep, not_now, begins, waits, pending, looks, takes_effect, accepts, fails, cancels}

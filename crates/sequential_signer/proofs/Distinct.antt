@@ -1,12 +1,12 @@
 -- Lists in which no call stands twice.
 use Rattle.std.proofs.Common.{◌≡◌, Bool, true, false, not, cond, ◌&&◌, ◌||◌, List, [], ◌∷◌, ◌++◌, refl, sym, ◌∙◌, ap, subst, filter, map}
 use Rattle.std.specs.List.{list_any, list_all}
-use Rattle.wake_lock.specs.declared.CallId.{CallId}
-use Rattle.wake_lock.specs.Calls.{same_call, IsOnce}
+use Rattle.sign_base.specs.declared.call_id.CallId.{CallId}
+use Rattle.sign_base.specs.Calls.{same_call, IsOnce}
 use Rattle.sequential_signer.specs.Turn.{first_of_each, before_call}
 use Rattle.sequential_signer.proofs.Lists.{or_true}
-use Rattle.wake_lock.proofs.Calls.{same_call-eq, same_call-refl, once-filter}
-use Rattle.wake_lock.proofs.Truth.{and_left, and_right, or_left, or_right}
+use Rattle.sign_base.proofs.Calls.{same_call-eq, same_call-refl, once-filter}
+use Rattle.sign_base.proofs.Truth.{and_left, and_right, or_left, or_right}
 
 gone : (x : CallId) (xs : List CallId)
     → list_any (same_call x) (filter (λ other. not (same_call x other)) xs) ≡ false

@@ -1,6 +1,6 @@
 -- The calls that a granter's run began: each once, and how many of them are live after one more entry.
 use Rattle.std.proofs.Common.{◌≡◌, ◌+◌, true, false, List, [], ◌∷◌, ◌++◌, length, refl, sym, ◌∙◌, ap}
-use Rattle.wake_lock.specs.Calls.{IsOnce}
+use Rattle.sign_base.specs.Calls.{IsOnce}
 use Rattle.sequential_signer.specs.Policy.{Policy}
 use Rattle.sequential_signer.specs.Setup.{Setup}
 use Rattle.sequential_signer.specs.Phase.{phase_of, is_begun, is_live, is_new_number}

@@ -5,8 +5,8 @@ use Rattle.std.specs.List.{list_any}
 use Rattle.std.specs.Duration.{as_nanos}
 use Rattle.std.specs.declared.time.Duration.{Duration}
 use Rattle.std.proofs.lemmas.List.{map-append}
-use Rattle.wake_lock.specs.declared.CallId.{CallId}
-use Rattle.wake_lock.specs.Calls.{same_call}
+use Rattle.sign_base.specs.declared.call_id.CallId.{CallId}
+use Rattle.sign_base.specs.Calls.{same_call}
 use Rattle.sequential_signer.specs.Transcript.{entries_of}
 use Rattle.sequential_signer.specs.Phase.{Phase, Unknown, Unpolled, Queued, Loading, Signing, Ended, is_mark, is_begun, is_not_now, is_poll, is_waiting_poll, is_begin_under, is_new_number, phase_by, phase_in, phase_of}
 use Rattle.sequential_signer.specs.Hold.{BeginInput, begin_in, begin_of, answer_in, answers_in, answers_of}
@@ -20,7 +20,7 @@ use Rattle.sequential_signer.specs.declared.grant_event.GrantEvent.TheVariants.{
 use Rattle.sequential_signer.specs.declared.grant_event.GrantReply.{GrantReply}
 use Rattle.sequential_signer.specs.declared.grant_event.GrantReply.TheVariants.{Begun, Pending, NotNow, Ask, Grant, Refused, Given, Cancelled}
 use Rattle.sequential_signer.specs.declared.grant_event.GrantWhy.{GrantWhy}
-use Rattle.wake_lock.proofs.Calls.{same_call-refl}
+use Rattle.sign_base.proofs.Calls.{same_call-refl}
 use Rattle.sequential_signer.proofs.Lists.{list_any-more, or_false, and_false}
 use Rattle.sequential_signer.proofs.OwnEntries.{entries_of-own, entries_of-other, to_queued, phase_in-mark, phase_in-unmarked, phase_in-not_now, begin_in-no, begin_in-new, answers_in-no, answers_in-not_now, answers_in-more}
 use Rattle.sequential_signer.proofs.NewNumbers.{new_is_unbegun}

@@ -1,6 +1,6 @@
 -- What the granter is handed: the source that its call's cache holds from then on.
 use Rattle.std.proofs.Common.{◌≡◌, ℕ, ℤ, Bool, true, false, cond, List, [], ◌∷◌, ◌++◌, Option, Some, None, refl, sym, ◌∙◌, ap, subst, slice_get, length}
-use Rattle.wake_lock.specs.declared.CallId.{CallId}
+use Rattle.sign_base.specs.declared.call_id.CallId.{CallId}
 use Rattle.sequential_signer.specs.Lookup.{HandOut, Refuse, check_refreshed}
 use Rattle.sequential_signer.specs.Policy.{Policy}
 use Rattle.sequential_signer.specs.SequentialCall.{HoldInput, Progress, Asking, Over, load_progress, sequential_call}
@@ -27,7 +27,7 @@ use Rattle.sequential_signer.proofs.Lists.{last_of-more}
 use Rattle.sequential_signer.proofs.HandedOut.{LeavesHandedOut, call_leaves}
 use Rattle.sequential_signer.proofs.FoundCredential.{look_leaves_cache, load_hands_out}
 use Rattle.sequential_signer.proofs.GrantSources.{source-kept, source-stored}
-use Rattle.wake_lock.proofs.Truth.{number_refl}
+use Rattle.sign_base.proofs.Truth.{number_refl}
 
 -- a look or a load that hands this out, and what it leaves
 abbrev HandsOut : {K : Type 0} → Option (Progress K) → K → Type 0

@@ -3,7 +3,7 @@ use Rattle.std.proofs.Common.{◌≡◌, ℕ, ℤ, Bool, true, false, cond, List
 use Rattle.std.specs.List.{cons_option}
 use Rattle.std.proofs.lemmas.List.{append-nil}
 use Rattle.std.proofs.lemmas.List.Elements.{filter_map-append}
-use Rattle.wake_lock.specs.declared.CallId.{CallId}
+use Rattle.sign_base.specs.declared.call_id.CallId.{CallId}
 use Rattle.sequential_signer.specs.Setup.{Setup, cache_of, is_of_cache}
 use Rattle.sequential_signer.specs.Transcript.{last_of}
 use Rattle.sequential_signer.specs.GrantTranscript.{grant_call_of}
@@ -19,7 +19,7 @@ use Rattle.sequential_signer.specs.declared.grant_event.GrantReply.TheVariants.{
 use Rattle.sequential_signer.specs.declared.grant_event.Made.{Made}
 use Rattle.sequential_signer.proofs.Lists.{filter-more_yes, filter-more_no, last_of-more}
 use Rattle.sequential_signer.proofs.CacheLaw.{is_number-eq}
-use Rattle.wake_lock.proofs.Truth.{number_refl}
+use Rattle.sign_base.proofs.Truth.{number_refl}
 
 -- what an entry stores
 abbrev stored : {K : Type 0} → GrantEntry K → Option K

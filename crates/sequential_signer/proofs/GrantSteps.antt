@@ -2,7 +2,7 @@
 -- transcripts.
 use Rattle.std.proofs.Common.{◌≡◌, ℕ, ℤ, Bool, true, false, cond, List, [], ◌∷◌, ◌++◌, Option, Some, None, refl, sym, ◌∙◌, ap, subst, inl, inr}
 use Rattle.std.specs.declared.time.Duration.{Duration}
-use Rattle.wake_lock.specs.declared.CallId.{CallId}
+use Rattle.sign_base.specs.declared.call_id.CallId.{CallId}
 use Rattle.sequential_signer.specs.Lookup.{HandOut, Refuse}
 use Rattle.sequential_signer.specs.Policy.{Policy}
 use Rattle.sequential_signer.specs.SequentialCall.{Progress, Asking, Over}
@@ -19,7 +19,7 @@ use Rattle.sequential_signer.specs.declared.grant_event.GrantReply.{GrantReply}
 use Rattle.sequential_signer.specs.declared.grant_event.GrantReply.TheVariants.{Begun, Pending, NotNow, Ask, Grant, Refused, Given, Cancelled}
 use Rattle.sequential_signer.specs.declared.grant_event.GrantWhy.TheVariants.{Stale, Service}
 use Rattle.sequential_signer.specs.declared.grant_event.Made.TheVariants.{Made, Failed}
-use Rattle.wake_lock.proofs.Truth.{and_right}
+use Rattle.sign_base.proofs.Truth.{and_right}
 use Rattle.sequential_signer.proofs.LegalAfter.{legal_after-more, legal_after-keeps, legal_split}
 use Rattle.sequential_signer.proofs.LegalStep.{is_busy}
 use Rattle.sequential_signer.proofs.GrantReplies.{expected_grant_in_memory}

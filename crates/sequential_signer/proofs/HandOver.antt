@@ -1,16 +1,16 @@
 -- The refresh lock of a cache is handed over exactly: who loads, who has the turn, and when a load begins.
 use Rattle.std.proofs.Common.{◌≡◌, ℕ, Bool, true, false, not, cond, ◌&&◌, ◌||◌, List, [], ◌∷◌, Some, refl, sym, ◌∙◌, ap, filter}
 use Rattle.std.specs.List.{list_any, list_all}
-use Rattle.wake_lock.specs.declared.CallId.{CallId}
+use Rattle.sign_base.specs.declared.call_id.CallId.{CallId}
 use Rattle.sequential_signer.specs.Policy.{Policy}
 use Rattle.sequential_signer.specs.Setup.{Setup, cache_of}
-use Rattle.wake_lock.specs.Calls.{same_call, first_of}
+use Rattle.sign_base.specs.Calls.{same_call, first_of}
 use Rattle.sequential_signer.specs.Transcript.{committed_entries}
 use Rattle.sequential_signer.specs.Phase.{Phase, Unknown, Unpolled, Queued, Loading, Signing, Ended, phase_of, is_queued}
 use Rattle.sequential_signer.specs.Turn.{poll_order, hold_is_finished, has_turn, before_call}
 use Rattle.sequential_signer.specs.LawsOfHandOver.{OneCallLoads, SomebodyHasTheTurn, first_open}
 use Rattle.sequential_signer.specs.declared.event.Entry.{Entry}
-use Rattle.wake_lock.proofs.Calls.{same_call-eq, same_call-refl}
+use Rattle.sign_base.proofs.Calls.{same_call-eq, same_call-refl}
 use Rattle.sequential_signer.proofs.PollOrder.{is_polled}
 use Rattle.sequential_signer.proofs.Run.{IsRun, legal_run}
 use Rattle.sequential_signer.proofs.CallInvariant.{CallInvariant, Loads, queued_call}

@@ -2,7 +2,7 @@
 -- the others stay.
 use Rattle.std.proofs.Common.{◌≡◌, ℕ, ℤ, Bool, true, false, List, [], ◌∷◌, ◌++◌, Option, Some, None, refl, sym, ◌∙◌, ap, subst, length, nat_lt, if◌then◌else◌}
 use Rattle.std.specs.Option.{option_or}
-use Rattle.wake_lock.specs.declared.CallId.{CallId}
+use Rattle.sign_base.specs.declared.call_id.CallId.{CallId}
 use Rattle.sequential_signer.specs.Lookup.{Outcome, HandOut, Refuse, lookup_by, cache_lookup, check_refreshed}
 use Rattle.sequential_signer.specs.Policy.{Policy}
 use Rattle.sequential_signer.specs.SequentialCall.{HoldInput, Progress, Asking, Over, next_of_chain, found_progress, load_progress, after_lookup, sequential_call}
@@ -22,7 +22,7 @@ use Rattle.sequential_signer.specs.declared.event.Loader.TheVariants.{Single, Ch
 use Rattle.sequential_signer.specs.declared.event.Reply.{Reply}
 use Rattle.sequential_signer.specs.declared.event.Reply.TheVariants.{Ask}
 use Rattle.sequential_signer.specs.declared.event.Why.TheVariants as why
-use Rattle.wake_lock.proofs.Truth.{number_refl}
+use Rattle.sign_base.proofs.Truth.{number_refl}
 use Rattle.sequential_signer.proofs.LegalStep.{LegalStep, HoldPoint, HoldReaches, at_look, at_answer, not_now, begins, waits, pending, looks, takes_effect, accepts, fails, cancels}
 use Rattle.sequential_signer.proofs.Run.{IsRun}
 use Rattle.sequential_signer.proofs.CallInvariant.{Waits, Loads}

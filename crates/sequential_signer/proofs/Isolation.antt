@@ -2,7 +2,7 @@
 use Rattle.std.proofs.Common.{◌≡◌, ℕ, Bool, true, false, not, ◌&&◌, ◌||◌, ◌==◌, nat_lt, List, [], ◌∷◌, ◌++◌, Option, Some, None, option_map, refl, sym, ◌∙◌, ap, subst, filter, find, fold, slice_get}
 use Rattle.std.specs.List.{list_all}
 use Rattle.std.proofs.lemmas.List.{append-nil, append_assoc}
-use Rattle.wake_lock.specs.declared.CallId.{CallId}
+use Rattle.sign_base.specs.declared.call_id.CallId.{CallId}
 use Rattle.sequential_signer.specs.Policy.{Policy}
 use Rattle.sequential_signer.specs.SequentialCall.{HoldInput}
 use Rattle.sequential_signer.specs.Setup.{Setup, cache_of, is_of_cache, is_number}
@@ -17,9 +17,9 @@ use Rattle.sequential_signer.specs.LawsOfCaches.{entries_at, CachesAreIsolated}
 use Rattle.sequential_signer.specs.declared.event.Entry.{Entry}
 use Rattle.sequential_signer.specs.declared.event.Event.{Event}
 use Rattle.sequential_signer.specs.declared.event.Reply.{Reply}
-use Rattle.wake_lock.proofs.Truth.{same_number, and_right}
+use Rattle.sign_base.proofs.Truth.{same_number, and_right}
 use Rattle.sequential_signer.proofs.Lists.{filter-more_yes, filter-more_no, filter-within, filter-swap, list_all-left_out, fold-same, filter-same_on, list_all-same_on, find-same_on}
-use Rattle.wake_lock.proofs.Calls.{same_call-eq}
+use Rattle.sign_base.proofs.Calls.{same_call-eq}
 use Rattle.sequential_signer.proofs.Distinct.{list_all-filter_of}
 use Rattle.sequential_signer.proofs.Run.{legal-more}
 use Rattle.sequential_signer.proofs.CacheLaw.{order_of_cache, is_number-eq}

@@ -2,11 +2,11 @@
 -- same.
 use Rattle.std.proofs.Common.{ℤ, ◌≡◌, ℕ, Bool, true, false, not, cond, ◌&&◌, ◌||◌, nat_lt, List, [], ◌∷◌, ◌++◌, Option, Some, None, option_and_then, refl, sym, ◌∙◌, ap, subst, filter, find, fold, slice_get}
 use Rattle.std.specs.List.{list_any, list_all}
-use Rattle.wake_lock.specs.declared.CallId.{CallId}
+use Rattle.sign_base.specs.declared.call_id.CallId.{CallId}
 use Rattle.sequential_signer.specs.Policy.{Policy}
 use Rattle.sequential_signer.specs.Setup.{Setup}
 use Rattle.sequential_signer.specs.SequentialCall.{HoldInput}
-use Rattle.wake_lock.specs.Calls.{same_call}
+use Rattle.sign_base.specs.Calls.{same_call}
 use Rattle.sign_base.specs.EachAfter.{each_after}
 use Rattle.sequential_signer.specs.Transcript.{call_of, is_about, entries_of}
 use Rattle.sequential_signer.specs.Phase.{is_poll, is_pending, is_begun, is_not_now, is_begin_under, is_new_number, is_waiting_poll}
@@ -20,8 +20,8 @@ use Rattle.sequential_signer.specs.declared.event.Event.TheVariants.{Begin, Poll
 use Rattle.sequential_signer.specs.declared.event.Reply.{Reply}
 use Rattle.sequential_signer.specs.declared.event.Reply.TheVariants.{Begun, Pending, NotNow, OutOfMemory, Ask, Sign, Refused, Done, Cancelled}
 use Rattle.sequential_signer.proofs.Lists.{not_false, filter-same, filter-more_yes, filter-more_no, filter-within, filter-swap, fold-same, find-left_out, list_any-left_out, list_all-by, list_all-same, list_all-filter, list_all-more, list_all-left_out}
-use Rattle.wake_lock.proofs.Calls.{same_call-eq, same_call-refl}
-use Rattle.wake_lock.proofs.Truth.{and_left, and_right}
+use Rattle.sign_base.proofs.Calls.{same_call-eq, same_call-refl}
+use Rattle.sign_base.proofs.Truth.{and_left, and_right}
 use Rattle.sequential_signer.proofs.Distinct.{list_all-filter_of}
 
 -- the moment of a call's turn stays where what is left out is no poll of the call at its turn, and changes no

@@ -5,7 +5,7 @@ use Rattle.std.proofs.lemmas.List.{append-nil, append_assoc}
 use Rattle.std.proofs.lemmas.List.Elements.{filter-append}
 use Rattle.sign_base.specs.EachAfter.{each_after}
 use Rattle.sequential_signer.specs.Transcript.{last_of}
-use Rattle.wake_lock.proofs.Truth.{and_left, and_right}
+use Rattle.sign_base.proofs.Truth.{and_left, and_right}
 
 -- a test beside one that fails, or that is passed
 pub or_false : (a : Bool) → (a || false) ≡ a

@@ -2,7 +2,7 @@
 -- serves.
 use Rattle.std.proofs.Common.{◌≡◌, ℕ, ℤ, true, false, not, cond, ◌==◌, nat_lt, List, [], Option, Some, None, is_none, refl, sym, ◌∙◌, ap, slice_get, arith, inl, inr}
 use Rattle.std.proofs.lemmas.Bool.Decides.{nat_tests}
-use Rattle.wake_lock.specs.declared.CallId.{CallId}
+use Rattle.sign_base.specs.declared.call_id.CallId.{CallId}
 use Rattle.sequential_signer.specs.Policy.{Policy}
 use Rattle.sequential_signer.specs.Lookup.{Outcome, HandOut, Refuse, cache_lookup, lookup_by, check_refreshed}
 use Rattle.sequential_signer.specs.SequentialCall.{Asking, Over, sequential_call, after_lookup, load_progress}
@@ -22,7 +22,7 @@ use Rattle.sequential_signer.specs.declared.event.Loader.{Loader}
 use Rattle.sequential_signer.specs.declared.event.Loader.TheVariants.{Single, Chain}
 use Rattle.sequential_signer.specs.declared.event.Reply.{Reply}
 use Rattle.sequential_signer.specs.declared.event.Why.TheVariants.{Missing, Range}
-use Rattle.wake_lock.proofs.Truth.{and_right}
+use Rattle.sign_base.proofs.Truth.{and_right}
 use Rattle.sequential_signer.proofs.ExpectedReplies.{legal_last}
 
 waiting_is_live : (p : Phase) → is_waiting p ≡ true → is_live p ≡ true

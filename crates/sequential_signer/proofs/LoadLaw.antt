@@ -1,11 +1,11 @@
 -- A call that loads would load again: its look at the sequential cache still finds nothing to hand out.
 use Rattle.std.proofs.Common.{◌≡◌, ℕ, Bool, true, false, ◌==◌, List, [], ◌∷◌, ◌++◌, Option, Some, None, refl, sym, ◌∙◌, ap, subst, length}
-use Rattle.wake_lock.specs.declared.CallId.{CallId}
+use Rattle.sign_base.specs.declared.call_id.CallId.{CallId}
 use Rattle.sequential_signer.specs.Lookup.{Outcome, HandOut, Refuse, cache_lookup, check_refreshed}
 use Rattle.sequential_signer.specs.Policy.{Policy}
 use Rattle.sequential_signer.specs.SequentialCall.{HoldInput, Asking, Over, sequential_call, load_progress, after_lookup}
 use Rattle.sequential_signer.specs.Setup.{Setup, cache_of}
-use Rattle.wake_lock.specs.Calls.{same_call}
+use Rattle.sign_base.specs.Calls.{same_call}
 use Rattle.sequential_signer.specs.Transcript.{call_of, entries_of, last_of}
 use Rattle.sequential_signer.specs.Phase.{phase_of, phase_in, is_mark, is_loading}
 use Rattle.sequential_signer.specs.Turn.{serves, hold_is_finished, is_served, has_turn}
@@ -17,8 +17,8 @@ use Rattle.sequential_signer.specs.declared.event.Event.{Event}
 use Rattle.sequential_signer.specs.declared.event.Loader.{Loader}
 use Rattle.sequential_signer.specs.declared.event.Reply.{Reply}
 use Rattle.sequential_signer.specs.declared.event.Reply.TheVariants.{Ask}
-use Rattle.wake_lock.proofs.Truth.{same_number, other_number}
-use Rattle.wake_lock.proofs.Calls.{same_call-eq, same_call-refl}
+use Rattle.sign_base.proofs.Truth.{same_number, other_number}
+use Rattle.sign_base.proofs.Calls.{same_call-eq, same_call-refl}
 use Rattle.sequential_signer.proofs.LegalStep.{LegalStep, not_now, begins, waits, pending, looks, takes_effect, accepts, fails, cancels}
 use Rattle.sequential_signer.proofs.Run.{IsRun, start, more}
 use Rattle.sequential_signer.proofs.CallInvariant.{Waits, Loads, answers-own_none, refused_answers, loads-own_mark, loads-own_unmarked, phase-other}

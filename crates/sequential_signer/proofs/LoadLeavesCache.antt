@@ -2,12 +2,12 @@
 -- so.
 use Rattle.std.proofs.Common.{◌≡◌, ℕ, ℤ, Bool, true, false, List, [], ◌∷◌, ◌++◌, Option, Some, None, refl, sym, ◌∙◌, ap, subst}
 use Rattle.std.proofs.lemmas.List.{append_assoc}
-use Rattle.wake_lock.specs.declared.CallId.{CallId}
+use Rattle.sign_base.specs.declared.call_id.CallId.{CallId}
 use Rattle.sequential_signer.specs.Lookup.{HandOut, Refuse}
 use Rattle.sequential_signer.specs.Policy.{Policy}
 use Rattle.sequential_signer.specs.SequentialCall.{Asking, Over}
 use Rattle.sequential_signer.specs.Setup.{Setup, cache_of}
-use Rattle.wake_lock.specs.Calls.{same_call}
+use Rattle.sign_base.specs.Calls.{same_call}
 use Rattle.sequential_signer.specs.Transcript.{call_of, entries_of, committed_entries}
 use Rattle.sequential_signer.specs.Phase.{Phase, Unknown, Unpolled, Queued, Loading, Signing, Ended, phase_of, is_waiting, is_loading, is_poll}
 use Rattle.sequential_signer.specs.Hold.{begin_of}
@@ -20,7 +20,7 @@ use Rattle.sequential_signer.specs.declared.event.Event.{Event}
 use Rattle.sequential_signer.specs.declared.event.Event.TheVariants.{Poll}
 use Rattle.sequential_signer.specs.declared.event.Reply.{Reply}
 use Rattle.sequential_signer.specs.declared.event.Reply.TheVariants.{Pending, NotNow, Ask}
-use Rattle.wake_lock.proofs.Calls.{same_call-eq, same_call-refl}
+use Rattle.sign_base.proofs.Calls.{same_call-eq, same_call-refl}
 use Rattle.sequential_signer.proofs.OwnEntries.{to_queued}
 use Rattle.sequential_signer.proofs.LegalStep.{LegalStep, is_busy, not_now, begins, waits, pending, looks, takes_effect, accepts, fails, cancels, expected_step}
 use Rattle.sequential_signer.proofs.Run.{IsRun, more, legal_run, legal_entry_step, after_keeps, committed_entries-more}

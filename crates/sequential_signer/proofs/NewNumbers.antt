@@ -2,12 +2,12 @@
 use Rattle.std.proofs.Common.{◌≡◌, ℕ, true, false, not, cond, ◌||◌, nat_lt, List, [], ◌∷◌, Some, None, refl, sym, filter, find, arith}
 use Rattle.std.specs.List.{list_all}
 use Rattle.std.proofs.lemmas.Bool.Decides.{nat_tests}
-use Rattle.wake_lock.specs.declared.CallId.{CallId}
+use Rattle.sign_base.specs.declared.call_id.CallId.{CallId}
 use Rattle.sequential_signer.specs.Transcript.{call_of, is_about, entries_of}
 use Rattle.sequential_signer.specs.Phase.{is_begun, is_begin_under, is_new_number}
 use Rattle.sequential_signer.specs.declared.event.Entry.{Entry}
-use Rattle.wake_lock.proofs.Calls.{same_call-eq}
-use Rattle.wake_lock.proofs.Truth.{number_refl, and_left, and_right}
+use Rattle.sign_base.proofs.Calls.{same_call-eq}
+use Rattle.sign_base.proofs.Truth.{number_refl, and_left, and_right}
 
 -- no number is below itself
 pub nat_lt-self : (n : ℕ) → nat_lt n n ≡ false

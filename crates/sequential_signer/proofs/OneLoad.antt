@@ -2,12 +2,12 @@
 -- again.
 use Rattle.std.proofs.Common.{◌≡◌, ℕ, ℤ, Bool, true, false, not, ◌&&◌, List, [], ◌∷◌, ◌++◌, Option, Some, None, refl, sym, ◌∙◌, ap, subst}
 use Rattle.std.specs.List.{list_all}
-use Rattle.wake_lock.specs.declared.CallId.{CallId}
+use Rattle.sign_base.specs.declared.call_id.CallId.{CallId}
 use Rattle.sequential_signer.specs.Lookup.{Outcome, HandOut, cache_lookup, lookup_by, check_refreshed}
 use Rattle.sequential_signer.specs.Policy.{Policy}
 use Rattle.sequential_signer.specs.SequentialCall.{HoldInput, Progress, Over, sequential_call, after_lookup, load_progress}
 use Rattle.sequential_signer.specs.Setup.{Setup, cache_of, rule_of, is_of_cache, is_number}
-use Rattle.wake_lock.specs.Calls.{same_call}
+use Rattle.sign_base.specs.Calls.{same_call}
 use Rattle.sequential_signer.specs.Transcript.{call_of, committed_entries, is_out_of_memory}
 use Rattle.sequential_signer.specs.Phase.{phase_of, is_waiting, is_loading, is_mark}
 use Rattle.sequential_signer.specs.Turn.{has_turn}
@@ -22,9 +22,9 @@ use Rattle.sequential_signer.specs.declared.event.Event.{Event}
 use Rattle.sequential_signer.specs.declared.event.Event.TheVariants.{Poll, Provided}
 use Rattle.sequential_signer.specs.declared.event.Reply.{Reply}
 use Rattle.sequential_signer.specs.declared.event.Reply.TheVariants.{NotNow, Sign}
-use Rattle.wake_lock.proofs.Truth.{and_left, and_right, number_refl}
+use Rattle.sign_base.proofs.Truth.{and_left, and_right, number_refl}
 use Rattle.sequential_signer.proofs.Lists.{and_false, false_by}
-use Rattle.wake_lock.proofs.Calls.{same_call-eq}
+use Rattle.sign_base.proofs.Calls.{same_call-eq}
 use Rattle.sequential_signer.proofs.LegalStep.{LegalStep, HoldReaches, at_look, not_now, begins, waits, pending, looks, takes_effect, accepts, fails, cancels}
 use Rattle.sequential_signer.proofs.Run.{IsRun, more, legal_run, committed_entries-more, committed_entries-lost, legal_entry_step, out_of_memory-is}
 use Rattle.sequential_signer.proofs.CallInvariant.{Loads, phase-other, loads-own_mark, loads-own_unmarked}

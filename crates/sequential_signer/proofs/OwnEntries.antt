@@ -1,7 +1,7 @@
 -- The entries of one call, after one more entry.
 use Rattle.std.proofs.Common.{◌≡◌, Bool, true, false, not, cond, ◌||◌, List, [], ◌∷◌, ◌++◌, Option, Some, None, refl, sym, ◌∙◌, ap, ℤ, filter, find, filter_map, option_and_then}
-use Rattle.wake_lock.specs.declared.CallId.{CallId}
-use Rattle.wake_lock.specs.Calls.{same_call}
+use Rattle.sign_base.specs.declared.call_id.CallId.{CallId}
+use Rattle.sign_base.specs.Calls.{same_call}
 use Rattle.sequential_signer.specs.Transcript.{call_of, is_about, entries_of, last_of}
 use Rattle.sequential_signer.specs.declared.event.Entry.{Entry}
 use Rattle.std.specs.List.{list_any}

@@ -1,13 +1,13 @@
 -- The open calls of a cache, as its lock has them: who has the turn, and who leaves.
 use Rattle.std.proofs.Common.{◌≡◌, if◌then◌else◌, ℕ, Bool, true, false, not, cond, ◌&&◌, ◌||◌, List, [], ◌∷◌, ◌++◌, filter, refl, sym, ◌∙◌, ap}
 use Rattle.std.specs.List.{list_any, list_all}
-use Rattle.wake_lock.specs.declared.CallId.{CallId}
+use Rattle.sign_base.specs.declared.call_id.CallId.{CallId}
 use Rattle.sequential_signer.specs.Setup.{Setup}
-use Rattle.wake_lock.specs.Calls.{same_call, is_first}
+use Rattle.sign_base.specs.Calls.{same_call, is_first}
 use Rattle.sequential_signer.specs.Transcript.{call_of}
 use Rattle.sequential_signer.specs.Turn.{before_call, ends_hold, poll_order, hold_is_finished, has_turn, open_calls}
 use Rattle.sequential_signer.specs.declared.event.Entry.{Entry}
-use Rattle.wake_lock.proofs.Calls.{same_call-eq}
+use Rattle.sign_base.proofs.Calls.{same_call-eq}
 use Rattle.sequential_signer.proofs.CallNames.{before_call-absent}
 use Rattle.sequential_signer.proofs.Lists.{or_false}
 use Rattle.sequential_signer.proofs.PollOrder.{is_polled, hold_is_finished-own, hold_is_finished-other}

@@ -1,18 +1,17 @@
 -- Who is woken: the call that stands after the holder, by the entry that ends the holder's hold.
 use Rattle.std.proofs.Common.{◌≡◌, if◌then◌else◌, ℕ, Bool, true, false, not, cond, ◌&&◌, ◌||◌, List, [], ◌∷◌, ◌++◌, Some, None, filter, find, refl, sym, ◌∙◌, ap, subst}
 use Rattle.std.specs.List.{list_any}
-use Rattle.wake_lock.specs.declared.CallId.{CallId}
+use Rattle.sign_base.specs.declared.call_id.CallId.{CallId}
 use Rattle.sequential_signer.specs.Policy.{Policy}
 use Rattle.sequential_signer.specs.Setup.{Setup, cache_of, is_of_cache}
-use Rattle.wake_lock.specs.Calls.{same_call, IsOnce, is_first, first_of}
+use Rattle.sign_base.specs.Calls.{same_call, IsOnce, is_first, first_of}
 use Rattle.sequential_signer.specs.Transcript.{call_of}
 use Rattle.sequential_signer.specs.Phase.{Phase, Unknown, Unpolled, Queued, Loading, Signing, Ended, phase_of, is_queued}
 use Rattle.sequential_signer.specs.Turn.{ends_hold, poll_order, hold_is_finished, has_turn, open_calls}
 use Rattle.sequential_signer.specs.Wake.{gets_turn, call_to_wake}
 use Rattle.sequential_signer.specs.declared.event.Entry.{Entry}
 use Rattle.sequential_signer.proofs.Lists.{or_true, and_false, and_true, and_not, and_false_and, false_by}
-use Rattle.wake_lock.proofs.Calls.{same_call-eq, same_call-refl, same_call-comm, once-filter}
-use Rattle.wake_lock.proofs.Lines.{absent-leaves}
+use Rattle.sign_base.proofs.Calls.{same_call-eq, same_call-refl, same_call-comm, once-filter, absent-leaves}
 use Rattle.sequential_signer.proofs.PollOrder.{is_polled, is_polled-more, hold_is_finished-other}
 use Rattle.sequential_signer.proofs.Run.{IsRun}
 use Rattle.sequential_signer.proofs.CallInvariant.{CallInvariant, unknown_call, unpolled_call, queued_call, loading_call, signing_call, over_call, cancelled_call}

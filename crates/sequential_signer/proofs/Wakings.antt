@@ -1,12 +1,12 @@
 -- Whom replies wake: each reply names exactly the call that gets its turn by it.
 use Rattle.std.proofs.Common.{◌≡◌, ℕ, ℤ, Bool, true, false, not, cond, ◌&&◌, ◌||◌, ◌==◌, List, [], ◌∷◌, ◌++◌, Option, Some, None, refl, sym, ◌∙◌, ap, subst, find, if◌then◌else◌}
 use Rattle.std.specs.List.{list_any, list_all}
-use Rattle.wake_lock.specs.declared.CallId.{CallId}
+use Rattle.sign_base.specs.declared.call_id.CallId.{CallId}
 use Rattle.sequential_signer.specs.Lookup.{HandOut, Refuse}
 use Rattle.sequential_signer.specs.Policy.{Policy}
 use Rattle.sequential_signer.specs.SequentialCall.{HoldInput, Progress, Asking, Over, sequential_call}
 use Rattle.sequential_signer.specs.Setup.{Setup, cache_of, is_of_cache}
-use Rattle.wake_lock.specs.Calls.{same_call}
+use Rattle.sign_base.specs.Calls.{same_call}
 use Rattle.sequential_signer.specs.Transcript.{call_of}
 use Rattle.sequential_signer.specs.Phase.{phase_of, is_waiting, is_queued, is_signing, is_not_now, event_fits}
 use Rattle.sequential_signer.specs.Turn.{poll_order, hold_is_finished, has_turn, calls_ahead, before_call, ends_hold, is_poll_at}
@@ -25,8 +25,8 @@ use Rattle.sequential_signer.specs.declared.event.Verdict.TheVariants.{Accepted,
 use Rattle.sequential_signer.specs.declared.event.Why.{Why}
 use Rattle.sequential_signer.specs.declared.event.Why.TheVariants.{Service}
 use Rattle.sequential_signer.proofs.Lists.{or_true, and_false, and_not, and_false_and, not_true, list_all-same, list_all-same_on}
-use Rattle.wake_lock.proofs.Calls.{same_call-eq, same_call-refl, same_call-comm}
-use Rattle.wake_lock.proofs.Truth.{and_left, and_right, same_number, other_number}
+use Rattle.sign_base.proofs.Calls.{same_call-eq, same_call-refl, same_call-comm}
+use Rattle.sign_base.proofs.Truth.{and_left, and_right, same_number, other_number}
 use Rattle.sequential_signer.proofs.PollOrder.{is_polled, is_polled-more, poll_order-same, poll_order-poll, calls_ahead-more, hold_is_finished-own, hold_is_finished-other}
 use Rattle.sequential_signer.proofs.Run.{IsRun}
 use Rattle.sequential_signer.proofs.CallInvariantSteps.{run_signs}

@@ -1,12 +1,12 @@
 -- A queued call that has its turn was named by exactly one reply, and no call is named that is not queued.
 use Rattle.std.proofs.Common.{◌≡◌, ℕ, ◌+◌, Bool, true, false, not, cond, ◌&&◌, ◌||◌, List, [], ◌∷◌, ◌++◌, Some, None, refl, sym, ◌∙◌, ap, subst, filter, length, length-append, inl, inr, arith}
 use Rattle.std.specs.List.{list_any, list_all}
-use Rattle.wake_lock.specs.declared.CallId.{CallId}
+use Rattle.sign_base.specs.declared.call_id.CallId.{CallId}
 use Rattle.sequential_signer.specs.Lookup.{HandOut, Refuse}
 use Rattle.sequential_signer.specs.Policy.{Policy}
 use Rattle.sequential_signer.specs.SequentialCall.{Asking, Over}
 use Rattle.sequential_signer.specs.Setup.{Setup, cache_of}
-use Rattle.wake_lock.specs.Calls.{same_call}
+use Rattle.sign_base.specs.Calls.{same_call}
 use Rattle.sequential_signer.specs.Transcript.{committed_entries, call_of, is_out_of_memory, entries_of}
 use Rattle.sequential_signer.specs.Phase.{Phase, Unknown, Unpolled, Queued, Loading, Signing, Ended, phase_of, phase_in, is_waiting, is_queued, is_waiting_poll}
 use Rattle.sequential_signer.specs.Turn.{has_turn, hold_is_finished, calls_ahead, ends_hold}
@@ -20,7 +20,7 @@ use Rattle.sequential_signer.specs.declared.event.Event.TheVariants.{Poll}
 use Rattle.sequential_signer.specs.declared.event.Reply.{Reply}
 use Rattle.sequential_signer.specs.declared.event.Reply.TheVariants.{NotNow, Pending}
 use Rattle.sequential_signer.proofs.Lists.{filter-more_yes, filter-more_no, filter-within, list_all-same}
-use Rattle.wake_lock.proofs.Calls.{same_call-eq, same_call-refl, same_call-comm}
+use Rattle.sign_base.proofs.Calls.{same_call-eq, same_call-refl, same_call-comm}
 use Rattle.sequential_signer.proofs.OwnEntries.{to_queued}
 use Rattle.sequential_signer.proofs.PollOrder.{has_turn-more, calls_ahead-own}
 use Rattle.sequential_signer.proofs.LegalStep.{LegalStep, is_busy, not_now, begins, waits, pending, looks, takes_effect, accepts, fails, cancels, expected_step}

@@ -1,7 +1,7 @@
 -- The expected reply to an event after a transcript.
 use Rattle.std.specs.Prelude.{ℕ, ◌&&◌, List, Option, Some, None, slice_get, if◌then◌else◌}
 use Rattle.sign_base.specs.declared.head.Head.{Head}
-use Rattle.wake_lock.specs.declared.CallId.{CallId}
+use Rattle.sign_base.specs.declared.call_id.CallId.{CallId}
 use Rattle.sequential_signer.specs.Policy.{Policy}
 use Rattle.sequential_signer.specs.Lookup.{HandOut, Refuse}
 use Rattle.sequential_signer.specs.SequentialCall.{HoldInput, Progress, Asking, Over, sequential_call}

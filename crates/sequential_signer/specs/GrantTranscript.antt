@@ -5,7 +5,7 @@
 use Rattle.std.specs.Prelude.{Bool, not, List, [], None, filter, map}
 use Rattle.sign_base.specs.declared.head.Head.{Head}
 use Rattle.sign_base.specs.declared.head.Version.TheVariants.{V11}
-use Rattle.wake_lock.specs.declared.CallId.{CallId}
+use Rattle.sign_base.specs.declared.call_id.CallId.{CallId}
 use Rattle.sequential_signer.specs.Setup.{Setup}
 use Rattle.sequential_signer.specs.Transcript.{call_of, is_out_of_memory}
 use Rattle.sequential_signer.specs.Phase.{Phase, phase_of, event_fits}

@@ -2,7 +2,7 @@
 use Rattle.std.specs.Prelude.{ℕ, ℤ, Bool, ◌&&◌, not, List, [], ◌∷◌, ◌++◌, Option, Some, None, find, filter, filter_map, option_map, option_and_then}
 use Rattle.std.specs.Duration.{as_nanos}
 use Rattle.sign_base.specs.declared.head.Head.{Head}
-use Rattle.wake_lock.specs.declared.CallId.{CallId}
+use Rattle.sign_base.specs.declared.call_id.CallId.{CallId}
 use Rattle.sequential_signer.specs.SequentialCall.{HoldInput}
 use Rattle.sign_base.specs.EachAfter.{each_after}
 use Rattle.sequential_signer.specs.Transcript.{is_about, entries_of}

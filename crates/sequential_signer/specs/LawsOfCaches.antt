@@ -2,7 +2,7 @@
 -- holds what was last handed out.
 use Rattle.std.specs.Prelude.{◌≡◌, ℕ, ℤ, Bool, false, not, ◌&&◌, List, [], ◌∷◌, ◌++◌, Option, Some, None, IsTrue, filter, filter_map}
 use Rattle.std.specs.List.{list_all}
-use Rattle.wake_lock.specs.declared.CallId.{CallId}
+use Rattle.sign_base.specs.declared.call_id.CallId.{CallId}
 use Rattle.sequential_signer.specs.Policy.{Policy}
 use Rattle.sequential_signer.specs.Setup.{Setup, cache_of, rule_of, is_of_cache}
 use Rattle.sequential_signer.specs.Transcript.{call_of, last_of, committed_entries}

@@ -1,7 +1,7 @@
 -- Laws of a granter's transcripts: a cache holds a source that a provider found for it, nobody waits for
 -- another call, and replies leave nothing to choose.
 use Rattle.std.specs.Prelude.{◌≡◌, ℕ, ℤ, false, ◌||◌, List, [], ◌∷◌, ◌++◌, Some, Bool, map}
-use Rattle.wake_lock.specs.declared.CallId.{CallId}
+use Rattle.sign_base.specs.declared.call_id.CallId.{CallId}
 use Rattle.sequential_signer.specs.Policy.{Policy}
 use Rattle.sequential_signer.specs.Setup.{Setup, cache_of, is_of_cache}
 use Rattle.sequential_signer.specs.Transcript.{is_out_of_memory}

@@ -1,10 +1,10 @@
 -- Laws of legal transcripts: the refresh lock of a cache is handed over exactly.
 use Rattle.std.specs.Prelude.{◌≡◌, ℕ, ℤ, Bool, false, not, ◌&&◌, ◌==◌, List, [], ◌∷◌, ◌++◌, Option, Some, None, IsTrue, filter, length, is_none, slice_get}
-use Rattle.wake_lock.specs.declared.CallId.{CallId}
+use Rattle.sign_base.specs.declared.call_id.CallId.{CallId}
 use Rattle.sequential_signer.specs.Policy.{Policy}
 use Rattle.sequential_signer.specs.Lookup.{cache_lookup}
 use Rattle.sequential_signer.specs.Setup.{Setup, cache_of, rule_of}
-use Rattle.wake_lock.specs.Calls.{same_call, first_of}
+use Rattle.sign_base.specs.Calls.{same_call, first_of}
 use Rattle.sequential_signer.specs.Transcript.{committed_entries}
 use Rattle.sequential_signer.specs.Phase.{phase_of, is_waiting, is_queued, is_loading}
 use Rattle.sequential_signer.specs.Turn.{open_calls, has_turn}

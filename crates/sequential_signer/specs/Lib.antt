@@ -1,3 +1,5 @@
+pub mod Deadline
+pub mod OptionValid
 pub mod Transcript
 pub mod Policy
 pub mod Lookup

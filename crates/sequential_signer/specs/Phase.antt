@@ -1,7 +1,7 @@
 -- How far a call is, and which events fit, read from a transcript.
 use Rattle.std.specs.Prelude.{ℕ, Bool, true, false, not, ◌&&◌, ◌||◌, ◌==◌, nat_lt, List, Option, Some, None, filter, is_some, if◌then◌else◌}
 use Rattle.std.specs.List.{list_any, list_all}
-use Rattle.wake_lock.specs.declared.CallId.{CallId}
+use Rattle.sign_base.specs.declared.call_id.CallId.{CallId}
 use Rattle.sequential_signer.specs.Transcript.{last_of, call_of, entries_of}
 use Rattle.sequential_signer.specs.Setup.{Setup, cache_of}
 use Rattle.sequential_signer.specs.declared.event.Entry.{Entry}

@@ -1,6 +1,6 @@
 -- The cache that is left by a signer that serves the holds of a transcript one after another.
 use Rattle.std.specs.Prelude.{ℕ, List, Option, Some, None, filter, fold, slice_get}
-use Rattle.wake_lock.specs.declared.CallId.{CallId}
+use Rattle.sign_base.specs.declared.call_id.CallId.{CallId}
 use Rattle.sequential_signer.specs.Policy.{Policy}
 use Rattle.sequential_signer.specs.SequentialCall.{HoldInput, Progress, Asking, Over, sequential_call}
 use Rattle.sequential_signer.specs.Setup.{Setup}

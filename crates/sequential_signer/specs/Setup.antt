@@ -1,6 +1,6 @@
 -- What a signer is set up with.
 use Rattle.std.specs.Prelude.{ℕ, List, Option, Some, None, slice_get, option_map, option_and_then, Bool, ◌==◌, false}
-use Rattle.wake_lock.specs.declared.CallId.{CallId}
+use Rattle.sign_base.specs.declared.call_id.CallId.{CallId}
 use Rattle.sequential_signer.specs.declared.event.Loader.{Loader}
 
 -- a handle names a cache and a rule, by their places

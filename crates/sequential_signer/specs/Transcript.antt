@@ -1,7 +1,7 @@
 -- Transcripts: what happened so far, the oldest entry first.
 use Rattle.std.specs.Prelude.{Bool, true, false, not, List, [], ◌∷◌, Option, Some, None, filter}
-use Rattle.wake_lock.specs.declared.CallId.{CallId}
-use Rattle.wake_lock.specs.Calls.{same_call}
+use Rattle.sign_base.specs.declared.call_id.CallId.{CallId}
+use Rattle.sign_base.specs.Calls.{same_call}
 use Rattle.sequential_signer.specs.declared.event.Entry.{Entry}
 use Rattle.sequential_signer.specs.declared.event.Event.{Event}
 use Rattle.sequential_signer.specs.declared.event.Event.TheVariants.{Begin, Poll, Provided, Signed, Cancel}

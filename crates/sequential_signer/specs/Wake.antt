@@ -1,7 +1,7 @@
 -- Whom an entry wakes, read from a transcript.
 use Rattle.std.specs.Prelude.{ℕ, Bool, not, ◌&&◌, List, [], ◌∷◌, ◌++◌, Option, find}
-use Rattle.wake_lock.specs.declared.CallId.{CallId}
-use Rattle.wake_lock.specs.Calls.{same_call}
+use Rattle.sign_base.specs.declared.call_id.CallId.{CallId}
+use Rattle.sign_base.specs.Calls.{same_call}
 use Rattle.sequential_signer.specs.Transcript.{call_of}
 use Rattle.sequential_signer.specs.Setup.{Setup}
 use Rattle.sequential_signer.specs.Phase.{phase_of, is_queued}

@@ -2,8 +2,8 @@
 ghost use Rattle.std.specs.Prelude.{◌≡◌, IfOk, IsOk};
 ghost use Rattle.sequential_signer.specs.Clones.{IsBare, IsBareAnswer, IsBareVerdict};
 
+use crate::SigningCredential;
 use crate::event::{Answer, Event, Verdict};
-use credentials::SigningCredential;
 use sign_base::NoMemory;
 use std::alloc::Global;
 

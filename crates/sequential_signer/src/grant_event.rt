@@ -1,9 +1,8 @@
 //! What happens to the calls of a granter, and what it replies. A granter makes a credential from another,
 //! the source, which is loaded and cached as a signer's. Debug texts show a credential as its type does.
 use crate::event::Answer;
-use sign_base::Timestamp;
+use sign_base::{CallId, Timestamp};
 use std::time::Duration;
-use wake_lock::CallId;
 
 /// A granter's answer: the credential that it made from the source, or its error.
 #[derive(Debug, Drop)]

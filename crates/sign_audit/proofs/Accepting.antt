@@ -1,7 +1,7 @@
 -- What a step does to an auditor.
 use Rattle.std.proofs.Common.{◌≡◌, ℕ, zero, suc, ◌<◌, ◌&&◌, true, false, List, [], ◌∷◌, ◌++◌, Option, Some, None, IfSome, Result, Ok, Err, OnOk, OnErr, is_err, option_map, is_some, length, slice_get, slice_index_or, refl, sym, ◌∙◌, ap, subst, inl, inr}
-use Rattle.wake_lock.specs.declared.CallId.{CallId}
-use Rattle.wake_lock.specs.Calls.{is_among}
+use Rattle.sign_base.specs.declared.call_id.CallId.{CallId}
+use Rattle.sign_base.specs.Calls.{is_among}
 use Rattle.sequential_signer.specs.ExpectedReply.{expected_reply}
 use Rattle.sequential_signer.specs.Legal.{allocates, IsLegalEntry}
 use Rattle.sequential_signer.specs.Replies.{is_sign}

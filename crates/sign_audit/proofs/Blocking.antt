@@ -1,10 +1,10 @@
 -- The calls for which a call waits, by the line of its cache.
 use Rattle.std.proofs.Common.{◌≡◌, ℕ, zero, suc, ◌<◌, Bool, true, false, List, [], ◌∷◌, Option, Some, None, IfSome, length, option_map, is_some, slice_get, slice_index_or, if◌then◌else◌, refl, sym, ◌∙◌, ap, subst}
 use Rattle.std.specs.List.{list_all}
-use Rattle.wake_lock.specs.declared.CallId.{CallId}
-use Rattle.wake_lock.specs.Calls.{same_call, first_of}
-use Rattle.wake_lock.proofs.Calls.{same_call-eq, same_call-comm}
-use Rattle.wake_lock.proofs.Truth.{and_left, and_right}
+use Rattle.sign_base.specs.declared.call_id.CallId.{CallId}
+use Rattle.sign_base.specs.Calls.{same_call, first_of}
+use Rattle.sign_base.proofs.Calls.{same_call-eq, same_call-comm}
+use Rattle.sign_base.proofs.Truth.{and_left, and_right}
 use Rattle.sequential_signer.specs.Phase.{Signing, phase_of, is_live}
 use Rattle.sequential_signer.specs.Policy.{Policy}
 use Rattle.sequential_signer.specs.Setup.{Setup, Handle, cache_of}

@@ -8,7 +8,7 @@ use Rattle.sequential_signer.specs.declared.event.Entry.{Entry}
 use Rattle.sequential_signer.specs.declared.event.Reply.{Reply}
 use Rattle.sequential_signer.specs.declared.event.Reply.TheVariants.{Begun, Pending, NotNow, OutOfMemory, Ask, Sign, Refused, Done, Cancelled}
 use Rattle.sequential_signer.proofs.Lists.{filter-more_yes, filter-more_no}
-use Rattle.wake_lock.proofs.Truth.{number_refl, same_number}
+use Rattle.sign_base.proofs.Truth.{number_refl, same_number}
 use Rattle.desk_parts.specs.Queue.{with_changed}
 use Rattle.desk_parts.proofs.ChangedAt.{changed-same, changed-other}
 use Rattle.sign_audit.specs.Counts.{is_kind_at, number_at, counts_of, up_to_end, counts_up_to_end, counted}

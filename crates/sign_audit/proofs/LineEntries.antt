@@ -5,11 +5,10 @@ use Rattle.std.specs.Map.{keys_of, lookup_entry, remove_entry}
 use Rattle.std.proofs.lemmas.List.{take_all, map-append, append-nil, append_assoc}
 use Rattle.sequential_signer.specs.Turn.{before_call}
 use Rattle.lru.specs.LruCache.{LruCache, demoted, put_entries}
-use Rattle.wake_lock.specs.declared.CallId.{CallId}
-use Rattle.wake_lock.specs.Calls.{same_call, is_among, first_of}
-use Rattle.wake_lock.proofs.Calls.{same_call-eq, same_call-refl, same_call-comm}
-use Rattle.wake_lock.proofs.Lines.{absent-leaves}
-use Rattle.wake_lock.proofs.Truth.{or_left, or_right, or_none}
+use Rattle.sign_base.specs.declared.call_id.CallId.{CallId}
+use Rattle.sign_base.specs.Calls.{same_call, is_among, first_of}
+use Rattle.sign_base.proofs.Calls.{same_call-eq, same_call-refl, same_call-comm, absent-leaves}
+use Rattle.sign_base.proofs.Truth.{or_left, or_right, or_none}
 
 absent-lookup : (k : CallId) (es : List (CallId × Unit {0})) → is_among k (keys_of es) ≡ false
     → lookup_entry (same_call k) es ≡ None

@@ -2,7 +2,7 @@
 use Rattle.std.proofs.Common.{◌≡◌, ℕ, ℤ, Bool, true, false, ◌&&◌, if◌then◌else◌, List, Option, Some, None, option_map, is_some, refl, sym, ◌∙◌, ap, inl, inr}
 use Rattle.std.specs.declared.time.Duration.{Duration}
 use Rattle.sign_base.specs.declared.head.Head.{Head}
-use Rattle.wake_lock.specs.declared.CallId.{CallId}
+use Rattle.sign_base.specs.declared.call_id.CallId.{CallId}
 use Rattle.sequential_signer.specs.ExpectedReply.{expected_reply, reply_at}
 use Rattle.sequential_signer.specs.Legal.{allocates, IsLegalEntry}
 use Rattle.sequential_signer.specs.Replies.{is_sign}

@@ -1,6 +1,6 @@
 -- The auditor of a fresh desk: nobody is in line, and nothing was counted.
 use Rattle.std.proofs.Common.{◌≡◌, ℕ, zero, suc, ◌-◌, Bool, false, if◌then◌else◌, List, [], ◌∷◌, ◌++◌, Some, Result, Ok, Err, is_ok, is_err, option_map, slice_get, length, take, replicate, refl, sym, ◌∙◌, ap, arith}
-use Rattle.wake_lock.specs.declared.CallId.{CallId}
+use Rattle.sign_base.specs.declared.call_id.CallId.{CallId}
 use Rattle.sequential_signer.specs.Policy.{Policy}
 use Rattle.sequential_signer.specs.Turn.{poll_order}
 use Rattle.sequential_signer.specs.Setup.{Setup}

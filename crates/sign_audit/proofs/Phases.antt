@@ -1,8 +1,8 @@
 -- How far a call is by what the desk keeps, and by the transcript.
 use Rattle.std.proofs.Common.{◌≡◌, ℕ, Bool, true, false, List, [], ◌∷◌, ◌++◌, Option, Some, None, option_map, refl, sym, ◌∙◌, ap}
-use Rattle.wake_lock.specs.declared.CallId.{CallId}
-use Rattle.wake_lock.specs.Calls.{same_call}
-use Rattle.wake_lock.proofs.Calls.{same_call-eq}
+use Rattle.sign_base.specs.declared.call_id.CallId.{CallId}
+use Rattle.sign_base.specs.Calls.{same_call}
+use Rattle.sign_base.proofs.Calls.{same_call-eq}
 use Rattle.sequential_signer.specs.ExpectedReply.{expected_reply}
 use Rattle.sequential_signer.specs.Legal.{IsLegal}
 use Rattle.sequential_signer.specs.Phase.{Unknown, phase_in, phase_of, is_live}

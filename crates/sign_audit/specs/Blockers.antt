@@ -1,6 +1,6 @@
 -- The calls for which a call waits.
 use Rattle.std.specs.Prelude.{ℕ, not, List, [], Option, Some, None, filter, if◌then◌else◌}
-use Rattle.wake_lock.specs.declared.CallId.{CallId}
+use Rattle.sign_base.specs.declared.call_id.CallId.{CallId}
 use Rattle.sequential_signer.specs.Setup.{Setup, cache_of}
 use Rattle.sequential_signer.specs.Phase.{phase_of, is_live}
 use Rattle.sequential_signer.specs.Turn.{calls_ahead, hold_is_finished}

@@ -1,6 +1,6 @@
 -- What holds of every auditor.
 use Rattle.std.specs.Prelude.{◌≡◌, List}
-use Rattle.wake_lock.specs.declared.CallId.{CallId}
+use Rattle.sign_base.specs.declared.call_id.CallId.{CallId}
 use Rattle.sequential_signer.specs.Policy.{Policy}
 use Rattle.sequential_signer.specs.declared.event.Entry.{Entry}
 use Rattle.sign_audit.specs.AuditState.{AuditState, AuditRepresents}

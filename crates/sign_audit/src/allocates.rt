@@ -8,8 +8,7 @@ ghost use Rattle.desk_parts.specs.Tables.{setup_of};
 ghost use Rattle.sign_desk.specs.DeskState.{Represents};
 ghost use Rattle.sign_audit.specs.Memory.{tells_memory, finds, accepts};
 
-use credentials::{DeadlineRule, SigningCredential};
-use sequential_signer::{Answer, Event, Reply, Verdict};
+use sequential_signer::{Answer, DeadlineRule, Event, Reply, SigningCredential, Verdict};
 use sign_desk::{Desk, Stage};
 
 /// Whether the event may run out of memory now. A credential that is found and then refused counts too.

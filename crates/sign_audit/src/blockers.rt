@@ -1,6 +1,6 @@
 //! The calls for which a call waits.
 ghost use Rattle.std.specs.Prelude.{◌≡◌, ◌<◌, List, IfOk, IfSome, length};
-ghost use Rattle.wake_lock.specs.Calls.{first_of};
+ghost use Rattle.sign_base.specs.Calls.{first_of};
 ghost use Rattle.sequential_signer.specs.Policy.{policy_of};
 ghost use Rattle.sequential_signer.specs.Transcript.{committed_entries};
 ghost use Rattle.sequential_signer.specs.declared.event.Entry.{Entry};
@@ -10,10 +10,9 @@ ghost use Rattle.sign_audit.specs.AuditState.{AuditRepresents};
 ghost use Rattle.sign_audit.specs.Blockers.{blockers_of, waits_at};
 
 use crate::audit::Audit;
-use credentials::{DeadlineRule, SigningCredential};
-use sign_base::NoMemory;
+use sequential_signer::{DeadlineRule, SigningCredential};
+use sign_base::{CallId, NoMemory};
 use sign_desk::Stage;
-use wake_lock::CallId;
 
 impl<K: SigningCredential, D: DeadlineRule<Credential = K>> Audit<K, D> {
     /// The calls of the same cache that were polled before this one and whose holds are open, in the order of

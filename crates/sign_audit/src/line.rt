@@ -1,14 +1,13 @@
 //! The calls in line at one cache: the one that holds, then those that wait. A call leaves from anywhere
 //! without a walk along the others.
 ghost use Rattle.std.specs.Prelude.{◌≡◌, ◌++◌, ◌∷◌, [], false, not, filter, IfOk, OnOk, OnErr};
-ghost use Rattle.wake_lock.specs.Calls.{same_call, is_among, first_of};
+ghost use Rattle.sign_base.specs.Calls.{same_call, is_among, first_of};
 ghost use Rattle.sequential_signer.specs.Turn.{before_call};
 
 use lru::LruCache;
-use sign_base::NoMemory;
+use sign_base::{CallId, NoMemory};
 use std::alloc::{AllocError, Global};
 use std::marker::Model;
-use wake_lock::CallId;
 
 /// The calls in line, in the order in which they came.
 #[derive(Drop)]
@@ -20,7 +19,7 @@ pub(crate) struct Line {
 impl Model for Line {
     ghost use Rattle.std.specs.Prelude.{◌≡◌, ◌-◌, ◌^◌, List};
     ghost use Rattle.std.specs.Map.{keys_of};
-    ghost use Rattle.wake_lock.specs.declared.CallId.{CallId};
+    ghost use Rattle.sign_base.specs.declared.call_id.CallId.{CallId};
 
     ghost Value = { List CallId };
 

@@ -4,10 +4,9 @@ ghost use Rattle.sign_audit.specs.LineChange.{changed_lines, change_before, chan
 
 use crate::line::Line;
 use crate::line_change::LineChange;
-use sign_base::NoMemory;
+use sign_base::{CallId, NoMemory};
 use std::alloc::Global;
 use std::marker::Model;
-use wake_lock::CallId;
 
 /// A line for each cache.
 #[derive(Drop)]
@@ -17,7 +16,7 @@ pub(crate) struct Lines {
 
 impl Model for Lines {
     ghost use Rattle.std.specs.Prelude.{List};
-    ghost use Rattle.wake_lock.specs.declared.CallId.{CallId};
+    ghost use Rattle.sign_base.specs.declared.call_id.CallId.{CallId};
 
     ghost Value = { List (List CallId) };
 

@@ -1,10 +1,3 @@
+pub mod Truth
+pub mod Calls
 pub mod Styled
-pub mod LineLemmas
-pub mod TakingLemmas
-pub mod WindowLemmas
-pub mod CountingOff
-pub mod CivilTime
-pub mod DaysCounted
-pub mod MomentReadBack
-pub mod WholeSecond
-pub mod CivilRead

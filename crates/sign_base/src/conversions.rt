@@ -4,29 +4,35 @@ ghost use Rattle.std.specs.Prelude.{◌≡◌, IfOk, IfErr, IsErr, Some};
 ghost use Rattle.std.specs.IoError.{error_kind};
 ghost use Rattle.std.specs.declared.io.ErrorKind.{ErrorKind as IoErrorKind};
 ghost use Rattle.anyhow.specs.Error.{error_message};
-ghost use Rattle.http.specs.declared.error.Error.{Error as HttpError};
-ghost use Rattle.http_header.specs.declared.name.HeaderNameError.{HeaderNameError as NameError};
-ghost use Rattle.http_header.specs.declared.value.HeaderValueError.{HeaderValueError as ValueError};
-ghost use Rattle.http_uri.specs.Error.{IsOutOfMemory};
 ghost use Rattle.sign_base.specs.Error.{new_error};
 ghost use Rattle.sign_base.specs.Conversion.{IsOfKindWithText, IsOfKind, kind_of_io, is_retried_io};
-ghost use Rattle.sign_base.specs.declared.error_kind.ErrorKind.TheVariants.{RequestInvalid, Unexpected};
+ghost use Rattle.sign_base.specs.declared.error_kind.ErrorKind.TheVariants.{Unexpected};
 
 use crate::{Error, ErrorKind, NoMemory};
-use http_header::{HeaderNameError, HeaderValueError, ToStrError};
-use http_uri::{InvalidUriParts, UriError};
 use std::alloc::Global;
 use std::string::FromUtf8Error;
 use std::{fmt, io};
 
 impl Error {
+    /// A new error of this kind, whose message is what its cause prints.
+    pub fn from_display<D: fmt::Display>(
+        alloc: Global,
+        kind: ErrorKind,
+        cause: &D,
+    ) -> Result<Error, NoMemory<()>>
+        ensures { IfOk result (IsOfKindWithText kind (D.output cause.now)) }
+    {
+        let message = format!(in alloc; "{cause}")?;
+        Ok(Error::of(kind, message))
+    }
+
     /// `Unexpected`, over the error itself, which comes back where there is no memory for its text.
     pub fn from_anyhow(alloc: Global, err: anyhow::Error) -> Result<Error, NoMemory<anyhow::Error>>
         ensures ok { IfOk result
             (λ e. e ≡ record (new_error Unexpected (error_message err)) { source = Some err }) }
         ensures back { IfErr result (λ e. e.back ≡ err) }
     {
-        match error_from_display(alloc, ErrorKind::Unexpected, &err) {
+        match Error::from_display(alloc, ErrorKind::Unexpected, &err) {
             Ok(error) => Ok(error.with_source(err)),
             Err(_) => Err(NoMemory { back: err }),
         }
@@ -36,72 +42,14 @@ impl Error {
     pub fn from_fmt(alloc: Global, err: &fmt::Error) -> Result<Error, NoMemory<()>>
         ensures { IfOk result (IsOfKind Unexpected) }
     {
-        error_from_display(alloc, ErrorKind::Unexpected, err)
+        Error::from_display(alloc, ErrorKind::Unexpected, err)
     }
 
     /// `Unexpected`.
     pub fn from_utf8(alloc: Global, err: &FromUtf8Error) -> Result<Error, NoMemory<()>>
         ensures { IfOk result (IsOfKind Unexpected) }
     {
-        error_from_display(alloc, ErrorKind::Unexpected, err)
-    }
-
-    /// `RequestInvalid`.
-    pub fn from_http(alloc: Global, err: &http::Error) -> Result<Error, NoMemory<()>>
-        ensures kind { IfOk result (IsOfKind RequestInvalid) }
-        ensures memory { err.now ≡ HttpError.OutOfMemory → IsErr result }
-    {
-        match err {
-            http::Error::OutOfMemory => Err(NoMemory { back: () }),
-            _ => error_from_display(alloc, ErrorKind::RequestInvalid, err),
-        }
-    }
-
-    /// `RequestInvalid`.
-    pub fn from_header_value(alloc: Global, err: &HeaderValueError) -> Result<Error, NoMemory<()>>
-        ensures kind { IfOk result (IsOfKind RequestInvalid) }
-        ensures memory { err.now ≡ ValueError.OutOfMemory → IsErr result }
-    {
-        match err {
-            HeaderValueError::OutOfMemory => Err(NoMemory { back: () }),
-            HeaderValueError::Invalid => error_from_display(alloc, ErrorKind::RequestInvalid, err),
-        }
-    }
-
-    /// `RequestInvalid`.
-    pub fn from_header_name(alloc: Global, err: &HeaderNameError) -> Result<Error, NoMemory<()>>
-        ensures kind { IfOk result (IsOfKind RequestInvalid) }
-        ensures memory { err.now ≡ NameError.OutOfMemory → IsErr result }
-    {
-        match err {
-            HeaderNameError::OutOfMemory => Err(NoMemory { back: () }),
-            HeaderNameError::Invalid => error_from_display(alloc, ErrorKind::RequestInvalid, err),
-        }
-    }
-
-    /// `RequestInvalid`.
-    pub fn from_to_str(alloc: Global, err: &ToStrError) -> Result<Error, NoMemory<()>>
-        ensures { IfOk result (IsOfKind RequestInvalid) }
-    {
-        error_from_display(alloc, ErrorKind::RequestInvalid, err)
-    }
-
-    /// `RequestInvalid`.
-    pub fn from_uri(alloc: Global, err: &UriError) -> Result<Error, NoMemory<()>>
-        ensures kind { IfOk result (IsOfKind RequestInvalid) }
-        ensures memory { IsOutOfMemory err.now → IsErr result }
-    {
-        match err {
-            UriError::OutOfMemory => Err(NoMemory { back: () }),
-            UriError::Invalid(_) => error_from_display(alloc, ErrorKind::RequestInvalid, err),
-        }
-    }
-
-    /// `RequestInvalid`.
-    pub fn from_uri_parts(alloc: Global, err: &InvalidUriParts) -> Result<Error, NoMemory<()>>
-        ensures { IfOk result (IsOfKind RequestInvalid) }
-    {
-        error_from_display(alloc, ErrorKind::RequestInvalid, err)
+        Error::from_display(alloc, ErrorKind::Unexpected, err)
     }
 
     /// `ConfigInvalid` where something was not found, `PermissionDenied` where that was the cause,
@@ -120,18 +68,6 @@ impl Error {
             | io::ErrorKind::ConnectionRefused => (ErrorKind::Unexpected, true),
             _ => (ErrorKind::Unexpected, false),
         };
-        Ok(error_from_display(alloc, kind, err)?.set_retryable(retryable))
+        Ok(Error::from_display(alloc, kind, err)?.set_retryable(retryable))
     }
-}
-
-/// A new error of this kind, whose message is what its cause prints.
-fn error_from_display<D: fmt::Display>(
-    alloc: Global,
-    kind: ErrorKind,
-    cause: &D,
-) -> Result<Error, NoMemory<()>>
-    ensures { IfOk result (IsOfKindWithText kind (D.output cause.now)) }
-{
-    let message = format!(in alloc; "{cause}")?;
-    Ok(Error::of(kind, message))
 }

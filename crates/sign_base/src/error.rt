@@ -44,8 +44,8 @@ impl Error {
         Ok(Error::of(kind, String::from_str(alloc, message)?))
     }
 
-    /// The same with the message itself.
-    pub(crate) fn of(kind: ErrorKind, message: String) -> Error
+    /// The same with the message itself, which takes no memory.
+    pub fn of(kind: ErrorKind, message: String) -> Error
         ensures { result ≡ new_error kind (string_bytes message) }
     {
         Error {

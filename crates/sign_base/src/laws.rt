@@ -2,7 +2,7 @@
 ghost use Rattle.std.specs.Prelude.{◌≡◌, ℤ, Some};
 ghost use Rattle.std.specs.Ordering.{int_cmp, int_eq};
 ghost use Rattle.std.specs.Hash as fed;
-ghost use Rattle.sign_base.specs.Law.{RetriesRateLimitsAlone, BeginsWithDate, CountsBack, CountsForth, CountsToItsSecond, IsWithinItsSecond, ShowsItsWholeSecond};
+ghost use Rattle.sign_base.specs.Law.{RetriesRateLimitsAlone};
 
 use crate::Timestamp;
 use std::hash::Hash;
@@ -10,34 +10,6 @@ use std::hash::Hash;
 /// A new error is retryable exactly where its kind is `RateLimited`.
 pub fn rate_limits_alone_are_retried()
     ensures { RetriesRateLimitsAlone }
-{}
-
-/// `format_iso8601` begins with `format_date`.
-pub fn iso8601_begins_with_the_date()
-    ensures { BeginsWithDate }
-{}
-
-/// The calendar counts back to each date from the days before it.
-pub fn days_count_back_to_their_date()
-    ensures { CountsBack }
-{}
-
-/// The date that is counted off from a number of days has as many days before it.
-pub fn a_date_has_its_days_before_it()
-    ensures { CountsForth }
-{}
-
-/// The date and time of a moment are those of the whole second at or before it, which is less than
-/// a second away.
-pub fn a_moment_shows_its_whole_second()
-    ensures within { IsWithinItsSecond }
-    ensures shown { ShowsItsWholeSecond }
-{}
-
-/// The date and time that `format_iso8601` writes counts back to its second: to the whole second
-/// at or before the moment, in the years from 0 to 9999.
-pub fn a_printed_date_counts_back_to_its_second()
-    ensures { CountsToItsSecond }
 {}
 
 /// Moments are compared and hashed as their nanoseconds since 1970.

@@ -2,8 +2,8 @@
 -- call's, and takes
 -- memory only for a step.
 use Rattle.std.proofs.Common.{◌≡◌, ℤ, Bool, true, false, cond, IsTrue, Option, Some, None, option_map, length, refl, sym, ◌∙◌, ap, subst}
-use Rattle.wake_lock.specs.declared.CallId.{CallId}
-use Rattle.wake_lock.specs.Calls.{is_first}
+use Rattle.sign_base.specs.declared.call_id.CallId.{CallId}
+use Rattle.sign_base.specs.Calls.{is_first}
 use Rattle.sequential_signer.specs.Policy.{Policy}
 use Rattle.sequential_signer.specs.Lookup.{HandOut, Refuse}
 use Rattle.sequential_signer.specs.SequentialCall.{Progress, Asking, Over}

@@ -1,7 +1,7 @@
 -- What a desk replies, by its cause.
 use Rattle.std.proofs.Common.{refl, inl, inr}
 use Rattle.sequential_signer.specs.Policy.{Policy}
-use Rattle.wake_lock.specs.declared.CallId.{CallId}
+use Rattle.sign_base.specs.declared.call_id.CallId.{CallId}
 use Rattle.sequential_signer.specs.Transcript.{call_of}
 use Rattle.sequential_signer.specs.declared.event.Event.{Event}
 use Rattle.sequential_signer.specs.declared.event.Reply.{Reply}

@@ -13,7 +13,7 @@ use Rattle.sequential_signer.specs.declared.event.Loader.{Loader}
 use Rattle.sequential_signer.specs.declared.event.Reply.{Reply}
 use Rattle.sequential_signer.specs.declared.event.Reply.TheVariants.{Begun, Pending, NotNow, OutOfMemory, Ask, Sign, Refused, Done, Cancelled}
 use Rattle.sequential_signer.proofs.Lists.{list_any-more, or_false}
-use Rattle.wake_lock.proofs.Truth.{or_left, or_right}
+use Rattle.sign_base.proofs.Truth.{or_left, or_right}
 use Rattle.sequential_signer.proofs.Run.{committed_entries-more}
 use Rattle.sign_desk.specs.DeskState.{DeskState, Represents}
 use Rattle.desk_parts.specs.Tables.{setup_of, was_begun}

@@ -1,9 +1,9 @@
 -- What is known of a live call.
 use Rattle.std.proofs.Common.{◌≡◌, ℕ, true, false, cond, List, [], ◌∷◌, ◌++◌, Option, Some, None, is_some, option_map, option_and_then, slice_get, length, refl, sym, ◌∙◌, ap, subst}
-use Rattle.wake_lock.specs.declared.CallId.{CallId}
+use Rattle.sign_base.specs.declared.call_id.CallId.{CallId}
 use Rattle.sequential_signer.specs.Policy.{Policy}
 use Rattle.sequential_signer.specs.Setup.{Handle, cache_of, rule_of, is_of_cache, is_number}
-use Rattle.wake_lock.specs.Calls.{same_call, first_of}
+use Rattle.sign_base.specs.Calls.{same_call, first_of}
 use Rattle.sequential_signer.specs.Turn.{open_calls}
 use Rattle.sequential_signer.specs.Transcript.{committed_entries, call_of}
 use Rattle.sequential_signer.specs.Phase.{Phase, Unknown, Unpolled, Queued, Loading, Signing, Ended, phase_of, event_fits, is_live, is_begun}
@@ -14,8 +14,8 @@ use Rattle.sequential_signer.specs.LiveCall.{live_call, live_by}
 use Rattle.sequential_signer.specs.declared.event.Entry.{Entry}
 use Rattle.sequential_signer.specs.declared.event.Event.{Event}
 use Rattle.sequential_signer.specs.declared.event.Reply.TheVariants.{NotNow}
-use Rattle.wake_lock.proofs.Calls.{same_call-refl}
-use Rattle.wake_lock.proofs.Truth.{number_refl}
+use Rattle.sign_base.proofs.Calls.{same_call-refl}
+use Rattle.sign_base.proofs.Truth.{number_refl}
 use Rattle.sequential_signer.proofs.CallInvariant.{CallInvariant, unpolled_call, queued_call, loading_call, signing_call, begin-own}
 use Rattle.sequential_signer.proofs.CallInvariantSteps.{stands}
 use Rattle.sequential_signer.proofs.Queue.{after_first}

@@ -1,12 +1,12 @@
 -- A call that loads had fewer answers than there are providers.
 use Rattle.std.proofs.Common.{◌≡◌, ℕ, ℤ, Bool, true, false, cond, ◌||◌, ◌<◌, List, [], ◌∷◌, ◌++◌, Option, Some, None, slice_get, length, refl, sym, ◌∙◌, ap, subst}
 use Rattle.std.specs.List.{list_any}
-use Rattle.wake_lock.specs.declared.CallId.{CallId}
+use Rattle.sign_base.specs.declared.call_id.CallId.{CallId}
 use Rattle.sequential_signer.specs.Policy.{Policy}
 use Rattle.sequential_signer.specs.Lookup.{HandOut, Refuse, cache_lookup, check_refreshed}
 use Rattle.sequential_signer.specs.SequentialCall.{HoldInput, Asking, Over, sequential_call}
 use Rattle.sequential_signer.specs.Setup.{Setup, cache_of, rule_of}
-use Rattle.wake_lock.specs.Calls.{same_call}
+use Rattle.sign_base.specs.Calls.{same_call}
 use Rattle.sequential_signer.specs.Transcript.{call_of, entries_of}
 use Rattle.sequential_signer.specs.Phase.{Phase, Unknown, Unpolled, Queued, Loading, Signing, Ended, phase_of, is_waiting, is_loading, is_waiting_poll, is_mark, phase_by, phase_in}
 use Rattle.sequential_signer.specs.Hold.{BeginInput, begin_of, answers_of, answers_in, turn_moment, input_by}
@@ -18,7 +18,7 @@ use Rattle.sequential_signer.specs.declared.event.Event.TheVariants.{Begin, Poll
 use Rattle.sequential_signer.specs.declared.event.Loader.{Loader}
 use Rattle.sequential_signer.specs.declared.event.Reply.{Reply}
 use Rattle.sequential_signer.specs.declared.event.Reply.TheVariants.{Begun, Pending, NotNow, Ask, Sign, Refused}
-use Rattle.wake_lock.proofs.Calls.{same_call-eq}
+use Rattle.sign_base.proofs.Calls.{same_call-eq}
 use Rattle.sequential_signer.proofs.OwnEntries.{entries_of-own, answers_in-more, to_queued}
 use Rattle.sequential_signer.proofs.Run.{IsRun}
 use Rattle.sequential_signer.proofs.CallInvariant.{Waits, phase-own_mark, answers-own_none, refused_phase, refused_answers}

@@ -1,6 +1,6 @@
 -- A desk where no call was begun represents the empty transcript, also with more places.
 use Rattle.std.proofs.Common.{◌≡◌, ℕ, false, [], None, option_map, slice_get, length, refl, ◌∙◌, ap}
-use Rattle.wake_lock.specs.declared.CallId.{CallId}
+use Rattle.sign_base.specs.declared.call_id.CallId.{CallId}
 use Rattle.sequential_signer.specs.Policy.{Policy}
 use Rattle.sequential_signer.specs.Setup.{Setup, Handle}
 use Rattle.sequential_signer.specs.Transcript.{committed_entries, entries_of}

@@ -1,10 +1,10 @@
 -- What is previewed is the reply of a step: there is a desk that the step would leave.
 use Rattle.std.proofs.Common.{◌≡◌, ℕ, ◌+◌, ◌≤◌, Bool, true, false, cond, not, ◌&&◌, ◌||◌, List, [], ◌∷◌, ◌++◌, Option, Some, None, is_some, option_map, length, filter, refl, sym, ◌∙◌, ap, subst, inl, inr, arith}
 use Rattle.std.specs.List.{list_any}
-use Rattle.wake_lock.specs.declared.CallId.{CallId}
-use Rattle.wake_lock.specs.Calls.{same_call, IsOnce}
-use Rattle.wake_lock.proofs.Calls.{same_call-eq, same_call-refl, same_call-comm, once-filter}
-use Rattle.wake_lock.proofs.Truth.{and_left, and_right}
+use Rattle.sign_base.specs.declared.call_id.CallId.{CallId}
+use Rattle.sign_base.specs.Calls.{same_call, IsOnce}
+use Rattle.sign_base.proofs.Calls.{same_call-eq, same_call-refl, same_call-comm, once-filter}
+use Rattle.sign_base.proofs.Truth.{and_left, and_right}
 use Rattle.sequential_signer.specs.Policy.{Policy}
 use Rattle.sequential_signer.specs.Lookup.{HandOut, Refuse}
 use Rattle.sequential_signer.specs.SequentialCall.{Progress, Asking, Over}

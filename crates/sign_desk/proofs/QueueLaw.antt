@@ -1,19 +1,18 @@
 -- The queue of a cache after one more entry.
 use Rattle.std.proofs.Common.{◌≡◌, ℕ, ◌+◌, ◌-◌, Bool, true, false, not, cond, ◌&&◌, ◌||◌, ◌==◌, List, [], ◌∷◌, ◌++◌, Some, is_some, filter, length, refl, sym, ◌∙◌, ap, arith}
 use Rattle.std.specs.List.{list_any}
-use Rattle.wake_lock.specs.declared.CallId.{CallId}
+use Rattle.sign_base.specs.declared.call_id.CallId.{CallId}
 use Rattle.sequential_signer.specs.Policy.{Policy}
 use Rattle.sequential_signer.specs.Setup.{Setup, cache_of, is_of_cache, is_number}
-use Rattle.wake_lock.specs.Calls.{same_call}
+use Rattle.sign_base.specs.Calls.{same_call}
 use Rattle.sequential_signer.specs.Transcript.{call_of}
 use Rattle.sequential_signer.specs.Phase.{Phase, phase_of, is_begun, is_new_number}
 use Rattle.sequential_signer.specs.Turn.{poll_order, hold_is_finished, ends_hold, is_fitting_poll, is_poll_at, open_calls}
 use Rattle.sequential_signer.specs.Hold.{begin_of}
 use Rattle.sequential_signer.specs.declared.event.Entry.{Entry}
 use Rattle.sequential_signer.proofs.Lists.{filter-more_yes, filter-more_no, or_true, and_false}
-use Rattle.wake_lock.proofs.Calls.{same_call-eq, same_call-refl, absent-filter}
-use Rattle.wake_lock.proofs.Lines.{absent-leaves}
-use Rattle.wake_lock.proofs.Truth.{number_refl, same_number}
+use Rattle.sign_base.proofs.Calls.{same_call-eq, same_call-refl, absent-filter, absent-leaves}
+use Rattle.sign_base.proofs.Truth.{number_refl, same_number}
 use Rattle.sequential_signer.proofs.PollOrder.{is_polled, OrderAfter, stays, grows, order_after, poll_order-same, poll_order-poll, hold_is_finished-own, hold_is_finished-more}
 use Rattle.sequential_signer.proofs.Run.{IsRun}
 use Rattle.sequential_signer.proofs.CacheLaw.{order_of_cache, list_all-member}

@@ -2,8 +2,8 @@
 -- entry.
 use Rattle.std.proofs.Common.{◌≡◌, ◌<◌, ℕ, ℤ, Bool, true, false, cond, ◌&&◌, ◌||◌, ◌+◌, ◌==◌, List, [], ◌∷◌, ◌++◌, Option, Some, None, is_some, option_map, slice_get, slice_set, length, refl, sym, ◌∙◌, ap, subst, inl, inr, IsTrue, arith}
 use Rattle.std.specs.Option.{IsSomeAnd}
-use Rattle.wake_lock.specs.declared.CallId.{CallId}
-use Rattle.wake_lock.specs.Calls.{same_call}
+use Rattle.sign_base.specs.declared.call_id.CallId.{CallId}
+use Rattle.sign_base.specs.Calls.{same_call}
 use Rattle.sequential_signer.specs.Policy.{Policy}
 use Rattle.sequential_signer.specs.Setup.{Setup, cache_of, is_number, is_of_cache}
 use Rattle.sequential_signer.specs.Transcript.{committed_entries, call_of, is_out_of_memory}
@@ -20,8 +20,8 @@ use Rattle.sequential_signer.specs.declared.event.Event.TheVariants.{Provided}
 use Rattle.sequential_signer.specs.declared.event.Loader.{Loader}
 use Rattle.sequential_signer.specs.declared.event.Reply.{Reply}
 use Rattle.sequential_signer.specs.declared.event.Reply.TheVariants.{Begun, Pending, NotNow, OutOfMemory, Ask, Sign, Refused, Done, Cancelled}
-use Rattle.wake_lock.proofs.Calls.{same_call-refl}
-use Rattle.wake_lock.proofs.Truth.{same_number, other_number, number_comm}
+use Rattle.sign_base.proofs.Calls.{same_call-refl}
+use Rattle.sign_base.proofs.Truth.{same_number, other_number, number_comm}
 use Rattle.sequential_signer.proofs.Lists.{list_any-more, or_false, and_false}
 use Rattle.sequential_signer.proofs.OwnEntries.{entries_of-other}
 use Rattle.sequential_signer.proofs.Greatest.{greatest_begun-more}

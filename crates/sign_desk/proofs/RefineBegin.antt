@@ -3,8 +3,8 @@ use Rattle.std.proofs.Common.{◌≡◌, ℕ, Bool, true, false, cond, ◌&&◌,
 use Rattle.std.specs.Duration.{as_nanos}
 use Rattle.std.specs.declared.time.Duration.{Duration}
 use Rattle.sign_base.specs.declared.head.Head.{Head}
-use Rattle.wake_lock.specs.declared.CallId.{CallId}
-use Rattle.wake_lock.specs.Calls.{same_call}
+use Rattle.sign_base.specs.declared.call_id.CallId.{CallId}
+use Rattle.sign_base.specs.Calls.{same_call}
 use Rattle.sequential_signer.specs.Policy.{Policy}
 use Rattle.sequential_signer.specs.Setup.{Setup, Handle, cache_of}
 use Rattle.sequential_signer.specs.Transcript.{committed_entries, entries_of}
@@ -17,8 +17,8 @@ use Rattle.sequential_signer.specs.declared.event.Entry.{Entry}
 use Rattle.sequential_signer.specs.declared.event.Event.TheVariants.{Begin}
 use Rattle.sequential_signer.specs.declared.event.Reply.{Reply}
 use Rattle.sequential_signer.specs.declared.event.Reply.TheVariants.{Begun, NotNow}
-use Rattle.wake_lock.proofs.Calls.{same_call-refl}
-use Rattle.wake_lock.proofs.Truth.{number_refl, and_left, and_right, same_number, other_number}
+use Rattle.sign_base.proofs.Calls.{same_call-refl}
+use Rattle.sign_base.proofs.Truth.{number_refl, and_left, and_right, same_number, other_number}
 use Rattle.sequential_signer.proofs.Lists.{list_any-more, or_true}
 use Rattle.sequential_signer.proofs.OwnEntries.{entries_of-own, begin_in-new}
 use Rattle.sequential_signer.proofs.Places.{slice_get-set_same, slice_get-set_other}

@@ -2,8 +2,8 @@
 use Rattle.std.proofs.Common.{◌≡◌, ℕ, true, false, List, [], ◌∷◌, ◌++◌, Option, Some, None, refl, sym, ◌∙◌, ap, inl, inr, subst}
 use Rattle.std.specs.List.{list_any}
 use Rattle.sign_base.specs.declared.head.Head.{Head}
-use Rattle.wake_lock.specs.declared.CallId.{CallId}
-use Rattle.wake_lock.specs.Calls.{same_call}
+use Rattle.sign_base.specs.declared.call_id.CallId.{CallId}
+use Rattle.sign_base.specs.Calls.{same_call}
 use Rattle.sequential_signer.specs.Policy.{Policy}
 use Rattle.sequential_signer.specs.Setup.{Setup, Handle}
 use Rattle.sequential_signer.specs.Turn.{poll_order, open_calls}
@@ -19,8 +19,8 @@ use Rattle.sequential_signer.specs.declared.event.Reply.TheVariants.{NotNow, Ref
 use Rattle.sequential_signer.specs.declared.event.Verdict.{Verdict}
 use Rattle.sequential_signer.specs.declared.event.Verdict.TheVariants.{Accepted, Failed}
 use Rattle.sequential_signer.specs.declared.event.Why.TheVariants as why
-use Rattle.wake_lock.proofs.Calls.{same_call-refl}
-use Rattle.wake_lock.proofs.Truth.{or_left}
+use Rattle.sign_base.proofs.Calls.{same_call-refl}
+use Rattle.sign_base.proofs.Truth.{or_left}
 use Rattle.sequential_signer.proofs.Run.{IsRun, legal_run}
 use Rattle.sequential_signer.proofs.CallInvariant.{CallInvariant, IsServed, unpolled_call, signing_call, phase-own_mark}
 use Rattle.sequential_signer.proofs.WakeLaw.{wakes}

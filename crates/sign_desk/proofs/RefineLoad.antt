@@ -4,7 +4,7 @@ use Rattle.std.specs.List.{list_any}
 use Rattle.std.specs.Duration.{as_nanos}
 use Rattle.std.proofs.lemmas.List.{length-append}
 use Rattle.std.proofs.lemmas.Option.{slice_get_within}
-use Rattle.wake_lock.specs.declared.CallId.{CallId}
+use Rattle.sign_base.specs.declared.call_id.CallId.{CallId}
 use Rattle.sequential_signer.specs.Policy.{Policy}
 use Rattle.sequential_signer.specs.Lookup.{Outcome, HandOut, Refuse, cache_lookup, check_refreshed}
 use Rattle.sequential_signer.specs.SequentialCall.{HoldInput, Progress, Asking, Over, found_progress, load_progress, sequential_call}
@@ -25,7 +25,7 @@ use Rattle.sequential_signer.specs.declared.event.Loader.TheVariants.{Single, Ch
 use Rattle.sequential_signer.specs.declared.event.Reply.{Reply}
 use Rattle.sequential_signer.specs.declared.event.Reply.TheVariants.{NotNow, Ask, Sign, Refused}
 use Rattle.sequential_signer.specs.declared.event.Why.TheVariants as why
-use Rattle.wake_lock.proofs.Calls.{same_call-refl}
+use Rattle.sign_base.proofs.Calls.{same_call-refl}
 use Rattle.sequential_signer.proofs.OwnEntries.{entries_of-own, answers_in-more}
 use Rattle.sequential_signer.proofs.Run.{IsRun, legal_run, legal_entry_step}
 use Rattle.sequential_signer.proofs.CallInvariant.{CallInvariant, Loads, loading_call, phase-own_mark}

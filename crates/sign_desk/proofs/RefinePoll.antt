@@ -1,8 +1,8 @@
 -- What is done at a poll is one more entry of the transcript.
 use Rattle.std.proofs.Common.{◌≡◌, ℤ, Bool, true, false, not, ◌||◌, List, [], ◌∷◌, ◌++◌, Option, Some, None, option_map, slice_get, length, refl, sym, ◌∙◌, ap, subst, IsTrue}
 use Rattle.std.specs.List.{list_any}
-use Rattle.wake_lock.specs.declared.CallId.{CallId}
-use Rattle.wake_lock.specs.Calls.{is_first}
+use Rattle.sign_base.specs.declared.call_id.CallId.{CallId}
+use Rattle.sign_base.specs.Calls.{is_first}
 use Rattle.sequential_signer.specs.Policy.{Policy}
 use Rattle.sequential_signer.specs.Lookup.{HandOut}
 use Rattle.sequential_signer.specs.SequentialCall.{Progress, Over, sequential_call}
@@ -19,7 +19,7 @@ use Rattle.sequential_signer.specs.declared.event.Entry.{Entry}
 use Rattle.sequential_signer.specs.declared.event.Event.TheVariants.{Poll}
 use Rattle.sequential_signer.specs.declared.event.Reply.{Reply}
 use Rattle.sequential_signer.specs.declared.event.Reply.TheVariants.{Pending, Ask, Sign, Refused}
-use Rattle.wake_lock.proofs.Calls.{same_call-refl}
+use Rattle.sign_base.proofs.Calls.{same_call-refl}
 use Rattle.sequential_signer.proofs.OwnEntries.{to_queued}
 use Rattle.sequential_signer.proofs.PollOrder.{is_polled}
 use Rattle.sequential_signer.proofs.Run.{IsRun, legal_run}

@@ -1,10 +1,10 @@
 -- What a step relies on, of a desk that represents a transcript.
 use Rattle.std.proofs.Common.{◌≡◌, ℕ, Bool, true, false, cond, ◌&&◌, ◌||◌, ◌<◌, ◌≤◌, List, [], ◌∷◌, Option, Some, None, is_some, option_map, slice_get, length, filter, refl, sym, ◌∙◌, ap, subst, IfSome, arith}
 use Rattle.std.specs.List.{list_any}
-use Rattle.wake_lock.specs.declared.CallId.{CallId}
+use Rattle.sign_base.specs.declared.call_id.CallId.{CallId}
 use Rattle.sequential_signer.specs.Policy.{Policy}
 use Rattle.sequential_signer.specs.Setup.{Setup, Handle, cache_of, is_of_cache, is_number}
-use Rattle.wake_lock.specs.Calls.{same_call}
+use Rattle.sign_base.specs.Calls.{same_call}
 use Rattle.sequential_signer.specs.Transcript.{committed_entries}
 use Rattle.sequential_signer.specs.Phase.{Phase, Unknown, Unpolled, Queued, Loading, Signing, Ended, phase_of, is_live, is_loading}
 use Rattle.sequential_signer.specs.Hold.{begin_of, answers_of}
@@ -13,8 +13,8 @@ use Rattle.sequential_signer.specs.declared.event.Entry.{Entry}
 use Rattle.sequential_signer.specs.declared.event.Event.TheVariants.{Cancel}
 use Rattle.sequential_signer.specs.declared.event.Loader.{Loader}
 use Rattle.sequential_signer.specs.declared.event.Reply.TheVariants.{NotNow}
-use Rattle.wake_lock.proofs.Calls.{same_call-eq}
-use Rattle.wake_lock.proofs.Truth.{number_refl}
+use Rattle.sign_base.proofs.Calls.{same_call-eq}
+use Rattle.sign_base.proofs.Truth.{number_refl}
 use Rattle.sequential_signer.proofs.PollOrder.{is_polled}
 use Rattle.sequential_signer.proofs.Run.{IsRun, legal_run}
 use Rattle.sequential_signer.proofs.CallInvariant.{CallInvariant, unpolled_call}

@@ -1,6 +1,6 @@
 -- What a signer's desk does at an event.
 use Rattle.sign_base.specs.declared.head.Head.{Head}
-use Rattle.wake_lock.specs.declared.CallId.{CallId}
+use Rattle.sign_base.specs.declared.call_id.CallId.{CallId}
 use Rattle.sequential_signer.specs.declared.event.Reply.{Reply}
 use Rattle.sequential_signer.specs.declared.event.Reply.TheVariants.{OutOfMemory}
 use Rattle.desk_parts.specs.Action.{EffectOn, ActionOn, PerformsOr}

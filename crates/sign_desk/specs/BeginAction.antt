@@ -1,6 +1,6 @@
 -- What is done at a begin.
 use Rattle.std.specs.Prelude.{Some, if◌then◌else◌}
-use Rattle.wake_lock.specs.declared.CallId.{CallId}
+use Rattle.sign_base.specs.declared.call_id.CallId.{CallId}
 use Rattle.sequential_signer.specs.declared.event.Reply.TheVariants.{Begun, NotNow}
 use Rattle.desk_parts.specs.Action.{Leaves, Allocates}
 use Rattle.desk_parts.specs.Begin.{can_begin, with_begin}

@@ -1,6 +1,6 @@
 -- What is done at a live call by how far its hold gets.
 use Rattle.std.specs.Prelude.{Option, Some, None}
-use Rattle.wake_lock.specs.declared.CallId.{CallId}
+use Rattle.sign_base.specs.declared.call_id.CallId.{CallId}
 use Rattle.sequential_signer.specs.Lookup.{HandOut, Refuse}
 use Rattle.sequential_signer.specs.SequentialCall.{Progress, Asking, Over}
 use Rattle.sequential_signer.specs.declared.event.Reply.TheVariants.{NotNow, Ask, Sign, Refused}

@@ -1,6 +1,6 @@
 -- What a step relies on.
 use Rattle.std.specs.Prelude.{◌≡◌, ℕ, ◌<◌, ◌≤◌, IsSome, length, slice_get, IfSome}
-use Rattle.wake_lock.specs.declared.CallId.{CallId}
+use Rattle.sign_base.specs.declared.call_id.CallId.{CallId}
 use Rattle.desk_parts.specs.Queue.{MayEnter}
 use Rattle.desk_parts.specs.Places.{HasPlaces, provider_count}
 use Rattle.sign_desk.specs.DeskState.{DeskState}

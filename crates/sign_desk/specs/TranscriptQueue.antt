@@ -1,6 +1,6 @@
 -- The queue of a cache, read from a transcript.
 use Rattle.std.specs.Prelude.{ℕ, Bool, true, false, ◌&&◌, List, filter, length}
-use Rattle.wake_lock.specs.declared.CallId.{CallId}
+use Rattle.sign_base.specs.declared.call_id.CallId.{CallId}
 use Rattle.sequential_signer.specs.Setup.{Setup, is_of_cache}
 use Rattle.sequential_signer.specs.Phase.{Phase, Unpolled, phase_of}
 use Rattle.sequential_signer.specs.LiveCall.{begun_calls}

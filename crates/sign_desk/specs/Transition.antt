@@ -1,7 +1,7 @@
 -- What a desk does at an event, on what it keeps.
 use Rattle.std.specs.Prelude.{ℤ, Bool, true, false, Option, Some, None}
 use Rattle.sign_base.specs.declared.head.Head.{Head}
-use Rattle.wake_lock.specs.Calls.{is_first}
+use Rattle.sign_base.specs.Calls.{is_first}
 use Rattle.sequential_signer.specs.Policy.{Policy}
 use Rattle.sequential_signer.specs.Transcript.{call_of}
 use Rattle.sequential_signer.specs.SequentialCall.{Progress}

@@ -13,12 +13,11 @@
 ghost use Rattle.std.specs.Prelude.{◌≡◌, ◌<◌, ◌++◌, ◌∷◌, [], ℕ, List, IsOk, IsSome, true, not, OnOk, OnErr, IfOk, IfErr, length, IsTrue, option_map, option_and_then, option_copied, slice_get};
 
 use crate::state::State;
-use credentials::{DeadlineRule, SigningCredential};
 use desk_parts::{AddError, AddRefused, CallQueue, HandleRecord, RunError, Stage, Tables};
-use sequential_signer::{Event, Loader, Reply};
+use sequential_signer::{DeadlineRule, Event, Loader, Reply, SigningCredential};
+use sign_base::CallId;
 use std::alloc::Global;
 use std::marker::Model;
-use wake_lock::CallId;
 
 /// The core of the signer: what is set up, what each cache holds, and the live calls.
 #[derive(Drop)]

@@ -2,11 +2,9 @@
 ghost use Rattle.std.specs.Prelude.{◌≡◌, ◌≢◌, ◌<◌, IfSome, IsSome, length, slice_get};
 
 use crate::state::State;
-use credentials::{DeadlineRule, SigningCredential};
 use desk_parts::{LiveCallView, Stage};
-use sequential_signer::{Answer, Loader, Reply, Why};
-use sign_base::Timestamp;
-use wake_lock::CallId;
+use sequential_signer::{Answer, DeadlineRule, Loader, Reply, SigningCredential, Why};
+use sign_base::{CallId, Timestamp};
 
 impl<K: SigningCredential, D: DeadlineRule<Credential = K>> State<K, D> {
     ghost use Rattle.sequential_signer.specs.Policy.{policy_of};

@@ -2,14 +2,12 @@
 ghost use Rattle.std.specs.Prelude.{◌≡◌, ◌≢◌};
 
 use crate::state::State;
-use credentials::{DeadlineRule, SigningCredential};
 use desk_parts::{LiveCallView, Lookup, Stage};
-use sequential_signer::Reply;
-use sign_base::Timestamp;
-use wake_lock::CallId;
+use sequential_signer::{DeadlineRule, Reply, SigningCredential};
+use sign_base::{CallId, Timestamp};
 
 impl<K: SigningCredential, D: DeadlineRule<Credential = K>> State<K, D> {
-    ghost use Rattle.wake_lock.specs.Calls.{is_first};
+    ghost use Rattle.sign_base.specs.Calls.{is_first};
     ghost use Rattle.sequential_signer.specs.Policy.{policy_of};
     ghost use Rattle.sequential_signer.specs.declared.event.Event.TheVariants.{Poll};
     ghost use Rattle.desk_parts.specs.Queue.{is_held_line, line_at};

@@ -2,15 +2,15 @@
 ghost use Rattle.std.specs.Prelude.{◌≡◌, ◌≢◌, IsSome, IfOk, slice_get};
 
 use crate::state::State;
-use credentials::{DeadlineRule, SigningCredential};
 use desk_parts::{LiveCallView, Lookup, Stage};
-use sequential_signer::{Answer, Event, Loader, Reply, Verdict, Why};
-use sign_base::{Head, NoMemory, Timestamp};
+use sequential_signer::{
+    Answer, DeadlineRule, Event, Loader, Reply, SigningCredential, Verdict, Why,
+};
+use sign_base::{CallId, Head, NoMemory, Timestamp};
 use std::alloc::Global;
-use wake_lock::CallId;
 
 impl<K: SigningCredential, D: DeadlineRule<Credential = K>> State<K, D> {
-    ghost use Rattle.wake_lock.specs.Calls.{is_first};
+    ghost use Rattle.sign_base.specs.Calls.{is_first};
     ghost use Rattle.sequential_signer.specs.Policy.{policy_of};
     ghost use Rattle.sequential_signer.specs.declared.event.Event.TheVariants.{Poll, Provided, Signed, Cancel};
     ghost use Rattle.sequential_signer.specs.declared.event.Answer.TheVariants.{Found};

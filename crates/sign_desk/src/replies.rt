@@ -2,10 +2,9 @@
 ghost use Rattle.std.specs.Prelude.{◌≡◌, ◌<◌, IsSome, length};
 
 use crate::state::State;
-use credentials::{DeadlineRule, SigningCredential};
 use desk_parts::{LiveCallView, Stage};
-use sequential_signer::{Reply, Why};
-use wake_lock::CallId;
+use sequential_signer::{DeadlineRule, Reply, SigningCredential, Why};
+use sign_base::CallId;
 
 impl<K: SigningCredential, D: DeadlineRule<Credential = K>> State<K, D> {
     ghost use Rattle.sequential_signer.specs.declared.event.Reply.TheVariants.{Pending, Ask, Sign, Refused};

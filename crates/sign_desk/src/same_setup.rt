@@ -4,8 +4,8 @@ ghost use Rattle.desk_parts.specs.Tables.{setup_of};
 ghost use Rattle.desk_parts.specs.TablesView.{handle_view};
 
 use crate::desk::Desk;
-use credentials::{DeadlineRule, SigningCredential};
 use desk_parts::HandleRecord;
+use sequential_signer::{DeadlineRule, SigningCredential};
 use sign_base::{EqualByValue, are_same};
 
 impl<K: SigningCredential, D: DeadlineRule<Credential = K> + EqualByValue> Desk<K, D> {

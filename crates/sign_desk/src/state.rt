@@ -3,10 +3,10 @@
 ghost use Rattle.std.specs.Prelude.{◌≡◌, IfSome};
 
 use crate::kept_head::KeptHead;
-use credentials::{DeadlineRule, SigningCredential};
 use desk_parts::{CallQueue, LiveCallView, Tables};
+use sequential_signer::{DeadlineRule, SigningCredential};
+use sign_base::CallId;
 use std::marker::Model;
-use wake_lock::CallId;
 
 /// What a signer's desk keeps.
 #[derive(Drop)]

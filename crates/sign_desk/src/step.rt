@@ -4,13 +4,11 @@ ghost use Rattle.std.specs.Prelude.{◌≡◌, ◌≢◌, true, IsSome, IfOk};
 
 use crate::kept_head::KeptHead;
 use crate::state::State;
-use credentials::{DeadlineRule, SigningCredential};
 use desk_parts::{CallRecord, Stage};
-use sequential_signer::{Event, Reply, Verdict, Why};
-use sign_base::{Fields, Head, NoMemory, Octets};
+use sequential_signer::{DeadlineRule, Event, Reply, SigningCredential, Verdict, Why};
+use sign_base::{CallId, Fields, Head, NoMemory, Octets};
 use std::alloc::Global;
 use std::time::Duration;
-use wake_lock::CallId;
 
 impl<K: SigningCredential, D: DeadlineRule<Credential = K>> State<K, D> {
     ghost use Rattle.sequential_signer.specs.Policy.{policy_of};

@@ -2,11 +2,9 @@
 ghost use Rattle.std.specs.Prelude.{◌≡◌, ◌≢◌};
 
 use crate::state::State;
-use credentials::{DeadlineRule, SigningCredential};
 use desk_parts::Stage;
-use sequential_signer::{Event, Reply, Verdict, Why};
-use sign_base::Head;
-use wake_lock::CallId;
+use sequential_signer::{DeadlineRule, Event, Reply, SigningCredential, Verdict, Why};
+use sign_base::{CallId, Head};
 
 impl<K: SigningCredential, D: DeadlineRule<Credential = K>> State<K, D> {
     ghost use Rattle.sequential_signer.specs.Policy.{policy_of};

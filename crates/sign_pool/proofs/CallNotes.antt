@@ -7,9 +7,9 @@ use Rattle.std.proofs.lemmas.List.{take_more, get_or-take, drop_all, drop-append
 use Rattle.std.proofs.lemmas.List.Elements.{All-nil, All-push, All-head, All-weaker}
 use Rattle.std.proofs.lemmas.Option.{slice_get_within, slice_get_read, get_or_from_slice_get}
 use Rattle.sign_base.specs.declared.head.Head.{Head}
-use Rattle.wake_lock.specs.declared.CallId.{CallId}
-use Rattle.wake_lock.specs.Calls.{same_call}
-use Rattle.wake_lock.proofs.Calls.{same_call-eq, same_call-refl}
+use Rattle.sign_base.specs.declared.call_id.CallId.{CallId}
+use Rattle.sign_base.specs.Calls.{same_call}
+use Rattle.sign_base.proofs.Calls.{same_call-eq, same_call-refl}
 use Rattle.sequential_signer.specs.Transcript.{call_of}
 use Rattle.sequential_signer.specs.declared.event.Entry.{Entry}
 use Rattle.sequential_signer.specs.declared.event.Event.{Event}

@@ -1,11 +1,12 @@
 -- What a finished pool has, by the seats that were handed in.
-use Rattle.std.proofs.Common.{◌≡◌, List, map, sym, subst}
+use Rattle.std.proofs.Common.{◌≡◌, ℕ, ◌<◌, List, length, map, sym, ◌∙◌, ap, subst}
+use Rattle.std.proofs.lemmas.List.{length-map}
 use Rattle.std.specs.Global.{Vec}
 use Rattle.std.specs.Prelude.{All, Option, Some, MatchOption, IsSome, IsTrue}
 use Rattle.std.specs.HashMap.{HashMap}
 use Rattle.std.proofs.lemmas.List.Elements.{All-weaker}
-use Rattle.wake_lock.specs.declared.CallId.{CallId}
-use Rattle.wake_lock.specs.Calls.{is_among}
+use Rattle.sign_base.specs.declared.call_id.CallId.{CallId}
+use Rattle.sign_base.specs.Calls.{is_among}
 use Rattle.sequential_signer.specs.Transcript.{call_of}
 use Rattle.sequential_signer.specs.declared.event.Entry.{Entry}
 use Rattle.signer_book.specs.Settled.{IsSettled, AreEntriesOf}
@@ -22,6 +23,19 @@ use Rattle.sign_pool.specs.declared.notes.CallNote.{CallNote}
 use Rattle.sign_pool.specs.declared.seats.Submitter.{Submitter}
 use Rattle.sign_pool.specs.declared.seats.Worker.{Worker}
 use Rattle.sign_pool.proofs.Books.{journal-theirs}
+
+module _ {K : Type 0} (workers : List (Worker K)) (passes : List (List (Receipt K))) (are : passes ≡ map (λ w. w.pass) workers) where
+  pass-count : length passes ≡ length workers
+  pass-count = ap length are ∙ length-map workers (λ (w : Worker K). w.pass)
+
+  -- so few passes can be closed
+  pub few-passes : (made : ℕ) → length workers ≡ made → made < 4294967295 → length passes < 4294967295
+  few-passes made all few = subst (λ (n : ℕ). n < 4294967295) (sym (pass-count ∙ all)) few
+
+  -- each worker has a pass and a list of answers
+  pub as-many : (answers : List (Vec Answer)) → answers ≡ map (λ w. w.answers) workers
+      → length passes ≡ length answers
+  as-many answers answers_are = pass-count ∙ sym (ap length answers_are ∙ length-map workers (λ (w : Worker K). w.answers))
 
 module _ {K : Type 0} (workers : List (Worker K)) (passes : List (List (Receipt K))) (passes_are : passes ≡ map (λ w. w.pass) workers)
     (answers : List (Vec Answer)) (answers_are : answers ≡ map (λ w. w.answers) workers) where

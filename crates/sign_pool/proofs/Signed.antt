@@ -8,9 +8,9 @@ use Rattle.std.proofs.lemmas.List.{take-append-drop, drop_more}
 use Rattle.std.proofs.lemmas.List.Elements.{All-contains}
 use Rattle.std.proofs.lemmas.Option.{slice_get_within, get_or_from_slice_get}
 use Rattle.sign_base.specs.declared.head.Head.{Head}
-use Rattle.wake_lock.specs.declared.CallId.{CallId}
-use Rattle.wake_lock.specs.Calls.{same_call}
-use Rattle.wake_lock.proofs.Calls.{same_call-eq}
+use Rattle.sign_base.specs.declared.call_id.CallId.{CallId}
+use Rattle.sign_base.specs.Calls.{same_call}
+use Rattle.sign_base.proofs.Calls.{same_call-eq}
 use Rattle.sequential_signer.specs.ExpectedReply.{expected_reply, reply_at, progress_reply, with_wake}
 use Rattle.sequential_signer.specs.Hold.{BeginInput, begin_of, begin_in, begun_with}
 use Rattle.sequential_signer.specs.Legal.{AreLegalAfter, IsLegal, IsLegalEntry}

@@ -10,7 +10,7 @@ use Rattle.std.proofs.lemmas.List.Elements.{All-contains_itself, Contains-append
 use Rattle.std.proofs.lemmas.List.Sorted.{IsPermutation-refl, IsPermutation-cons, IsPermutation-trans, IsPermutation-map, IsPermutation-append_right, IsPermutation-middle, All-permutation, Contains-permutation}
 use Rattle.std.proofs.lemmas.Map.Keys.{IsDistinct-IsPermutation}
 use Rattle.std.proofs.lemmas.Map.Made.{is_some-lookup, is_member-Decides, AllPairs-from_IsDistinct, IsDistinct-from_AllPairs}
-use Rattle.wake_lock.proofs.Truth.{number_refl, same_number, number_comm, and_left, and_right}
+use Rattle.sign_base.proofs.Truth.{number_refl, same_number, number_comm, and_left, and_right}
 use Rattle.sign_pool.specs.Index.{AreClaims}
 use Rattle.sign_pool.specs.declared.job.Ticket.{Ticket}
 use Rattle.sign_pool.proofs.Joined.{all-left}

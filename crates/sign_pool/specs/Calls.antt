@@ -1,8 +1,8 @@
 -- Which calls are those of answers.
 use Rattle.std.specs.Prelude.{Bool, List, map}
 use Rattle.std.specs.List.{list_all}
-use Rattle.wake_lock.specs.declared.CallId.{CallId}
-use Rattle.wake_lock.specs.Calls.{is_among}
+use Rattle.sign_base.specs.declared.call_id.CallId.{CallId}
+use Rattle.sign_base.specs.Calls.{is_among}
 use Rattle.sequential_signer.specs.Transcript.{call_of}
 use Rattle.signer_book.specs.declared.pass.Receipt.{Receipt}
 use Rattle.sign_pool.specs.declared.answer.Answer.{Answer}

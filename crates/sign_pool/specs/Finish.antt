@@ -1,12 +1,12 @@
 -- What finishing a pool gives, and why it is refused.
 use Rattle.std.specs.Prelude.{◌≡◌, ◌≢◌, ◌⊎◌, ℕ, List, Option, map, length, All, IsTrue}
 use Rattle.std.specs.Global.{Vec}
-use Rattle.credentials.specs.declared.credential.SigningCredential.{Ghosts}
-use Rattle.credentials.specs.declared.rule.DeadlineRule.{Ghosts as RuleGhosts}
+use Rattle.sequential_signer.specs.declared.credential.SigningCredential.{Ghosts}
+use Rattle.sequential_signer.specs.declared.rule.DeadlineRule.{Ghosts as RuleGhosts}
 use Rattle.crossbeam_queue.specs.Passes.{Pass, view, IsPassOf}
 use Rattle.crossbeam_queue.specs.declared.array_queue.Doing.{Doing}
 use Rattle.crossbeam_queue.specs.declared.array_queue.Slotted.{Slotted}
-use Rattle.wake_lock.specs.Calls.{is_among}
+use Rattle.sign_base.specs.Calls.{is_among}
 use Rattle.sequential_signer.specs.Policy.{Policy}
 use Rattle.sequential_signer.specs.Transcript.{call_of}
 use Rattle.desk_parts.specs.Tables.{setup_of}

@@ -1,7 +1,7 @@
 -- Whether answers are what the journal says.
 use Rattle.std.specs.Prelude.{◌≡◌, ◌≢◌, ◌⊎◌, ◌+◌, ℕ, List, Option, Some, None, drop, slice_get, take, All, MatchOption, IsSomeAnd}
 use Rattle.std.specs.List.{AllZip}
-use Rattle.wake_lock.specs.declared.CallId.{CallId}
+use Rattle.sign_base.specs.declared.call_id.CallId.{CallId}
 use Rattle.sequential_signer.specs.Transcript.{call_of}
 use Rattle.sequential_signer.specs.declared.event.Entry.{Entry}
 use Rattle.sequential_signer.specs.declared.event.Reply.{Reply}

@@ -1,6 +1,6 @@
 //! How a job ended.
 use crate::job::Ticket;
-use wake_lock::CallId;
+use sign_base::CallId;
 
 /// How a job's call ended.
 #[derive(Clone, Copy, Debug, PartialEq, Eq)]

@@ -9,9 +9,8 @@ use crate::index::{JobIndex, job_of};
 use crate::job::PoolJob;
 use crate::notes::{Begins, CallNotes, is_begin_with};
 use sequential_signer::Entry;
-use sign_base::Head;
+use sign_base::{CallId, Head};
 use std::time::Duration;
-use wake_lock::CallId;
 
 /// Whether each answer is of a submitted job, as which its call was begun.
 pub(crate) fn are_begun_as_submitted<K>(

@@ -11,7 +11,7 @@ use crate::finished::{FinishCause, Finished};
 use crate::index::JobIndex;
 use crate::notes::{CallNotes, note_journal};
 use crate::true_answers::first_bad;
-use credentials::{DeadlineRule, SigningCredential};
+use sequential_signer::{DeadlineRule, SigningCredential};
 
 /// Why the books do not balance, if they do not. `index` is that of the submitted jobs, or `None` where two
 /// have one ticket; `notes` are blank.

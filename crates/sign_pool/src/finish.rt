@@ -13,7 +13,7 @@ use crate::pool::Pool;
 use crate::rest::take_rest;
 use crate::room::{FinishRoom, hand_out_submitters, hand_out_workers};
 use crate::seats::{Submitter, Worker};
-use credentials::{DeadlineRule, SigningCredential};
+use sequential_signer::{DeadlineRule, SigningCredential};
 use sign_base::EqualByValue;
 use std::sync::Wait;
 

@@ -3,7 +3,7 @@ use crate::answer::Answer;
 use crate::job::PoolJob;
 use crate::pool::Pool;
 use crate::seats::{Submitter, Worker};
-use credentials::{DeadlineRule, SigningCredential};
+use sequential_signer::{DeadlineRule, SigningCredential};
 use signer_book::{CloseRefused, Settled};
 
 /// A pool whose signer is closed: the answers of each worker, the jobs that were left in the queue, and the

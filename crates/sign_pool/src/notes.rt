@@ -1,18 +1,17 @@
 //! What the journal has of calls: the last entry of each, and how it was begun. The journal is read once.
 ghost use Rattle.std.specs.Prelude.{◌≡◌, ◌<◌, ◌+◌, IfOk, IsSome, IsSomeAnd, MatchBool, slice_get, take};
 ghost use Rattle.sequential_signer.specs.Transcript.{call_of};
-ghost use Rattle.wake_lock.specs.declared.CallId.{CallId};
+ghost use Rattle.sign_base.specs.declared.call_id.CallId.{CallId};
 ghost use Rattle.sign_pool.specs.Notes.{AreBegins, AreBlank, AreRead, HaveNotes, IsBeginWith, IsNoteOf, answers_of, note_of};
 
 use crate::answer::Answer;
 use crate::seats::Worker;
 use sequential_signer::{Entry, Event};
-use sign_base::{Head, NoMemory};
+use sign_base::{CallId, Head, NoMemory};
 use sign_desk::same_head;
 use std::alloc::Global;
 use std::collections::HashMap;
 use std::time::Duration;
-use wake_lock::CallId;
 
 /// The begins of a call.
 #[derive(Clone, Copy, Debug)]

@@ -4,7 +4,7 @@ ghost use Rattle.crossbeam_queue.specs.Passes.{view, IsPassOf, ruled_capacity};
 
 use crate::job::JobQueue;
 use crate::seats::{Submitter, Worker};
-use credentials::{DeadlineRule, SigningCredential};
+use sequential_signer::{DeadlineRule, SigningCredential};
 use sign_base::NoMemory;
 use sign_desk::Desk;
 use signer_book::Book;

@@ -7,7 +7,7 @@ use crate::index::{JobIndex, index_jobs};
 use crate::job::PoolJob;
 use crate::notes::{CallNotes, blank_notes};
 use crate::seats::{Submitter, Worker};
-use credentials::SigningCredential;
+use sequential_signer::SigningCredential;
 use sign_base::NoMemory;
 use signer_book::Pass;
 use std::alloc::Global;

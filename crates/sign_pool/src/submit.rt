@@ -7,7 +7,7 @@ ghost use Rattle.sign_pool.specs.declared.submit.SubmitError.TheVariants.{Full};
 use crate::job::{PoolJob, Puts, Ticket};
 use crate::pool::Pool;
 use crate::seats::Submitter;
-use credentials::{DeadlineRule, SigningCredential};
+use sequential_signer::{DeadlineRule, SigningCredential};
 use sign_base::Head;
 use std::sync::Wait;
 use std::time::Duration;

@@ -8,12 +8,11 @@ use crate::answer::{Answer, Outcome};
 use crate::job::{PoolJob, Takes, Ticket};
 use crate::pool::Pool;
 use crate::seats::Worker;
-use credentials::{DeadlineRule, SigningCredential};
-use sequential_signer::Reply;
+use sequential_signer::{DeadlineRule, Reply, SigningCredential};
+use sign_base::CallId;
 use signer_book::Receipt;
 use signer_shared::{Gate, Job, serve_jobs};
 use std::sync::Wait;
-use wake_lock::CallId;
 
 /// What a worker found in the queue.
 #[derive(Clone, Copy, Debug, PartialEq, Eq)]

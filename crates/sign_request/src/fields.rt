@@ -8,8 +8,8 @@ ghost use Rattle.sign_request.specs.Headers.{header_pair};
 ghost use Rattle.sign_request.specs.PlainHead.{field_pair, header_map, RefusesField, RefusesFields};
 ghost use Rattle.sign_request.specs.Refusal.{IsOutOfMemory, RefusedAs};
 
-use crate::HeaderKeys;
 use crate::refusal::or_out_of_memory;
+use crate::{FromHttpError, HeaderKeys};
 use http::header::{HeaderMap, HeaderMapError, HeaderName, HeaderValue, MAX_KEYS};
 use sign_base::{Error, Field, Fields, NoMemory, Octets};
 use std::alloc::Global;

@@ -7,6 +7,7 @@ mod fields;
 mod head_view;
 mod header_keys;
 mod headers;
+mod http_errors;
 pub mod laws;
 mod pair;
 mod pair_form;
@@ -21,5 +22,6 @@ mod text;
 
 pub use head_view::{HeadView, ViewRefusal};
 pub use header_keys::HeaderKeys;
+pub use http_errors::FromHttpError;
 pub use plain_head::{commit, commit_keyed, head_of, parts_of, parts_of_keyed};
 pub use request::{SigningMethod, SigningRequest};

@@ -6,9 +6,9 @@ ghost use Rattle.sign_request.specs.Crossing.{AnswersParts, AnswersCommit};
 ghost use Rattle.sign_request.specs.PlainHead.{http_version, header_map, IsUnknownVersion, IsHeadOf, ArePartsOf, Commits, RefusesHead, RefusesTarget};
 ghost use Rattle.sign_request.specs.Refusal.{IsOutOfMemory, RefusedFor, RefusedAs, unknown_version};
 
-use crate::HeaderKeys;
 use crate::fields::{fields_of, headers_of};
 use crate::refusal::{or_out_of_memory, refusal};
+use crate::{FromHttpError, HeaderKeys};
 use http::Method;
 use http::header::HeaderMap;
 use http::method::MethodError;

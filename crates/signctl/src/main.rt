@@ -2,7 +2,7 @@
 //! the commands that threads serve.
 #![tactic(auto)]
 
-use sign_base::{Sink, StdSink, StdSource};
+use sign_io::{Sink, StdSink, StdSource};
 use signctl_core::program::report;
 use signctl_core::{HeaderKeys, Status, run_program};
 use signctl_threads::{is_for_threads, run_threads};

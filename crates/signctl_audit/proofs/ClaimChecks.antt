@@ -1,9 +1,9 @@
 -- What an audit says of an event is what the account of the lines says of it.
 use Rattle.std.proofs.Common.{◌≡◌, ◌<◌, ◌≤◌, ◌^◌, ℕ, true, false, List, length, sym, ap, ◌∙◌, inl, inr, arith}
 use Rattle.std.proofs.lemmas.List.{length-map}
-use Rattle.sign_base.specs.Lines.{input_limit}
-use Rattle.wake_lock.specs.declared.CallId.{CallId}
-use Rattle.wake_lock.specs.Calls.{first_of}
+use Rattle.sign_io.specs.Lines.{input_limit}
+use Rattle.sign_base.specs.declared.call_id.CallId.{CallId}
+use Rattle.sign_base.specs.Calls.{first_of}
 use Rattle.sequential_signer.specs.Setup.{Setup}
 use Rattle.sequential_signer.specs.Transcript.{call_of, committed_entries, is_out_of_memory}
 use Rattle.sequential_signer.specs.Phase.{is_pending}

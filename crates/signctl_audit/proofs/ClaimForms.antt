@@ -4,7 +4,7 @@ use Rattle.std.specs.Prelude.{codes}
 use Rattle.std.specs.Str.{bytes_eq}
 use Rattle.std.specs.Fmt.{decimal}
 use Rattle.sign_base.specs.declared.head.Head.{Head}
-use Rattle.wake_lock.specs.declared.CallId.{CallId}
+use Rattle.sign_base.specs.declared.call_id.CallId.{CallId}
 use Rattle.signctl_format.specs.Words.{greatest_u32, greatest_u64}
 use Rattle.signctl_format.specs.Heads.{head_words, IsLineHead}
 use Rattle.signctl_format.specs.Lines.{wake_words}

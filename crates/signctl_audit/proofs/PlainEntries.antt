@@ -1,8 +1,8 @@
 -- Entries as lines have them, and those that the audit was given, are alike: they differ in how durations are
 -- stored alone.
 use Rattle.std.proofs.Common.{◌≡◌, ℕ, suc, Bool, true, false, not, List, [], ◌∷◌, length, filter, Option, Some, None, refl, ap, ◌∙◌}
-use Rattle.wake_lock.specs.declared.CallId.{CallId}
-use Rattle.wake_lock.specs.Calls.{same_call}
+use Rattle.sign_base.specs.declared.call_id.CallId.{CallId}
+use Rattle.sign_base.specs.Calls.{same_call}
 use Rattle.sequential_signer.specs.Replies.{is_ask, is_sign, is_refused, is_cancelled}
 use Rattle.sequential_signer.specs.Setup.{Setup, cache_of}
 use Rattle.sequential_signer.specs.Transcript.{call_of, is_about, is_out_of_memory, entries_of, committed_entries}

@@ -1,7 +1,7 @@
 -- A session before the first line, and what is known of one while a line is answered.
 use Rattle.std.proofs.Common.{◌≡◌, ◌<◌, ◌≤◌, ◌+◌, List, [], ◌∷◌, ◌++◌, length, Some, None, refl, sym, ◌∙◌, subst, arith}
 use Rattle.std.proofs.lemmas.List.{length-append}
-use Rattle.sign_base.specs.Lines.{input_limit}
+use Rattle.sign_io.specs.Lines.{input_limit}
 use Rattle.sign_desk.specs.DeskState.{DeskState, Represents}
 use Rattle.desk_parts.specs.Tables.{setup_of}
 use Rattle.signctl_format.specs.declared.credential.ScriptCredential.{ScriptCredential}

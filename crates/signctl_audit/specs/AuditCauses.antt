@@ -1,6 +1,6 @@
 -- Why a line of `audit` is bad, in words.
 use Rattle.std.specs.Prelude.{ℕ, List, [], ◌∷◌, ◌++◌, Option, Some, None, codes}
-use Rattle.wake_lock.specs.declared.CallId.{CallId}
+use Rattle.sign_base.specs.declared.call_id.CallId.{CallId}
 use Rattle.signctl_format.specs.Words.{spaced_words}
 use Rattle.signctl_format.specs.Lines.{call_words, cache_line, handle_line, reply_line, line_error_text}
 use Rattle.signctl_audit.specs.declared.audit_error.AuditError.{AuditError}

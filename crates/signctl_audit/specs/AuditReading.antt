@@ -1,8 +1,8 @@
 -- What a line of `audit` reads as, after those before it.
 use Rattle.std.specs.Prelude.{ℕ, Bool, true, false, ◌&&◌, ◌||◌, List, Option, Some, None, is_none, Result, Ok, Err, if◌then◌else◌}
 use Rattle.std.specs.Str.{bytes_eq}
-use Rattle.wake_lock.specs.declared.CallId.{CallId}
-use Rattle.wake_lock.specs.Calls.{first_of}
+use Rattle.sign_base.specs.declared.call_id.CallId.{CallId}
+use Rattle.sign_base.specs.Calls.{first_of}
 use Rattle.sequential_signer.specs.Transcript.{committed_entries, call_of}
 use Rattle.sequential_signer.specs.Phase.{is_pending}
 use Rattle.sequential_signer.specs.Legal.{allocates}

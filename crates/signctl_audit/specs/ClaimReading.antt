@@ -1,7 +1,7 @@
 -- What a claim says: its grammar as a function.
 use Rattle.std.specs.Prelude.{ℕ, ◌&&◌, ◌==◌, List, [], ◌∷◌, Option, Some, None, if◌then◌else◌, codes}
 use Rattle.std.specs.Str.{bytes_eq}
-use Rattle.wake_lock.specs.declared.CallId.{CallId}
+use Rattle.sign_base.specs.declared.call_id.CallId.{CallId}
 use Rattle.signctl_format.specs.Bytes.{space, equals_sign}
 use Rattle.signctl_format.specs.Words.{words, greatest_u32, greatest_u64}
 use Rattle.signctl_format.specs.Steps.{◌>>=◌, at_end_of_line}

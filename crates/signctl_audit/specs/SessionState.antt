@@ -1,6 +1,6 @@
 -- What a session of `audit` keeps of the lines that it has read.
 use Rattle.std.specs.Prelude.{◌≡◌, ◌≤◌, ℕ, false, List, [], Option, Some, None, length, map}
-use Rattle.sign_base.specs.Lines.{input_limit}
+use Rattle.sign_io.specs.Lines.{input_limit}
 use Rattle.sequential_signer.specs.declared.event.Entry.{Entry}
 use Rattle.sign_desk.specs.DeskState.{DeskState, Represents}
 use Rattle.desk_parts.specs.Tables.{setup_of}

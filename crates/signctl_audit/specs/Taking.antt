@@ -1,6 +1,6 @@
 -- What the private steps of a session of `audit` do.
 use Rattle.std.specs.Prelude.{◌≡◌, ◌<◌, ℕ, List, Some, None, length}
-use Rattle.sign_base.specs.Lines.{input_limit}
+use Rattle.sign_io.specs.Lines.{input_limit}
 use Rattle.sequential_signer.specs.declared.event.Event.{Event}
 use Rattle.sign_audit.specs.declared.claim.Claim.{Claim}
 use Rattle.signctl_format.specs.declared.credential.ScriptCredential.{ScriptCredential}

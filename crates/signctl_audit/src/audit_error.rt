@@ -4,10 +4,9 @@ ghost use Rattle.signctl_format.specs.Words.{spaced_words};
 ghost use Rattle.signctl_audit.specs.AuditCauses.{behind_words, due_line, audit_error_text};
 
 use sequential_signer::Reply;
-use sign_base::NoMemory;
+use sign_base::{CallId, NoMemory};
 use signctl_format::text::{push, push_number, push_word};
 use signctl_format::{LineError, ScriptCredential, push_cache, push_handle, push_reply};
-use wake_lock::CallId;
 
 /// The answer that is due to a line.
 #[derive(Debug, Drop)]

@@ -12,10 +12,9 @@ use crate::audit_error::{AuditError, Due, push_due};
 use crate::claimed_reply::ClaimedReply;
 use sequential_signer::Reply;
 use sign_audit::Audit;
-use sign_base::NoMemory;
+use sign_base::{CallId, NoMemory};
 use signctl_format::{ScriptCredential, ScriptEvent, ScriptRule};
 use std::alloc::Global;
-use wake_lock::CallId;
 
 /// Whether a claim is that an allocation failed.
 pub(crate) fn is_missed(claimed: &ClaimedReply) -> bool

@@ -1,6 +1,5 @@
 //! What a claim line says: how the line before it is claimed to have been answered.
-use sign_base::Head;
-use wake_lock::CallId;
+use sign_base::{CallId, Head};
 
 /// Why a call is claimed to have been refused, as a line shows it: without the deadline that a
 /// credential did not last to.

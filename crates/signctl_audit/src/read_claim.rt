@@ -5,13 +5,13 @@ ghost use Rattle.signctl_format.specs.Readers.{words_after, Reads, Gives};
 ghost use Rattle.signctl_audit.specs.ClaimReading.{claim_text, woken_in, wake_in, loader_at, service_at, why_at, cache_claim, handle_claim, ask_claim, sign_claim, refused_claim, done_claim, cancelled_claim, claim_form, claim_words_say, claim_of};
 
 use crate::claimed_reply::{ClaimedReply, ClaimedWhy};
+use sign_base::CallId;
 use signctl_format::ReadError;
 use signctl_format::head::head;
 use signctl_format::read::call_at;
 use signctl_format::read_error::NotUnderstood;
 use signctl_format::word::{at_end_of_line, next_word, number_at, split_word, u32_at, word_at};
 use std::alloc::Global;
-use wake_lock::CallId;
 
 /// What stands after the mark of a claim line, where a line is one.
 pub fn claim_text(line: &[u8]) -> Option<&[u8]>

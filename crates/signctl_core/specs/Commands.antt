@@ -2,8 +2,8 @@
 use Rattle.std.specs.Prelude.{◌≡◌, ◌≤◌, ◌+◌, ◌↔◌, ℕ, List, [], ◌∷◌, Option, Some, None, IfSome, if◌then◌else◌, length, codes, option_map}
 use Rattle.std.specs.Str.{bytes_eq}
 use Rattle.std.specs.Io.KnownBytes.{Appends, Consumes}
-use Rattle.sign_base.specs.Faults.{CountsFault}
-use Rattle.sign_base.specs.Lines.{input_limit}
+use Rattle.sign_io.specs.Faults.{CountsFault}
+use Rattle.sign_io.specs.Lines.{input_limit}
 use Rattle.signctl_audit.specs.AuditOutput.{audit_command}
 use Rattle.signctl_driver.specs.Command.{Command}
 use Rattle.signctl_driver.specs.Run.{RunAdds}
@@ -12,11 +12,11 @@ use Rattle.signctl_driver.specs.declared.status.Status.{Status}
 use Rattle.signctl_driver.specs.declared.status.Status.TheVariants.{Usage}
 use Rattle.signctl_format.specs.Words.{number_of}
 use Rattle.signctl_grant.specs.GrantOutput.{grant_command}
-use Rattle.signctl_lines.specs.HmacAnswers.{hmac_command}
-use Rattle.signctl_lines.specs.ViewAnswers.{view_command}
+use Rattle.signctl_by_line.specs.HmacAnswers.{hmac_command}
+use Rattle.signctl_by_line.specs.ViewAnswers.{view_command}
 use Rattle.signctl_script.specs.Load.{most_calls, LoadAdds}
 use Rattle.signctl_script.specs.ScriptOutput.{script_command}
-use Rattle.signctl_sigv4.specs.Sigv4Answers.{sigv4_command}
+use Rattle.signctl_by_line.specs.Sigv4Answers.{sigv4_command}
 use Rattle.signctl_core.specs.declared.commands.CommandName.{CommandName}
 use Rattle.signctl_core.specs.declared.commands.CommandName.TheVariants.{Script, Hmac, View, Grant, Sigv4, Audit, Load}
 

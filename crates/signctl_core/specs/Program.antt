@@ -3,7 +3,7 @@ use Rattle.std.specs.Prelude.{◌≡◌, ◌⊎◌, ℕ, List, [], ◌∷◌, �
 use Rattle.std.specs.Str.{bytes_eq}
 use Rattle.std.specs.Io.{StartsWith}
 use Rattle.std.specs.Io.KnownBytes.{Appends}
-use Rattle.sign_base.specs.Faults.{IsOneFault}
+use Rattle.sign_io.specs.Faults.{IsOneFault}
 use Rattle.signctl_driver.specs.Output.{AppendsPrefix}
 use Rattle.signctl_driver.specs.Status.{exit_status}
 use Rattle.signctl_driver.specs.declared.status.Status.{Status}

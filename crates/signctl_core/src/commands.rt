@@ -1,20 +1,19 @@
 //! The commands by their words, and a run of each over a source and a sink.
 ghost use Rattle.std.specs.Prelude.{◌≡◌, [], map, string_bytes};
 ghost use Rattle.std.specs.Result.{ForOk};
-ghost use Rattle.sign_base.specs.Faults.{CountsFault};
+ghost use Rattle.sign_io.specs.Faults.{CountsFault};
 ghost use Rattle.signctl_driver.specs.Status.{is_read_fault, is_write_fault};
 ghost use Rattle.signctl_core.specs.Commands.{command_by_word, command_by_number, command_named, RunsOver, Runs, IsRun};
 
-use sign_base::{NoMemory, Sink, Source};
+use sign_base::NoMemory;
+use sign_io::{Sink, Source};
 use sign_request::HeaderKeys;
 use signctl_audit::AuditSession;
+use signctl_by_line::{HmacCommand, LineByLine, Sigv4Command, ViewCommand};
 use signctl_driver::{LineCommand, Status, drive};
-use signctl_each_line::LineByLine;
 use signctl_format::word::number;
 use signctl_grant::GrantSession;
-use signctl_lines::{HmacCommand, ViewCommand};
 use signctl_script::{Session, run_load};
-use signctl_sigv4::Sigv4Command;
 use std::alloc::Global;
 
 /// The most calls that `load` runs.

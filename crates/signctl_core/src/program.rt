@@ -1,13 +1,13 @@
 //! The whole program, as a function over its words and streams: `main` hands it the real ones.
 ghost use Rattle.std.specs.Prelude.{◌≡◌, ◌≢◌, map, drop, string_bytes, option_map, false};
-ghost use Rattle.sign_base.specs.Faults.{CountsFault};
+ghost use Rattle.sign_io.specs.Faults.{CountsFault};
 ghost use Rattle.signctl_driver.specs.Status.{is_read_fault, is_write_fault};
 ghost use Rattle.signctl_core.specs.Commands.{Adds, IsRun};
 ghost use Rattle.signctl_core.specs.Program.{usage_line, help_text, version_text, reason_line, text_by_word, text_named};
 ghost use Rattle.signctl_core.specs.Program.{request_by, request_of, TextAdds, Answers, WritesOnce, ExitsWith};
 
 use crate::commands::run;
-use sign_base::{Sink, Source};
+use sign_io::{Sink, Source};
 use sign_request::HeaderKeys;
 use signctl_driver::Status;
 use signctl_driver::output::write_all;

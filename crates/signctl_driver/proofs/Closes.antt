@@ -3,7 +3,7 @@ use Rattle.std.proofs.Common.{◌≡◌, ℕ, ◌+◌, ◌-◌, ◌<◌, ◌≤�
 use Rattle.std.proofs.Math.Seq.{take-append-add}
 use Rattle.std.proofs.lemmas.List.{take_all, take-append-drop, length-take-le}
 use Rattle.sign_base.specs.Bytes.{newline}
-use Rattle.sign_base.specs.Lines.{input_limit, line_limit, HasNoNewline, BeginsTooLong}
+use Rattle.sign_io.specs.Lines.{input_limit, line_limit, HasNoNewline, BeginsTooLong}
 use Rattle.signctl_driver.specs.Command.{Command, BadLine, answers_to}
 use Rattle.signctl_driver.specs.Lines.{Ending, Fault, lines_of}
 use Rattle.signctl_driver.specs.LinesRead.{LinesRead, too_long_line, reading_of, read_from, lines_read, first_bad}

@@ -3,7 +3,7 @@ use Rattle.std.proofs.Common.{◌≡◌, ℕ, ◌+◌, ◌<◌, ◌≤◌, inl, 
 use Rattle.std.specs.Option.{option_or}
 use Rattle.std.specs.Io.KnownBytes.{IsAtEnd}
 use Rattle.sign_base.specs.Bytes.{newline}
-use Rattle.sign_base.specs.Lines.{input_limit, HasNoNewline, IsLine, BeginsTooLong}
+use Rattle.sign_io.specs.Lines.{input_limit, HasNoNewline, IsLine, BeginsTooLong}
 use Rattle.signctl_driver.specs.Command.{Command, BadLine, blamed, answers_to}
 use Rattle.signctl_driver.specs.Lines.{Ending, End, Fault}
 use Rattle.signctl_driver.specs.LinesRead.{LinesRead, too_long_line, reading_of, read_from, lines_read, bad_end, first_bad}

@@ -3,7 +3,7 @@ use Rattle.std.proofs.Common.{◌≡◌, ℕ, ◌<◌, ◌≤◌, Bool, true, fa
 use Rattle.std.proofs.lemmas.List.Splits.{slice_split_none, slice_split_at}
 use Rattle.std.proofs.lemmas.Bool.Decides.{nat_tests}
 use Rattle.sign_base.specs.Bytes.{newline}
-use Rattle.sign_base.specs.Lines.{is_newline, line_limit, HasNoNewline}
+use Rattle.sign_io.specs.Lines.{is_newline, line_limit, HasNoNewline}
 use Rattle.signctl_driver.specs.Lines.{Ending, End, Fault, is_too_long, lines_in, lines_of}
 use Rattle.signctl_driver.proofs.Pieces.{first_piece, too_long-grows, too_long-line, grows-line}
 

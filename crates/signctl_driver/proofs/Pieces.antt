@@ -4,7 +4,7 @@ use Rattle.std.specs.List.{slice_split, onto_first}
 use Rattle.std.proofs.lemmas.List.Elements.{All-head, All-tail, All-cons}
 use Rattle.std.proofs.lemmas.List.Splits.{slice_split-cons_yes, slice_split-cons_no}
 use Rattle.std.proofs.lemmas.Bool.Decides.{nat_tests}
-use Rattle.sign_base.specs.Lines.{is_newline, HasNoNewline}
+use Rattle.sign_io.specs.Lines.{is_newline, HasNoNewline}
 use Rattle.signctl_driver.specs.Lines.{Ending, End, Fault, is_too_long, lines_in}
 
 -- the pieces of some bytes: those that a newline ends, and the last, which grows where more bytes follow

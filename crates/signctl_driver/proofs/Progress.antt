@@ -4,7 +4,7 @@ use Rattle.std.specs.Io.{StartsWith}
 use Rattle.std.proofs.Math.Seq.{take-append-add}
 use Rattle.std.proofs.lemmas.Bool.Decides.{nat_tests}
 use Rattle.sign_base.specs.Bytes.{newline}
-use Rattle.sign_base.specs.Lines.{input_limit, line_limit, HasNoNewline}
+use Rattle.sign_io.specs.Lines.{input_limit, line_limit, HasNoNewline}
 use Rattle.signctl_driver.specs.Command.{Command, BadLine, answers_to}
 use Rattle.signctl_driver.specs.Lines.{Ending, End, Fault, lines_of}
 use Rattle.signctl_driver.specs.LinesRead.{LinesRead, reading_of, read_from, lines_read}

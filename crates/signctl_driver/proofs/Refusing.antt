@@ -2,8 +2,8 @@
 use Rattle.std.proofs.Common.{◌≡◌, ◌+◌, ◌≤◌, ℕ, Bool, false, if◌then◌else◌, List, ◌++◌, length, Option, Some, None, Result, Ok, Err, IfOk, IfSome, refl, sym, ap, ◌∙◌, subst, arith}
 use Rattle.std.specs.Result.{result_map_both}
 use Rattle.std.proofs.lemmas.Bool.Decides.{nat_tests}
-use Rattle.sign_base.specs.Lines.{line_limit}
-use Rattle.sign_base.specs.declared.close.Close.{Close}
+use Rattle.sign_io.specs.Lines.{line_limit}
+use Rattle.sign_io.specs.declared.close.Close.{Close}
 use Rattle.signctl_driver.specs.Command.{Command, BadLine, blamed}
 use Rattle.signctl_driver.specs.Lines.{is_too_long}
 use Rattle.signctl_driver.specs.LineOutcome.{Ends, line_outcome_by, line_outcome}

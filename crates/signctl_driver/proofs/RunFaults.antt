@@ -2,12 +2,12 @@
 use Rattle.std.proofs.Common.{◌≡◌, ℕ, inl, inr, Bool, true, false, List, [], ◌++◌, length, Option, Some, None, Result, Ok, Err, is_err, OnOk, MatchOption, refl, sym, ap, ◌∙◌, subst, arith, length-append}
 use Rattle.std.proofs.lemmas.List.{take_at}
 use Rattle.std.proofs.lemmas.List.Elements.{All-take}
-use Rattle.sign_base.specs.Faults.{CountsFault}
-use Rattle.sign_base.specs.Lines.{is_newline, HasNoNewline}
-use Rattle.sign_base.specs.declared.close.Close.{Close}
-use Rattle.sign_base.specs.declared.close.Close.TheVariants as close
-use Rattle.sign_base.specs.LineInput.{LineInput, NeedsRead}
-use Rattle.sign_base.specs.LineReader.{AnswersOpen, AnswersNext, is_fault}
+use Rattle.sign_io.specs.Faults.{CountsFault}
+use Rattle.sign_io.specs.Lines.{is_newline, HasNoNewline}
+use Rattle.sign_io.specs.declared.close.Close.{Close}
+use Rattle.sign_io.specs.declared.close.Close.TheVariants as close
+use Rattle.sign_io.specs.LineInput.{LineInput, NeedsRead}
+use Rattle.sign_io.specs.LineReader.{AnswersOpen, AnswersNext, is_fault}
 use Rattle.signctl_driver.specs.Command.{Command, BadLine}
 use Rattle.signctl_driver.specs.LinesRead.{reading_of}
 use Rattle.signctl_driver.specs.Status.{FinishesBy, is_read_fault, is_write_fault}

@@ -1,8 +1,8 @@
 -- What holds of a run between two lines.
 use Rattle.std.proofs.Common.{◌≡◌, ◌⊎◌, ℕ, ◌≤◌, List, [], ◌++◌, length, Option, Some, None}
 use Rattle.std.specs.Io.KnownBytes.{Appends, Consumes, IsAtEnd}
-use Rattle.sign_base.specs.declared.close.Close.TheVariants as close
-use Rattle.sign_base.specs.LineInput.{LineInput, IsWithinLimit}
+use Rattle.sign_io.specs.declared.close.Close.TheVariants as close
+use Rattle.sign_io.specs.LineInput.{LineInput, IsWithinLimit}
 use Rattle.signctl_driver.specs.Command.{Command, answers_to}
 use Rattle.signctl_driver.specs.Lines.{End}
 use Rattle.signctl_driver.specs.LinesRead.{lines_read}

@@ -4,11 +4,11 @@ use Rattle.std.specs.Io.{StartsWith}
 use Rattle.std.specs.Io.KnownBytes.{Appends, Consumes}
 use Rattle.std.proofs.KnownBytes.{Appends-nil, Appends-trans, Consumes-nil, Consumes-trans}
 use Rattle.sign_base.specs.Bytes.{newline}
-use Rattle.sign_base.specs.Lines.{line_limit, input_limit, HasNoNewline, IsLine, BeginsTooLong}
-use Rattle.sign_base.specs.declared.close.Close.{Close}
-use Rattle.sign_base.specs.declared.close.Close.TheVariants as close
-use Rattle.sign_base.specs.LineInput.{LineInput, taken, with_taken, looked_at, NeedsRead, IsWithinLimit}
-use Rattle.sign_base.specs.LineReader.{GivesLine, GivesLastLine, Answers, AnswersOpen, AnswersNext}
+use Rattle.sign_io.specs.Lines.{line_limit, input_limit, HasNoNewline, IsLine, BeginsTooLong}
+use Rattle.sign_io.specs.declared.close.Close.{Close}
+use Rattle.sign_io.specs.declared.close.Close.TheVariants as close
+use Rattle.sign_io.specs.LineInput.{LineInput, taken, with_taken, looked_at, NeedsRead, IsWithinLimit}
+use Rattle.sign_io.specs.LineReader.{GivesLine, GivesLastLine, Answers, AnswersOpen, AnswersNext}
 use Rattle.signctl_driver.specs.Command.{Command, BadLine, answers_to}
 use Rattle.signctl_driver.specs.Lines.{End, Fault}
 use Rattle.signctl_driver.specs.LinesRead.{too_long_line, reading_of}

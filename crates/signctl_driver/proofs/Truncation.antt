@@ -6,7 +6,7 @@ use Rattle.std.specs.List.{slice_split}
 use Rattle.std.proofs.Math.Seq.{take-append-add}
 use Rattle.std.proofs.lemmas.List.{take-append-le}
 use Rattle.std.proofs.lemmas.Bool.Decides.{nat_tests}
-use Rattle.sign_base.specs.Lines.{is_newline, input_limit}
+use Rattle.sign_io.specs.Lines.{is_newline, input_limit}
 use Rattle.signctl_driver.specs.Command.{Command, blamed}
 use Rattle.signctl_driver.specs.Lines.{Ending, Fault, is_too_long, lines_in}
 use Rattle.signctl_driver.specs.LinesRead.{LinesRead, too_long_line, reading_of, read_from, lines_read}

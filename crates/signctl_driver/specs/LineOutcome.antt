@@ -1,7 +1,7 @@
 -- What a command does with the next line of an input, or with its close.
 use Rattle.std.specs.Prelude.{ℕ, ◌+◌, List, [], Result, Ok, Err, length}
-use Rattle.sign_base.specs.declared.close.Close.{Close}
-use Rattle.sign_base.specs.declared.close.Close.TheVariants as close
+use Rattle.sign_io.specs.declared.close.Close.{Close}
+use Rattle.sign_io.specs.declared.close.Close.TheVariants as close
 use Rattle.signctl_driver.specs.Command.{Command, BadLine, blamed}
 use Rattle.signctl_driver.specs.LinesRead.{reading_of, too_long_line}
 use Rattle.signctl_driver.specs.Output.{bad_line, too_much_line}

@@ -1,7 +1,7 @@
 -- The lines of an input.
 use Rattle.std.specs.Prelude.{ℕ, Bool, true, false, List, [], ◌∷◌, length, nat_lt, if◌then◌else◌}
 use Rattle.std.specs.List.{slice_split}
-use Rattle.sign_base.specs.Lines.{is_newline, line_limit}
+use Rattle.sign_io.specs.Lines.{is_newline, line_limit}
 
 -- how an input comes to its end: all was read, or a read failed
 pub data Ending : Type 0 where

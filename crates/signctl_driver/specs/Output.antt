@@ -3,7 +3,7 @@ use Rattle.std.specs.Prelude.{ℕ, ◌+◌, List, [], ◌∷◌, ◌++◌, Optio
 use Rattle.std.specs.Io.{StartsWith}
 use Rattle.std.specs.Io.KnownBytes.{Appends}
 use Rattle.sign_base.specs.Bytes.{newline}
-use Rattle.sign_base.specs.Lines.{input_limit}
+use Rattle.sign_io.specs.Lines.{input_limit}
 use Rattle.signctl_driver.specs.Command.{Command, BadLine, blamed, answers_to}
 use Rattle.signctl_driver.specs.Lines.{Ending, End, Fault}
 use Rattle.signctl_driver.specs.LinesRead.{LinesRead, lines_read}

@@ -5,7 +5,7 @@
 //! cause and the line that it blames, the answer to an item, and the closing. Reading, the numbers of lines,
 //! the limits, faults and the order of reads and writes are the driver's, and so are the proofs about them.
 ghost use Rattle.std.specs.Prelude.{◌≡◌, ◌++◌, ◌∷◌, ◌<◌, [], List, length, OnOk, IfOk};
-ghost use Rattle.sign_base.specs.Lines.{input_limit};
+ghost use Rattle.sign_io.specs.Lines.{input_limit};
 ghost use Rattle.signctl_driver.specs.Command.{Command, ClosesBy, MayFollow};
 
 use sign_base::NoMemory;

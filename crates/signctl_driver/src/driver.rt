@@ -2,15 +2,15 @@
 //! run ended.
 ghost use Rattle.std.specs.Prelude.{◌≡◌, ◌+◌, ◌≤◌, [], ℕ, List, length};
 ghost use Rattle.std.specs.Io.KnownBytes.{Appends, Consumes};
-ghost use Rattle.sign_base.specs.Faults.{CountsFault};
-ghost use Rattle.sign_base.specs.Lines.{input_limit};
+ghost use Rattle.sign_io.specs.Faults.{CountsFault};
+ghost use Rattle.sign_io.specs.Lines.{input_limit};
 ghost use Rattle.signctl_driver.specs.Status.{is_read_fault, is_write_fault};
 ghost use Rattle.signctl_driver.specs.Run.{RunAdds};
 
 use crate::command::LineCommand;
 use crate::service::Service;
 use crate::status::Status;
-use sign_base::{LineReader, Sink, Source};
+use sign_io::{LineReader, Sink, Source};
 use std::alloc::Global;
 
 /// Runs a command over the lines of a source, and writes its output to a sink. The answers are written

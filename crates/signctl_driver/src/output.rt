@@ -1,10 +1,10 @@
 //! Bytes to a sink: all of a text, or a prefix of it where a write fails.
 ghost use Rattle.std.specs.Prelude.{◌≡◌, OnOk, OnErr, IsOk, is_err, []};
 ghost use Rattle.std.specs.Io.KnownBytes.{Appends};
-ghost use Rattle.sign_base.specs.Faults.{CountsFault};
+ghost use Rattle.sign_io.specs.Faults.{CountsFault};
 ghost use Rattle.signctl_driver.specs.Output.{AppendsPrefix};
 
-use sign_base::{Failed, Sink};
+use sign_io::{Failed, Sink};
 
 /// Writes all of `text`. After `Failed` the sink holds a prefix of it, and no write was tried again.
 pub fn write_all<D: Sink>(sink: &mut D, text: &[u8]) -> Result<(), Failed>

@@ -1,21 +1,22 @@
 //! A command in the middle of an input, with the answers that wait to be written.
 ghost use Rattle.std.specs.Prelude.{◌≡◌, ◌++◌, ◌∷◌, ◌+◌, ◌<◌, ◌≤◌, [], List, ℕ, Ok, Err, Some, None, true, length, codes, decimal, OnOk, OnErr, IfOk, IfSome, IsOk, is_err, false};
 ghost use Rattle.std.specs.Io.KnownBytes.{Appends};
-ghost use Rattle.sign_base.specs.Faults.{CountsFault};
-ghost use Rattle.sign_base.specs.LineReader.{is_fault};
-ghost use Rattle.sign_base.specs.Lines.{line_limit, input_limit};
+ghost use Rattle.sign_io.specs.Faults.{CountsFault};
+ghost use Rattle.sign_io.specs.LineReader.{is_fault};
+ghost use Rattle.sign_io.specs.Lines.{line_limit, input_limit};
 ghost use Rattle.signctl_driver.specs.Command.{BadLine, blamed};
 ghost use Rattle.signctl_driver.specs.LinesRead.{reading_of, too_long_line};
 ghost use Rattle.signctl_driver.specs.Output.{bad_line, AppendsPrefix};
 ghost use Rattle.signctl_driver.specs.LineOutcome.{Good, Ends, line_outcome};
-ghost use Rattle.sign_base.specs.Next.{answer_of};
+ghost use Rattle.sign_io.specs.Next.{answer_of};
 ghost use Rattle.signctl_driver.specs.Status.{is_write_fault, FinishesBy};
 
 use crate::command::LineCommand;
 use crate::output::write_all;
 use crate::printing::{begin_bad_line, end_line, push_too_much};
 use crate::status::Status;
-use sign_base::{Failed, Next, NoMemory, Sink};
+use sign_base::NoMemory;
+use sign_io::{Failed, Next, Sink};
 use std::alloc::Global;
 
 /// More bytes of answers than these do not wait for the next read.

@@ -2,7 +2,7 @@
 ghost use Rattle.std.specs.Prelude.{◌≡◌, IfOk, option_map, ⊤};
 ghost use Rattle.std.specs.Duration.{as_nanos};
 
-use credentials::{DeadlineRule, SigningCredential};
+use sequential_signer::{DeadlineRule, SigningCredential};
 use sign_base::{EqualByValue, NoMemory, Timestamp};
 use std::alloc::Global;
 use std::time::Duration;

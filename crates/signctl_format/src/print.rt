@@ -13,8 +13,7 @@ use crate::moment_text::push_moment;
 use crate::text::{push, push_number, push_word};
 use crate::{ScriptCredential, ScriptVersion};
 use sequential_signer::{Reply, Why};
-use sign_base::NoMemory;
-use wake_lock::CallId;
+use sign_base::{CallId, NoMemory};
 
 /// Adds the line of a reply.
 pub fn push_reply(text: &mut Vec<u8>, reply: &Reply<ScriptCredential>) -> Result<(), NoMemory<()>>

@@ -17,8 +17,8 @@ use crate::read_error::{NotUnderstood, ReadError};
 use crate::word::{at_end_of_line, is_silent, number_at, split_word, u32_at, word_at};
 use crate::{ScriptCredential, ScriptEvent, ScriptRule, ScriptVersion};
 use sequential_signer::{Answer, Event, Loader, Verdict};
+use sign_base::CallId;
 use std::alloc::Global;
-use wake_lock::CallId;
 
 /// A line of a script.
 type Item = crate::Item<ScriptEvent>;

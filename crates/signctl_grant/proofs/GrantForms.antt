@@ -3,7 +3,7 @@ use Rattle.std.proofs.Common.{◌≡◌, ◌≤◌, ℕ, List, [], ◌∷◌, �
 use Rattle.std.specs.Prelude.{ℤ, codes}
 use Rattle.std.specs.Fmt.{decimal}
 use Rattle.std.specs.declared.time.Duration.{Duration}
-use Rattle.wake_lock.specs.declared.CallId.{CallId}
+use Rattle.sign_base.specs.declared.call_id.CallId.{CallId}
 use Rattle.sequential_signer.specs.declared.grant_event.GrantEvent.TheVariants.{Begin, Granted}
 use Rattle.sequential_signer.specs.declared.grant_event.Made.TheVariants.{Made, Failed}
 use Rattle.signctl_format.specs.declared.credential.ScriptCredential.{ScriptCredential}

@@ -1,6 +1,6 @@
 -- What the private steps of a session of `grant` do.
 use Rattle.std.specs.Prelude.{◌≡◌, ℕ, ◌<◌, List, ◌∷◌, [], ◌++◌, None, length}
-use Rattle.sign_base.specs.Lines.{input_limit}
+use Rattle.sign_io.specs.Lines.{input_limit}
 use Rattle.signctl_format.specs.ScriptSetup.{item_error}
 use Rattle.signctl_grant.specs.GrantEvents.{GrantItem}
 use Rattle.signctl_grant.specs.GrantOutput.{answer_to}

@@ -23,7 +23,7 @@ use Rattle.signctl_format.specs.declared.item.Item.TheVariants as item
 use Rattle.signctl_format.specs.declared.script_version.ScriptVersion.{ScriptVersion}
 use Rattle.signctl_format.specs.Policy.{script_policy}
 use Rattle.signctl_format.specs.ScriptEvents.{ScriptItem, plain_event}
-use Rattle.sign_base.specs.Lines.{input_limit}
+use Rattle.sign_io.specs.Lines.{input_limit}
 use Rattle.signctl_format.specs.ScriptSetup.{is_empty, place_of_rule, setup_in, events_in, item_error}
 use Rattle.signctl_script.specs.Script.{items_in, version_in}
 use Rattle.signctl_script.specs.ScriptOutput.{transcript_of}

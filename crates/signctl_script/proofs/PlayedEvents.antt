@@ -1,7 +1,7 @@
 -- What playing some events does, from one event to a list of them.
 use Rattle.std.proofs.Common.{◌≡◌, ◌<◌, ◌+◌, ◌-◌, ℕ, List, [], ◌∷◌, ◌++◌, ◌≤◌, length, map, take, drop, get_or, append_assoc, refl, sym, ap, ◌∙◌, subst, take_all, arith}
 use Rattle.std.proofs.lemmas.List.{append-nil, map-append, take_more}
-use Rattle.wake_lock.specs.declared.CallId.{CallId}
+use Rattle.sign_base.specs.declared.call_id.CallId.{CallId}
 use Rattle.sequential_signer.specs.declared.event.Entry.{Entry}
 use Rattle.sequential_signer.specs.declared.event.Event.{Event}
 use Rattle.sequential_signer.specs.declared.event.Event.TheVariants.{Cancel}

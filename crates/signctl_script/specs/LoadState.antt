@@ -1,6 +1,6 @@
 -- What is kept while `load` runs.
 use Rattle.std.specs.Prelude.{◌≡◌, ◌<◌, ◌^◌, ◌++◌, ℕ, Bool, true, false, List, length}
-use Rattle.sign_base.specs.Faults.{one_more}
+use Rattle.sign_io.specs.Faults.{one_more}
 use Rattle.sequential_signer.specs.Phase.{is_begun, is_pending, is_not_now}
 use Rattle.sequential_signer.specs.Replies.{is_sign, is_ask, is_done, is_refused, is_cancelled}
 use Rattle.sequential_signer.specs.declared.event.Event.{Event}

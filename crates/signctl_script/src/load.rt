@@ -1,7 +1,7 @@
 //! `signctl load`: generated events on a desk, and one line that counts its replies. It reads nothing.
 ghost use Rattle.std.specs.Prelude.{◌≡◌, ◌≤◌, ◌<◌, ◌++◌, [], ℕ, List, IfOk, OnOk, false};
 ghost use Rattle.std.specs.Io.KnownBytes.{Appends};
-ghost use Rattle.sign_base.specs.Faults.{CountsFault};
+ghost use Rattle.sign_io.specs.Faults.{CountsFault};
 ghost use Rattle.signctl_driver.specs.Status.{is_read_fault, is_write_fault};
 ghost use Rattle.signctl_script.specs.Load.{LoadAdds, load_output, most_calls};
 
@@ -12,7 +12,8 @@ mod rounds;
 
 use counts::push_counts;
 use rounds::Rounds;
-use sign_base::{NoMemory, Sink};
+use sign_base::NoMemory;
+use sign_io::Sink;
 use signctl_driver::Status;
 use signctl_driver::output::write_all;
 use std::alloc::Global;

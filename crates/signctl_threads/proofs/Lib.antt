@@ -1,0 +1,11 @@
+pub mod Answering
+pub mod Places
+pub mod Shares
+pub mod RunSlots
+pub mod Finishes
+pub mod OneJob
+pub mod PromptQueues
+pub mod Counts
+pub mod PoolRuns
+pub mod QueueRuns
+pub mod PoolLines

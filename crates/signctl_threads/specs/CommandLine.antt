@@ -1,7 +1,7 @@
 -- The command lines that threads answer. The first word is the program's name.
 use Rattle.std.specs.Prelude.{ℕ, Bool, false, List, Option, Some, None, drop}
-use Rattle.signctl_pool.specs.Words.{pool_named, names_pool}
-use Rattle.signctl_pool.specs.declared.words.PoolCommand.{PoolCommand}
+use Rattle.signctl_threads.specs.Words.{pool_named, names_pool}
+use Rattle.signctl_threads.specs.declared.words.PoolCommand.{PoolCommand}
 
 -- whether a command line is one for threads. One that is not text is not
 abbrev pub is_for_threads : Option (List (List ℕ)) → Bool

@@ -1,1 +1,13 @@
+pub mod Jobs
+pub mod Served
+pub mod Slots
+pub mod Run
+pub mod QueueLaws
+pub mod Words
+pub mod Ends
+pub mod Line
+pub mod Written
+pub mod Queue
+pub mod Pool
+pub mod LineLaws
 pub mod CommandLine

@@ -1,7 +1,7 @@
 -- Calls that are kept by their numbers stay those of their signer, whatever is done with one of them.
 use Rattle.std.proofs.Common.{◌≡◌, ◌+◌, ℕ, List, [], ◌∷◌, ◌++◌, Option, Some, None, slice_get, slice_set, ap, subst}
 use Rattle.http.specs.declared.request.Parts.{Parts}
-use Rattle.wake_lock.specs.declared.CallId.{CallId}
+use Rattle.sign_base.specs.declared.call_id.CallId.{CallId}
 use Rattle.sequential_signer.specs.Policy.{Policy}
 use Rattle.desk_driver.proofs.NumberedCalls.{numbered-none, numbered-begun, numbered-without, numbered-set}
 use Rattle.signer.specs.IssuedBy.{IsIssuedBy}

@@ -2,7 +2,7 @@
 use Rattle.std.specs.Duration.{as_nanos}
 use Rattle.std.proofs.Common.{◌≡◌, ◌⊎◌, inl, inr, ℕ, ℤ, ◌<◌, ◌+◌, true, false, Bool, Option, Some, None, IsSome, is_some, IfSome, option_map, slice_get, refl, sym, ◌∙◌, ap, subst}
 use Rattle.sign_base.specs.declared.head.Head.{Head}
-use Rattle.wake_lock.specs.declared.CallId.{CallId}
+use Rattle.sign_base.specs.declared.call_id.CallId.{CallId}
 use Rattle.sequential_signer.specs.Policy.{Policy}
 use Rattle.sequential_signer.specs.Setup.{Handle}
 use Rattle.sequential_signer.specs.Lookup.{HandOut, Refuse, check_refreshed}
@@ -16,7 +16,7 @@ use Rattle.sequential_signer.specs.declared.event.Verdict.TheVariants as verdict
 use Rattle.sequential_signer.specs.declared.event.Why.{Why}
 use Rattle.sequential_signer.specs.declared.event.Why.TheVariants as why
 use Rattle.desk_parts.specs.Queue.{line_at, is_held_line}
-use Rattle.wake_lock.specs.Calls.{is_first}
+use Rattle.sign_base.specs.Calls.{is_first}
 use Rattle.sign_desk.specs.DeskState.{DeskState}
 use Rattle.desk_parts.specs.Tables.{find_call}
 use Rattle.desk_parts.specs.LiveCallView.{stored_view, find_view}

@@ -1,7 +1,7 @@
 -- A poll that has come to its end, as its caller sees it; and that a poll comes to an end.
 use Rattle.std.proofs.Common.{◌≡◌, ℕ, ◌<◌, ◌-◌, suc, Option, Some, IsSomeAnd, refl, subst, arith}
 use Rattle.http.specs.declared.request.Parts.{Parts}
-use Rattle.wake_lock.specs.declared.CallId.{CallId}
+use Rattle.sign_base.specs.declared.call_id.CallId.{CallId}
 use Rattle.sequential_signer.specs.declared.event.Loader.{Loader}
 use Rattle.sign_desk.specs.DeskState.{DeskState}
 use Rattle.desk_parts.specs.Places.{provider_count}

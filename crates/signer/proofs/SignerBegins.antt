@@ -2,7 +2,7 @@
 use Rattle.std.proofs.Common.{◌≡◌, ◌<◌, ◌+◌, ℕ, length, inl, IsSomeAnd, refl, sym, ◌∙◌, subst}
 use Rattle.http.specs.declared.request.Parts.{Parts}
 use Rattle.sign_base.specs.declared.head.Head.{Head}
-use Rattle.wake_lock.specs.declared.CallId.{CallId}
+use Rattle.sign_base.specs.declared.call_id.CallId.{CallId}
 use Rattle.sequential_signer.specs.Policy.{Policy}
 use Rattle.sequential_signer.specs.declared.event.Event.TheVariants.{Begin}
 use Rattle.sequential_signer.specs.declared.event.Reply.TheVariants.{Begun}

@@ -1,6 +1,6 @@
 -- The states of other calls stay those that the signer issued.
 use Rattle.std.proofs.Common.{ap, ◌≡◌, inl, inr, ℕ, Option, Some, None, IsSomeAnd, refl, sym, ◌∙◌, subst}
-use Rattle.wake_lock.specs.declared.CallId.{CallId}
+use Rattle.sign_base.specs.declared.call_id.CallId.{CallId}
 use Rattle.sign_desk.specs.DeskState.{DeskState}
 use Rattle.desk_driver.specs.CallAt.{IsLive, IsWaiting, LeavesOthers}
 use Rattle.desk_driver.proofs.KeptCalls.{KeepsCall, keeps-other, keeps-provider}

@@ -3,7 +3,7 @@ use Rattle.std.specs.Prelude.{◌≡◌, ◌⊎◌, ℤ, List, [], ◌∷◌, �
 use Rattle.http.specs.declared.request.Parts.{Parts}
 use Rattle.sign_base.specs.Error.{ErrorParts}
 use Rattle.sign_base.specs.declared.head.Head.{Head}
-use Rattle.wake_lock.specs.declared.CallId.{CallId}
+use Rattle.sign_base.specs.declared.call_id.CallId.{CallId}
 use Rattle.credentials.specs.declared.polled.Polled.TheVariants as polled
 use Rattle.credentials.specs.Operation.{SignOutcome}
 use Rattle.sequential_signer.specs.Policy.{Policy}

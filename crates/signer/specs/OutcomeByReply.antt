@@ -20,6 +20,11 @@ plain_refusal (why.Short deadline) = refusal.Short deadline
 plain_refusal why.Range = refusal.Range
 plain_refusal _ = refusal.Missing
 
+-- the refusal where no provider has a credential: this one is a single provider's
+abbrev pub refusal_after : Why → Refusal → Refusal
+refusal_after why.Missing failure = refusal.Missing
+refusal_after cause failure = failure
+
 module _ {K L W : Type 0} (candidate : Head) where
   -- a poll of a call that waits
   abbrev pub outcome_after_poll : Reply K → StepOutcome K L W
@@ -45,8 +50,6 @@ module _ {K L W : Type 0} (candidate : Head) where
   abbrev pub outcome_after_none : Refusal → Reply K → StepOutcome K L W
   outcome_after_none failure (reply.Ask provider) =
       record { flow = On (Loading candidate provider load.Unstarted); wake = None }
-  outcome_after_none failure (reply.Refused why.Missing wake) =
-      record { flow = Over (end.Refused refusal.Missing); wake = wake }
   outcome_after_none failure (reply.Refused cause wake) =
-      record { flow = Over (end.Refused failure); wake = wake }
+      record { flow = Over (end.Refused (refusal_after cause failure)); wake = wake }
   outcome_after_none failure _ = record { flow = Over (end.Refused failure); wake = None }

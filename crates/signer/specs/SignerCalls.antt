@@ -2,7 +2,7 @@
 use Rattle.std.specs.Prelude.{◌≡◌, ◌⊎◌, ℕ, ◌+◌}
 use Rattle.http.specs.declared.request.Parts.{Parts}
 use Rattle.sign_base.specs.Error.{ErrorParts}
-use Rattle.wake_lock.specs.declared.CallId.{CallId}
+use Rattle.sign_base.specs.declared.call_id.CallId.{CallId}
 use Rattle.sequential_signer.specs.Policy.{Policy}
 use Rattle.sequential_signer.specs.declared.event.Event.TheVariants.{Begin}
 use Rattle.sequential_signer.specs.declared.event.Reply.TheVariants.{Begun}

@@ -1,7 +1,7 @@
 -- What one step of a poll does.
 use Rattle.std.specs.Prelude.{◌≡◌, ◌+◌, Option, Some, None, option_to_list}
 use Rattle.http.specs.declared.request.Parts.{Parts}
-use Rattle.wake_lock.specs.declared.CallId.{CallId}
+use Rattle.sign_base.specs.declared.call_id.CallId.{CallId}
 use Rattle.sequential_signer.specs.declared.event.Event.{Event}
 use Rattle.sequential_signer.specs.declared.event.Reply.{Reply}
 use Rattle.sign_request.specs.PlainHead.{Commits, RefusesTarget}

@@ -13,13 +13,11 @@ ghost use Rattle.desk_driver.specs.CallAt.{IsLive, IsWaiting, IsAsking, IsSignin
 ghost use Rattle.signer.specs.DeskReplies.{IsBegun, AfterPoll, AfterFound, AfterNone, AfterAccepted, begun_in_event, found_in_event, found_in_answer, accepted_in_event, accepted_in_verdict};
 ghost use Rattle.sequential_signer.specs.LiveCall.{is_above};
 
-use credentials::{DeadlineRule, SigningCredential};
 use desk_driver::BegunCall;
-use sequential_signer::{Answer, Event, Reply, Verdict};
-use sign_base::{Head, NoMemory, Timestamp};
+use sequential_signer::{Answer, DeadlineRule, Event, Reply, SigningCredential, Verdict};
+use sign_base::{CallId, Head, NoMemory, Timestamp};
 use sign_desk::Desk;
 use std::time::Duration;
-use wake_lock::CallId;
 
 /// The number of an error in the desk's events. The error itself stays with the signer.
 const ERROR: u64 = 0;

@@ -10,9 +10,10 @@ use crate::sign::{Sign, SignState};
 use crate::sign_poll::{SignAnswer, SignPoll};
 use crate::step_call::step;
 use crate::step_outcome::{StepEnd, StepFlow};
-use credentials::{ProvideCredential, SignRequest, SigningCredential};
+use credentials::{ProvideCredential, SignRequest};
 use desk_driver::BegunCall;
 use http::request::Parts;
+use sequential_signer::SigningCredential;
 use sign_base::{Head, Timestamp};
 use sign_desk::Desk;
 

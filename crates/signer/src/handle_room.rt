@@ -3,9 +3,9 @@ ghost use Rattle.std.specs.Prelude.{◌≡◌, ◌<◌, [], ◌∷◌, length, O
 ghost use Rattle.std.specs.Vec.{vec_len, vec_capacity};
 ghost use Rattle.desk_parts.specs.Adding.{late_refusal, AddAnswer};
 
-use credentials::{DeadlineRule, Providers, SigningCredential};
+use credentials::Providers;
 use desk_parts::AddError;
-use sequential_signer::Loader;
+use sequential_signer::{DeadlineRule, Loader, SigningCredential};
 use sign_desk::Desk;
 use std::alloc::Global;
 

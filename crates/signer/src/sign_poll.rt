@@ -3,8 +3,8 @@
 use crate::refusal::Refusal;
 use crate::sign::Sign;
 use credentials::{ProvideCredential, SignRequest};
+use sign_base::CallId;
 use std::fmt;
-use wake_lock::CallId;
 
 /// How far the call is after a poll.
 #[derive(Drop)]

@@ -23,18 +23,18 @@ use crate::drive_call::drive;
 use crate::handle_room::{FirstRoom, make_room};
 use crate::sign::{Sign, SignState};
 use crate::sign_poll::SignPoll;
-use credentials::{DeadlineRule, ProvideCredential, Providers, SignRequest, SigningCredential};
+use credentials::{ProvideCredential, Providers, SignRequest};
 use desk_driver::{BegunCall, loader_of};
 use desk_parts::AddRefused;
 use http::request::Parts;
-use sign_base::{Error, NoMemory, Timestamp};
+use sequential_signer::{DeadlineRule, SigningCredential};
+use sign_base::{CallId, Error, NoMemory, Timestamp};
 use sign_desk::Desk;
 use sign_request::{HeaderKeys, head_of};
 use std::alloc::Global;
 use std::fmt;
 use std::marker::Model;
 use std::time::Duration;
-use wake_lock::CallId;
 
 const USED_UP: &str = "call numbers are used up";
 

@@ -20,9 +20,10 @@ use crate::signer_objects::poll_service;
 use crate::step_outcome::{StepEnd, StepOutcome};
 use crate::step_reply::{after_found, after_none, after_poll};
 use crate::target::{hand_in, target_of};
-use credentials::{ProvideCredential, SignRequest, SigningCredential};
+use credentials::{ProvideCredential, SignRequest};
 use desk_driver::{BegunCall, LoadAnswer, LoadState, poll_provider, provider_at};
 use http::request::Parts;
+use sequential_signer::SigningCredential;
 use sign_base::{ErrorKind, Head, Timestamp};
 use sign_desk::Desk;
 

@@ -5,7 +5,7 @@ ghost use Rattle.signer.specs.declared.step_outcome.StepEnd.TheVariants.{Refused
 
 use crate::refusal::Refusal;
 use crate::sign::SignState;
-use wake_lock::CallId;
+use sign_base::CallId;
 
 /// How a poll ends, with how far the call is where it is not over.
 #[derive(Drop)]

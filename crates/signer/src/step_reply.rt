@@ -1,6 +1,6 @@
 //! How a poll goes on by a reply of its desk.
 ghost use Rattle.std.specs.Prelude.{◌≡◌};
-ghost use Rattle.signer.specs.OutcomeByReply.{plain_refusal, outcome_after_poll, outcome_after_found, outcome_after_none};
+ghost use Rattle.signer.specs.OutcomeByReply.{plain_refusal, refusal_after, outcome_after_poll, outcome_after_found, outcome_after_none};
 
 use crate::refusal::Refusal;
 use crate::sign::{SignState, WorkState};
@@ -61,15 +61,29 @@ pub(crate) fn after_none<K: Drop, L, W>(
 {
     match reply {
         Reply::Ask { provider } => {
+            drop(failure);
             let loading = SignState::Loading(candidate, provider, LoadState::Unstarted);
             StepOutcome::on(loading, None)
         }
-        Reply::Refused {
-            why: Why::Missing,
-            wake,
-        } => StepOutcome::refused(Refusal::Missing, wake),
-        Reply::Refused { wake, .. } => StepOutcome::refused(failure, wake),
-        _ => StepOutcome::refused(failure, None),
+        Reply::Refused { why, wake } => {
+            drop(candidate);
+            StepOutcome::refused(refusal_after(why, failure), wake)
+        }
+        _ => {
+            drop(candidate);
+            drop(reply);
+            StepOutcome::refused(failure, None)
+        }
+    }
+}
+
+/// The refusal of a call for which no provider has a credential: this one, or that there is none.
+fn refusal_after(why: Why, failure: Refusal) -> Refusal
+    ensures { result ≡ refusal_after why failure }
+{
+    match why {
+        Why::Missing => Refusal::Missing,
+        _ => failure,
     }
 }
 

@@ -7,10 +7,9 @@ ghost use Rattle.desk_driver.specs.CallAt.{IsSigning, LeavesOthers};
 ghost use Rattle.signer.specs.Target.{IsTargetOf, IsHandedIn, IsKept};
 
 use crate::drive::give_accepted;
-use credentials::{DeadlineRule, SigningCredential};
 use desk_driver::BegunCall;
 use http::request::Parts;
-use sequential_signer::Reply;
+use sequential_signer::{DeadlineRule, Reply, SigningCredential};
 use sign_base::{Error, Head};
 use sign_desk::Desk;
 use sign_request::{HeaderKeys, commit_keyed};

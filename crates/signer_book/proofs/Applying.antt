@@ -1,6 +1,6 @@
 -- What a book knows of a step before it is made.
 use Rattle.std.proofs.Common.{◌≡◌, Bool, true, false, ◌&&◌, List, Option, Some, None, IsSome, IsTrue, refl, sym, ◌∙◌, ap, subst, inl, inr}
-use Rattle.wake_lock.specs.declared.CallId.{CallId}
+use Rattle.sign_base.specs.declared.call_id.CallId.{CallId}
 use Rattle.sequential_signer.specs.Policy.{Policy}
 use Rattle.sequential_signer.specs.Setup.{Setup}
 use Rattle.sequential_signer.specs.Phase.{event_fits}
@@ -28,6 +28,10 @@ module _ {K D : Type 0} (policy : Policy K D) where
   no_and : (b : Bool) → (b && false) ≡ true → ⊥
   no_and true h = cc
   no_and false h = cc
+
+  -- a reply that does not say so is not out of memory
+  pub in-memory : (reply : Reply K) → is_out_of_memory reply ≡ false → reply ≡ OutOfMemory → ⊥
+  in-memory reply memory same = let bad : true ≡ false = ap is_out_of_memory (sym same) ∙ memory in absurd (cc)
 
   -- a cancel does not run out of memory
   pub cancel-in_memory : (setup : Setup D) (entries : List (Entry K)) (event : Event K) (call : CallId)

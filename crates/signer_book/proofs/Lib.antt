@@ -7,3 +7,4 @@ pub mod Passes
 pub mod Distinct
 pub mod Receipts
 pub mod Marks
+pub mod PlacesWithin

@@ -1,9 +1,9 @@
 -- Open begins, after one more receipt.
 use Rattle.std.proofs.Common.{◌≡◌, ℕ, suc, ◌+◌, ◌≤◌, Bool, true, false, cond, not, ◌&&◌, ◌||◌, List, [], ◌∷◌, ◌++◌, refl, sym, ◌∙◌, ap, arith}
 use Rattle.std.specs.List.{list_any}
-use Rattle.wake_lock.specs.declared.CallId.{CallId}
-use Rattle.wake_lock.proofs.Calls.{same_call-eq}
-use Rattle.wake_lock.proofs.Truth.{and_left, and_right}
+use Rattle.sign_base.specs.declared.call_id.CallId.{CallId}
+use Rattle.sign_base.proofs.Calls.{same_call-eq}
+use Rattle.sign_base.proofs.Truth.{and_left, and_right}
 use Rattle.sequential_signer.specs.Transcript.{call_of}
 use Rattle.sequential_signer.specs.Phase.{is_begun}
 use Rattle.sequential_signer.proofs.Lists.{list_any-more, or_true}

@@ -1,7 +1,7 @@
 -- The begins of which a pass knows no cancel, and the room that is kept for one.
 use Rattle.std.specs.Prelude.{ℕ, suc, ◌+◌, ◌≤◌, Bool, false, not, ◌&&◌, ◌||◌, List, [], ◌∷◌, length, if◌then◌else◌}
 use Rattle.std.specs.List.{list_any}
-use Rattle.wake_lock.specs.declared.CallId.{CallId}
+use Rattle.sign_base.specs.declared.call_id.CallId.{CallId}
 use Rattle.sequential_signer.specs.Transcript.{is_about, call_of}
 use Rattle.sequential_signer.specs.Phase.{is_begun}
 use Rattle.signer_book.specs.declared.pass.Receipt.{Receipt}

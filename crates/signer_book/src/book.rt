@@ -1,6 +1,6 @@
 //! A desk beside the journal of its events and replies.
 ghost use Rattle.std.specs.Prelude.{◌≡◌, ◌≢◌, ◌++◌, ◌∷◌, [], ◌<◌, true, List, IfOk, IfErr, IfSome, IsOk, IsSome, IsTrue, length};
-ghost use Rattle.wake_lock.specs.declared.CallId.{CallId};
+ghost use Rattle.sign_base.specs.declared.call_id.CallId.{CallId};
 ghost use Rattle.sequential_signer.specs.Policy.{policy_of};
 ghost use Rattle.sequential_signer.specs.Transcript.{committed_entries, is_out_of_memory};
 ghost use Rattle.sequential_signer.specs.ExpectedReply.{expected_reply};
@@ -20,8 +20,7 @@ use crate::closing::check_close;
 use crate::pass::{Pass, Receipt};
 use crate::room::{take_entry_room, take_receipt_room};
 use crate::settled::{CloseRefused, Settled};
-use credentials::{DeadlineRule, SigningCredential};
-use sequential_signer::{Entry, Event, Reply};
+use sequential_signer::{DeadlineRule, Entry, Event, Reply, SigningCredential};
 use sign_base::{EqualByValue, NoMemory};
 use sign_desk::Desk;
 use std::marker::Model;

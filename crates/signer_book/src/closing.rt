@@ -8,8 +8,7 @@ use crate::close::{count_receipts, first_difference, first_fall};
 use crate::doubles::{NOBODY, first_double};
 use crate::pass::Pass;
 use crate::settled::CloseError;
-use credentials::{DeadlineRule, SigningCredential};
-use sequential_signer::Entry;
+use sequential_signer::{DeadlineRule, Entry, SigningCredential};
 use sign_base::EqualByValue;
 use sign_desk::Desk;
 

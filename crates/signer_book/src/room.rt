@@ -8,7 +8,7 @@ ghost use Rattle.sequential_signer.specs.Replies.{is_cancelled};
 
 use crate::pass::Receipt;
 use sequential_signer::{Entry, Reply};
-use wake_lock::CallId;
+use sign_base::CallId;
 
 /// Whether the call is open after one more receipt.
 fn is_open_after<K>(found: bool, call: CallId, receipt: &Receipt<K>) -> bool

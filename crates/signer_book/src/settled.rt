@@ -2,8 +2,7 @@
 //! which it is not, with everything handed back.
 use crate::book::Book;
 use crate::pass::Pass;
-use credentials::{DeadlineRule, SigningCredential};
-use sequential_signer::Entry;
+use sequential_signer::{DeadlineRule, Entry, SigningCredential};
 use sign_desk::Desk;
 
 /// A journal that is the steps of these passes and no others.

@@ -1,7 +1,7 @@
 -- What a gate means: facts that do not change.
 use Rattle.std.specs.Prelude.{ℕ, ℤ}
 use Rattle.sign_base.specs.declared.head.Head.{Head}
-use Rattle.wake_lock.specs.declared.CallId.{CallId}
+use Rattle.sign_base.specs.declared.call_id.CallId.{CallId}
 use Rattle.sequential_signer.specs.declared.event.Answer.{Answer}
 use Rattle.sequential_signer.specs.declared.event.Verdict.{Verdict}
 use Rattle.signer_shared.specs.declared.gate.GateLoad.{GateLoad}

@@ -3,10 +3,8 @@ ghost use Rattle.std.specs.Prelude.{◌≢◌, IfOk};
 ghost use Rattle.signer_shared.specs.Gates.{IfAnswered};
 ghost use Rattle.signer_shared.specs.declared.gate.GateLoad.TheVariants.{NotYet};
 
-use credentials::SigningCredential;
-use sequential_signer::{Answer, Verdict};
-use sign_base::{Head, NoMemory, Timestamp};
-use wake_lock::CallId;
+use sequential_signer::{Answer, SigningCredential, Verdict};
+use sign_base::{CallId, Head, NoMemory, Timestamp};
 
 /// What a gate says of a load.
 #[derive(Debug, Drop)]

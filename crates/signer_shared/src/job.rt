@@ -3,9 +3,8 @@ ghost use Rattle.std.specs.Prelude.{◌≡◌, ◌+◌, ◌<◌, ◌^◌, false}
 ghost use Rattle.signer_shared.specs.Counting.{counted};
 
 use crate::next::JobEnd;
-use sign_base::Head;
+use sign_base::{CallId, Head};
 use std::time::Duration;
-use wake_lock::CallId;
 
 /// A call to be served. `expires_in` is how long the operation may take.
 #[derive(Debug, Drop)]

@@ -11,7 +11,7 @@ use crate::gate::Gate;
 use crate::job::{Job, Served};
 use crate::shared::SharedSigner;
 use crate::slots::Slots;
-use credentials::{DeadlineRule, SigningCredential};
+use sequential_signer::{DeadlineRule, SigningCredential};
 use sign_base::EqualByValue;
 use signer_book::{CloseRefused, Settled};
 use std::sync::Wait;

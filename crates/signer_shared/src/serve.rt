@@ -7,7 +7,7 @@ use crate::gate::Gate;
 use crate::job::{Job, Served};
 use crate::shared::SharedSigner;
 use crate::worker::Worker;
-use credentials::{DeadlineRule, SigningCredential};
+use sequential_signer::{DeadlineRule, SigningCredential};
 use signer_book::Pass;
 use std::sync::Wait;
 

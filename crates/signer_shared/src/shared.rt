@@ -3,8 +3,7 @@ ghost use Rattle.std.specs.Prelude.{◌≡◌, ◌≢◌, ◌++◌, ◌∷◌, [
 ghost use Rattle.sequential_signer.specs.declared.event.Reply.TheVariants.{OutOfMemory};
 ghost use Rattle.sign_desk.specs.ReplyKinds.{is_reply_to};
 
-use credentials::{DeadlineRule, SigningCredential};
-use sequential_signer::{Event, Reply};
+use sequential_signer::{DeadlineRule, Event, Reply, SigningCredential};
 use sign_base::{EqualByValue, NoMemory};
 use sign_desk::Desk;
 use signer_book::{Book, CloseRefused, Pass, Settled};

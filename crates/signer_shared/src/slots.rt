@@ -10,7 +10,7 @@ use crate::gate::Gate;
 use crate::job::{Job, Served};
 use crate::serve::serve_jobs;
 use crate::shared::SharedSigner;
-use credentials::{DeadlineRule, SigningCredential};
+use sequential_signer::{DeadlineRule, SigningCredential};
 use sign_base::NoMemory;
 use signer_book::Pass;
 use std::sync::Wait;

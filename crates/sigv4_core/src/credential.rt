@@ -7,7 +7,7 @@ ghost use Rattle.sign_base.specs.declared.error_kind.ErrorKind.TheVariants.{Cred
 ghost use Rattle.sigv4_core.specs.Credential.{is_credential, is_before};
 ghost use Rattle.sigv4_core.specs.Refused.{RefusedWith};
 
-use credentials::SigningCredential;
+use sequential_signer::SigningCredential;
 use sign_base::{Error, NoMemory, Octets, Timestamp};
 use std::alloc::Global;
 use std::fmt;

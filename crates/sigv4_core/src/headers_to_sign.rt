@@ -1,11 +1,12 @@
 //! The headers of a head that a signature covers.
 ghost use Rattle.std.specs.Prelude.{◌≡◌, ◌++◌, ◌∷◌, ◌||◌, [], IfOk, OnOk, bytes_eq, codes};
 ghost use Rattle.std.specs.List.{list_any};
-ghost use Rattle.sign_base.specs.Calendar.{IsFourDigitYear};
+ghost use Rattle.sign_time.specs.Calendar.{IsFourDigitYear};
 ghost use Rattle.http_header.specs.Token.{lowercase};
 ghost use Rattle.sigv4_core.specs.SignedHead.{field, is_named, is_replaced, kept_headers, with_host, headers_to_sign};
 
 use sign_base::{Field, Fields, NoMemory, Octets, Timestamp};
+use sign_time::FormatMoment;
 use std::alloc::Global;
 
 /// The headers of a head but for those that a signature replaces, then the host where they name none,

@@ -1,7 +1,7 @@
 //! When a signature is made.
 ghost use Rattle.std.specs.Prelude.{◌≡◌, ℤ};
 ghost use Rattle.std.specs.Bool.{OnFalse};
-ghost use Rattle.sign_base.specs.Calendar.{IsFourDigitYear};
+ghost use Rattle.sign_time.specs.Calendar.{IsFourDigitYear};
 ghost use Rattle.sigv4_core.specs.SignedHead.{is_before_year_0};
 
 use sign_base::Timestamp;

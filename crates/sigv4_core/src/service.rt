@@ -1,13 +1,14 @@
 //! Signature Version 4 as a service of a signer.
 ghost use Rattle.std.specs.Prelude.{◌≡◌, ◌⊎◌, ⊤, IfOk};
-ghost use Rattle.credentials.specs.Deadline.{operation_end};
+ghost use Rattle.sequential_signer.specs.Deadline.{operation_end};
 ghost use Rattle.sign_request.specs.Keys.{no_keys};
 ghost use Rattle.sigv4_core.specs.Refused.{error_of};
 ghost use Rattle.sigv4_core.specs.Service.{GivesSigned};
 ghost use Rattle.sigv4_core.specs.SignedHead.{signing_of};
 
 use crate::{Moment, Payload, SigCredential, SigError, SigScope, sign_head_keyed};
-use credentials::{DeadlineRule, Polled, SignRequest, SigningCredential, operation_end};
+use credentials::{Polled, SignRequest};
+use sequential_signer::{DeadlineRule, SigningCredential, operation_end};
 use sign_base::{Head, NoMemory, Timestamp};
 use sign_request::HeaderKeys;
 use std::alloc::Global;

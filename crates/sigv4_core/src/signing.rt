@@ -1,6 +1,6 @@
 //! A request head with its signature in its headers.
 ghost use Rattle.std.specs.Prelude.{◌≡◌, ◌⊎◌, ◌++◌, ◌∷◌, [], Ok, Err, IfOk, IfErr, codes};
-ghost use Rattle.sign_base.specs.Calendar.{IsFourDigitYear};
+ghost use Rattle.sign_time.specs.Calendar.{IsFourDigitYear};
 ghost use Rattle.sign_request.specs.PlainTarget.{plain_target};
 ghost use Rattle.sigv4_core.specs.Signature.{date_of};
 ghost use Rattle.sigv4_core.specs.CanonicalHeaders.{signed_headers};

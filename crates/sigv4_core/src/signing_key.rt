@@ -1,11 +1,12 @@
 //! A derived signing key as a value: who signs many requests derives it once a day.
 ghost use Rattle.std.specs.Prelude.{◌≡◌, IfOk, bytes_eq};
-ghost use Rattle.sign_base.specs.Calendar.{IsFourDigitYear};
+ghost use Rattle.sign_time.specs.Calendar.{IsFourDigitYear};
 ghost use Rattle.sigv4_core.specs.Signature.{derived_key, date_of, signature_under};
 
 use crate::request_signature::{signature_under, signing_key};
 use crate::{SigCredential, SigScope};
 use sign_base::{NoMemory, Octets, Timestamp};
+use sign_time::FormatMoment;
 use std::alloc::Global;
 use std::fmt;
 use std::marker::Model;

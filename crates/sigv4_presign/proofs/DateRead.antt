@@ -11,14 +11,14 @@ use Rattle.jiff_core.proofs.SignedLemmas.{signed_arith}
 use Rattle.jiff_core.proofs.CalendarLemmas.{days_from_civil-day_count, days_of_months-zero, days_of_months_all, day_count-end}
 use Rattle.jiff_core.proofs.DateLemmas.{civil}
 use Rattle.jiff_core.proofs.DateTimeLemmas.{civil_nanos-parts}
-use Rattle.sign_base.specs.Calendar.{civil_of, day_of, year_reached, IsFourDigitYear}
+use Rattle.sign_time.specs.Calendar.{civil_of, day_of, year_reached, IsFourDigitYear}
 use Rattle.sign_base.specs.Moment.{IsMoment, is_moment}
-use Rattle.sign_base.specs.MomentText.{iso8601_text}
-use Rattle.sign_base.specs.MomentRead.{number_at, shown_moment}
-use Rattle.sign_base.proofs.CivilTime.{day_count-year_0, not_before_year_0}
-use Rattle.sign_base.proofs.DaysCounted.{count_years-most, count_years-within, count_months-keeps, count_months-most, count_months-within}
+use Rattle.sign_time.specs.MomentText.{iso8601_text}
+use Rattle.sign_time.specs.MomentRead.{number_at, shown_moment}
+use Rattle.sign_time.proofs.CivilTime.{day_count-year_0, not_before_year_0}
+use Rattle.sign_time.proofs.DaysCounted.{count_years-most, count_years-within, count_months-keeps, count_months-most, count_months-within}
 use Rattle.sign_request.proofs.Deciding.{false_from_Decides}
-use Rattle.sign_base.proofs.MomentReadBack.{fields_read, civil_of-IsPrintable}
+use Rattle.sign_time.proofs.MomentReadBack.{fields_read, civil_of-IsPrintable}
 use Rattle.sigv4_presign.specs.LinkDate.{moment_of_text, if_printed}
 use Rattle.sigv4_presign.specs.ShownDate.{HasDate, IsDateOf, HasTime, IsTimeOf, IsShown}
 

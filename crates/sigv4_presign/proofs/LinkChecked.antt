@@ -4,7 +4,7 @@ use Rattle.std.specs.Prelude.{int_le, if◌then◌else◌}
 use Rattle.std.proofs.lemmas.Bool.{cases_Bool}
 use Rattle.std.proofs.lemmas.Slice.Eq.{bytes_eq-Decides}
 use Rattle.jiff_core.proofs.SignedLemmas.{signed_arith}
-use Rattle.sign_base.specs.Calendar.{second_nanos}
+use Rattle.sign_time.specs.Calendar.{second_nanos}
 use Rattle.sign_base.specs.declared.head.Head.{Head}
 use Rattle.sign_request.specs.PlainTarget.{PlainTarget}
 use Rattle.sigv4_core.specs.Credential.{Credential as Keys}

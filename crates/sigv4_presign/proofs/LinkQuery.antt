@@ -8,8 +8,8 @@ use Rattle.std.proofs.lemmas.List.{map-append}
 use Rattle.std.proofs.lemmas.List.Elements.{All-nil, All-cons, All-append, filter-append}
 use Rattle.std.proofs.lemmas.Slice.Eq.{bytes_eq-Decides}
 use Rattle.sign_base.specs.Bytes.{ampersand}
-use Rattle.sign_base.specs.Calendar.{civil_of}
-use Rattle.sign_base.specs.MomentText.{iso8601_text}
+use Rattle.sign_time.specs.Calendar.{civil_of}
+use Rattle.sign_time.specs.MomentText.{iso8601_text}
 use Rattle.sign_request.specs.CanonicalText.{joined_texts, canonical_text, header_text}
 use Rattle.sign_request.specs.Query.{Pair, query_pieces, query_pairs, read_pair}
 use Rattle.sigv4_core.specs.CanonicalTarget.{canonical_query, encoded_pair}

@@ -6,12 +6,12 @@ use Rattle.std.proofs.lemmas.Bool.Decides.{nat_tests}
 use Rattle.std.proofs.lemmas.Slice.Eq.{bytes_eq-Decides}
 use Rattle.std.proofs.lemmas.Str.Parse.{IsNumeralModel, numerals_by_fold}
 use Rattle.std.proofs.lemmas.Fmt.{digits_value-decimal, length-decimal-le}
-use Rattle.sign_base.specs.Calendar.{civil_of, IsFourDigitYear}
+use Rattle.sign_time.specs.Calendar.{civil_of, IsFourDigitYear}
 use Rattle.sign_base.specs.Moment.{IsMoment}
-use Rattle.sign_base.specs.MomentText.{iso8601_text}
-use Rattle.sign_base.specs.MomentRead.{whole_second, number_of}
-use Rattle.sign_base.proofs.MomentReadBack.{iso8601_text-printed, civil_of-IsPrintable, shown_moment-printed}
-use Rattle.sign_base.proofs.WholeSecond.{whole_second-IsMoment, civil_of-whole_second}
+use Rattle.sign_time.specs.MomentText.{iso8601_text}
+use Rattle.sign_time.specs.MomentRead.{whole_second, number_of}
+use Rattle.sign_time.proofs.MomentReadBack.{iso8601_text-printed, civil_of-IsPrintable, shown_moment-printed}
+use Rattle.sign_time.proofs.WholeSecond.{whole_second-IsMoment, civil_of-whole_second}
 use Rattle.sigv4_presign.specs.LinkDate.{moment_of_text, expires_of_text}
 
 -- the date of a link is read as its whole second

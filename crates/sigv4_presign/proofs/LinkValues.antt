@@ -10,10 +10,10 @@ use Rattle.std.proofs.lemmas.List.Sums.{AllPass-from_list_all}
 use Rattle.std.proofs.lemmas.List.Elements.{All-weaker, All-from_recursion}
 use Rattle.std.proofs.lemmas.Str.{IsAscii-append}
 use Rattle.std.proofs.lemmas.Str.Ascii.{IsAscii-nil, IsAscii-from_all, IsAscii-cons}
-use Rattle.sign_base.specs.Calendar.{Civil, civil_of, IsFourDigitYear}
+use Rattle.sign_time.specs.Calendar.{Civil, civil_of, IsFourDigitYear}
 use Rattle.sign_base.specs.Moment.{IsMoment}
-use Rattle.sign_base.specs.MomentText.{two_digits, four_digits, date_text, iso8601_text}
-use Rattle.sign_base.proofs.MomentReadBack.{IsPrintable, civil_of-IsPrintable}
+use Rattle.sign_time.specs.MomentText.{two_digits, four_digits, date_text, iso8601_text}
+use Rattle.sign_time.proofs.MomentReadBack.{IsPrintable, civil_of-IsPrintable}
 use Rattle.sign_request.specs.CanonicalText.{joined_texts}
 use Rattle.sigv4_core.specs.Credential.{Credential as Keys, is_credential}
 use Rattle.sigv4_core.specs.Encoding.{is_unreserved}

@@ -4,7 +4,7 @@ use Rattle.std.specs.Prelude.{nat_lt}
 use Rattle.std.proofs.lemmas.Bool.{cases_Bool, or_parts}
 use Rattle.std.proofs.lemmas.Bool.Decides.{nat_tests}
 use Rattle.jiff_core.proofs.SignedLemmas.{signed_arith}
-use Rattle.sign_base.specs.Calendar.{IsFourDigitYear}
+use Rattle.sign_time.specs.Calendar.{IsFourDigitYear}
 use Rattle.sign_base.specs.declared.head.Head.{Head}
 use Rattle.sign_request.specs.AcceptedHead.{is_accepted_head}
 use Rattle.sign_request.specs.PlainTarget.{PlainTarget}

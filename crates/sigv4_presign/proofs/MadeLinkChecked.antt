@@ -9,10 +9,10 @@ use Rattle.std.proofs.lemmas.Str.Ascii.{IsAscii-from_all}
 use Rattle.http_uri.specs.ByteClasses.{is_query_byte}
 use Rattle.http_uri.specs.Grammar.{AllPass, or_slash, path_of}
 use Rattle.jiff_core.proofs.SignedLemmas.{signed_arith}
-use Rattle.sign_base.specs.Calendar.{civil_of, second_nanos}
-use Rattle.sign_base.specs.MomentRead.{whole_second}
+use Rattle.sign_time.specs.Calendar.{civil_of, second_nanos}
+use Rattle.sign_time.specs.MomentRead.{whole_second}
 use Rattle.sign_base.specs.declared.head.Head.{Head}
-use Rattle.sign_base.proofs.WholeSecond.{civil_of-whole_second}
+use Rattle.sign_time.proofs.WholeSecond.{civil_of-whole_second}
 use Rattle.sign_request.specs.PlainTarget.{PlainTarget, target_of}
 use Rattle.sign_request.proofs.TargetOf.{target_of-sound}
 use Rattle.sigv4_core.specs.CanonicalHeaders.{canonical_headers, signed_headers}

@@ -2,8 +2,8 @@
 use Rattle.std.proofs.Common.{◌≡◌, ℕ, ℤ, List, [], ◌∷◌, ◌++◌, codes, ap, ap₂}
 use Rattle.hex.specs.Hex.{encode_lower}
 use Rattle.sha2.specs.Sha256.{sha256}
-use Rattle.sign_base.specs.Calendar.{civil_of}
-use Rattle.sign_base.specs.MomentText.{date_text, iso8601_text}
+use Rattle.sign_time.specs.Calendar.{civil_of}
+use Rattle.sign_time.specs.MomentText.{date_text, iso8601_text}
 use Rattle.sign_request.specs.CanonicalText.{joined_texts}
 use Rattle.sigv4_core.specs.CanonicalRequest.{joined_lines}
 use Rattle.sigv4_core.specs.Credential.{Credential as Keys}

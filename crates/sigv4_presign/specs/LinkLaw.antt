@@ -1,9 +1,9 @@
 -- When a link that was made is good: from its date on, until it expires.
 use Rattle.std.specs.Prelude.{◌≡◌, ℕ, ◌*◌, ℤ, pos, ◌+ℤ◌, ◌≤ℤ◌, ◌<ℤ◌, IsTrue, Ok}
 use Rattle.sign_base.specs.declared.head.Head.{Head}
-use Rattle.sign_base.specs.Calendar.{second_nanos}
+use Rattle.sign_time.specs.Calendar.{second_nanos}
 use Rattle.sign_base.specs.Moment.{IsMoment}
-use Rattle.sign_base.specs.MomentRead.{whole_second}
+use Rattle.sign_time.specs.MomentRead.{whole_second}
 use Rattle.sigv4_core.specs.Scope.{Scope, is_scope}
 use Rattle.sigv4_core.specs.Credential.{Credential as Keys, is_credential}
 use Rattle.sigv4_presign.specs.PresignedLink.{presigning_of}

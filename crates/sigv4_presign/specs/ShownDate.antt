@@ -3,9 +3,9 @@ use Rattle.std.specs.Prelude.{◌≡◌, ℕ, ◌≤◌, ℤ, pos, List, length}
 use Rattle.jiff_core.specs.Calendar.{IsCivilDate}
 use Rattle.jiff_core.specs.declared.civil.date.Date.{Date}
 use Rattle.jiff_core.specs.declared.civil.time.Time.{Time}
-use Rattle.sign_base.specs.Calendar.{IsFourDigitYear}
+use Rattle.sign_time.specs.Calendar.{IsFourDigitYear}
 use Rattle.sign_base.specs.Moment.{IsMoment}
-use Rattle.sign_base.specs.MomentRead.{number_at, shown_moment}
+use Rattle.sign_time.specs.MomentRead.{number_at, shown_moment}
 
 -- the calendar has the date
 abbrev pub HasDate : List ℕ → Type 0

@@ -1,6 +1,6 @@
 //! The check of a presigned link.
 ghost use Rattle.std.specs.Prelude.{◌≡◌, ◌+ℤ◌, ◌*◌, pos, int_le, IfOk, Ok};
-ghost use Rattle.sign_base.specs.Calendar.{second_nanos};
+ghost use Rattle.sign_time.specs.Calendar.{second_nanos};
 ghost use Rattle.sign_request.specs.PlainTarget.{plain_target};
 ghost use Rattle.sigv4_presign.specs.CheckedLink.{checked, checked_at, checked_between};
 ghost use Rattle.sigv4_presign.specs.LinkClaim.{IsClaimOf};

@@ -1,7 +1,7 @@
 //! What follows for a caller from what the calls promise. Each function does nothing: its contract is
 //! the law.
 ghost use Rattle.std.specs.Prelude.{◌≡◌, ◌↔◌, ℕ, ℤ, ◌<ℤ◌, ◌≤ℤ◌};
-ghost use Rattle.sign_base.specs.MomentRead.{whole_second};
+ghost use Rattle.sign_time.specs.MomentRead.{whole_second};
 ghost use Rattle.sign_base.specs.declared.head.Head.{Head};
 ghost use Rattle.sigv4_core.specs.Credential.{Credential};
 ghost use Rattle.sigv4_core.specs.Scope.{Scope};

@@ -2,13 +2,14 @@
 ghost use Rattle.std.specs.Prelude.{◌≡◌, ◌≤◌, ◌+◌, IfOk, MatchOption, Some, None, if◌then◌else◌, bytes_eq, length, string_bytes};
 ghost use Rattle.jiff_core.specs.DateTime.{civil_nanos};
 ghost use Rattle.sign_base.specs.Moment.{is_moment};
-ghost use Rattle.sign_base.specs.MomentRead.{number_of, number_at};
+ghost use Rattle.sign_time.specs.MomentRead.{number_of, number_at};
 ghost use Rattle.sigv4_presign.specs.LinkDate.{moment_of_text, expires_of_text};
 ghost use Rattle.sigv4_presign.specs.PresignedLink.{is_expiry};
 ghost use Rattle.sigv4_presign.specs.ShownDate.{HasDate, IsDateOf, HasTime, IsTimeOf, IsShown};
 
 use jiff_core::civil::{Date, DateTime, Time};
 use sign_base::{NoMemory, Timestamp};
+use sign_time::FormatMoment;
 use std::alloc::Global;
 
 /// How long a date and time of ISO 8601 is, as `20130524T000000Z`.

@@ -1,6 +1,6 @@
 //! The texts that a link is made of: what its credential pair names, its pairs, and the link.
 ghost use Rattle.std.specs.Prelude.{◌≡◌, ◌++◌, ◌∷◌, [], IfOk, OnOk, codes, map};
-ghost use Rattle.sign_base.specs.Calendar.{IsFourDigitYear};
+ghost use Rattle.sign_time.specs.Calendar.{IsFourDigitYear};
 ghost use Rattle.sign_request.specs.CanonicalText.{joined_texts};
 ghost use Rattle.sign_request.specs.PlainTarget.{plain_target};
 ghost use Rattle.sigv4_core.specs.Encoding.{percent_encoded};
@@ -11,6 +11,7 @@ use crate::link_signature::link_signature;
 use crate::link_target::{query_of, scheme_of};
 use http_uri::Uri;
 use sign_base::{Head, NoMemory, Timestamp};
+use sign_time::FormatMoment;
 use sigv4_core::{SigCredential, SigScope, authority_of, encode, path_of};
 use std::alloc::Global;
 

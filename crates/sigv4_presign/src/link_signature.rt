@@ -1,6 +1,6 @@
 //! The signature of a link.
 ghost use Rattle.std.specs.Prelude.{◌≡◌, ◌∷◌, [], IfOk, codes};
-ghost use Rattle.sign_base.specs.Calendar.{IsFourDigitYear};
+ghost use Rattle.sign_time.specs.Calendar.{IsFourDigitYear};
 ghost use Rattle.sign_request.specs.PlainTarget.{plain_target};
 ghost use Rattle.sigv4_core.specs.SignedHead.{field};
 ghost use Rattle.sigv4_presign.specs.PresignedLink.{link_signature};

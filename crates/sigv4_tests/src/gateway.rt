@@ -1,9 +1,10 @@
 //! A link that is given out, and a gateway that lets in who holds it: the example of docs/GUIDE.md.
-use crate::suite::{PUBLISHED, published};
+use crate::suite::{PUBLISHED, Suite, moment, published};
 use sign_base::{Head, NoMemory, Timestamp};
 use sigv4_core::{SigCredential, SigScope};
 use sigv4_presign::{Checked, presign, verify};
 use std::alloc::Global;
+use std::process::Abort;
 
 /// The status of HTTP that a gateway answers a request with, by what its link was found to be.
 fn status_of(found: Checked) -> u16 {
@@ -25,36 +26,40 @@ fn admit(
     Ok(status_of(verify(alloc, request, credential, scope, now)?))
 }
 
-/// A link for ten minutes from the published moment on.
-fn link_for_ten_minutes(alloc: Global) -> Option<Head> {
-    let now = Timestamp::from_nanos(PUBLISHED)?;
-    let by = published(alloc)?;
-    presign(alloc, &by.head, &by.credential, &by.scope, 600, now).ok()
-}
+const SECOND: i128 = 1_000_000_000;
 
-/// What the gateway answers so many seconds after the link was made.
-fn answer_after(alloc: Global, request: &Head, seconds: i128) -> Option<u16> {
-    let after = seconds.checked_mul(1_000_000_000)?;
-    let now = Timestamp::from_nanos(PUBLISHED.checked_add(after)?)?;
-    let by = published(alloc)?;
-    admit(alloc, request, &by.credential, &by.scope, now).ok()
-}
-
-/// Seconds after the link was made, and what the gateway answers then.
-const ANSWERS: [(i128, u16); 5] = [(-1, 403), (0, 200), (300, 200), (599, 200), (600, 403)];
+/// Moments, and what the gateway answers then to a link for ten minutes from the published moment on.
+const ANSWERS: [(i128, u16); 5] = [
+    (PUBLISHED - SECOND, 403),
+    (PUBLISHED, 200),
+    (PUBLISHED + 300 * SECOND, 200),
+    (PUBLISHED + 599 * SECOND, 200),
+    (PUBLISHED + 600 * SECOND, 403),
+];
 
 #[test]
 fn a_gateway_lets_in_who_holds_a_link(rt: HostRuntime) {
-    let link = link_for_ten_minutes(rt.alloc()).expect(&rt, "a link");
-    for (seconds, wanted) in ANSWERS {
-        let status = answer_after(rt.alloc(), &link, seconds).expect(&rt, "memory");
-        assert!(rt; status == wanted, "{status} after {seconds} seconds");
+    let by = published(&rt, rt.alloc());
+    let now = moment(&rt, PUBLISHED);
+    let link = presign(rt.alloc(), &by.head, &by.credential, &by.scope, 600, now);
+    let link = link.expect(&rt, "a link");
+    for (nanos, wanted) in ANSWERS {
+        is_answered(&rt, rt.alloc(), &by, &link, nanos, wanted);
     }
+    is_answered(&rt, rt.alloc(), &by, &by.head, PUBLISHED, 400);
 }
 
-#[test]
-fn a_gateway_asks_for_a_link(rt: HostRuntime) {
-    let by = published(rt.alloc()).expect(&rt, "memory");
-    let status = answer_after(rt.alloc(), &by.head, 0).expect(&rt, "memory");
-    assert!(rt; status == 400, "{status}");
+/// The gateway answers this status to a request at this moment.
+fn is_answered(
+    rt: &impl Abort,
+    alloc: Global,
+    by: &Suite,
+    request: &Head,
+    nanos: i128,
+    wanted: u16,
+) {
+    let now = moment(rt, nanos);
+    let status = admit(alloc, request, &by.credential, &by.scope, now);
+    let status = status.expect(rt, "memory");
+    assert!(rt; status == wanted, "{status} at {nanos}");
 }

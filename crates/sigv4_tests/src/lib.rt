@@ -1,26 +1,24 @@
-//! What no clause of `sigv4_core` and `sigv4_presign` says, as tests: values of other implementations,
-//! printed texts, and that each call succeeds with ample memory. Nothing stands on this crate. Requests with
-//! their signatures are rows of `command_rows`.
+//! Signature Version 4, as tests of what no clause says: values of other implementations, printed texts, and that each call
+//! succeeds with ample memory; and two examples that docs/GUIDE.md walks through, a gateway and a signer with the key of the
+//! environment. Nothing stands on this crate. Requests with their signatures are rows of `command_rows`.
 #![tactic(auto)]
 
 #[cfg(test)]
-mod calls;
-#[cfg(test)]
-mod canonical_texts;
+mod environment_key;
 #[cfg(test)]
 mod gateway;
 #[cfg(test)]
-mod keys;
-#[cfg(test)]
 mod links;
 #[cfg(test)]
-mod many_headers;
+mod list_users;
 #[cfg(test)]
-mod moments;
+mod many_headers;
 #[cfg(test)]
 mod refusals;
 #[cfg(test)]
 mod secrets;
+#[cfg(test)]
+mod signed_heads;
 #[cfg(test)]
 mod suite;
 #[cfg(test)]

@@ -1,40 +1,56 @@
 //! Heads with more headers than a header map may have names.
-use crate::suite::{NOW, Suite, plain};
+use crate::signed_heads::told;
+use crate::suite::{NOW, PLAIN, moment, request_to};
 use crate::told::is_text;
-use sign_base::{Field, Head, Octets, Timestamp};
-use sigv4_core::sign_head;
+use fixtures::push_header;
+use sign_base::Head;
+use sign_request::HeaderKeys;
+use sigv4_core::sign_head_keyed;
 use std::alloc::Global;
+use std::hash::RandomState;
+use std::process::Abort;
 
 /// One more than a map of `http` may have names.
 const MANY: u32 = 24_577;
 
-fn push_header(alloc: Global, head: &mut Head, number: u32) -> Option<()> {
-    let name = format!(in alloc; "h{number}").ok()?;
-    let value = Octets::from_slice(alloc, b"v").ok()?;
-    let name = Octets::from_slice(alloc, name.as_bytes()).ok()?;
-    head.headers.push(Field { name, value }).ok()
+/// The values of the headers that a signature of as many headers with one name brings, by Python's `hmac`.
+const SIGNED: &str =
+    "20150830T123600Z AWS4-HMAC-SHA256 Credential=AKIDEXAMPLE/20150830/us-east-1/service/aws4_request, SignedHeaders=h0;host;x-amz-date, Signature=3dac8d56e1a0c1bc2b26cd10f708bd51e8c1c937af2d109006018a6522b9012d";
+
+#[test]
+fn a_map_limits_the_names_and_not_the_headers(rt: HostRuntime) {
+    let keys = HeaderKeys::new(RandomState::new(&rt).expect(&rt, "keys"));
+    is_text(&rt, signed(&rt, rt.alloc(), keys, true), SIGNED);
+    is_text(&rt, signed(&rt, rt.alloc(), keys, false), "Head");
 }
 
-/// What becomes of the suite's request with so many headers, each with a name of its own or all with one.
-fn told(alloc: Global, by: &mut Suite, alike: bool) -> Option<String> {
+/// What is told of the suite's request with so many headers, all with one name or each with its own.
+fn signed(rt: &impl Abort, alloc: Global, keys: HeaderKeys, alike: bool) -> String {
+    let mut by = request_to(rt, alloc, PLAIN);
+    push_headers(rt, alloc, &mut by.head, alike);
+    let now = moment(rt, NOW);
+    told(
+        rt,
+        alloc,
+        sign_head_keyed(
+            alloc,
+            &by.head,
+            &by.credential,
+            &by.scope,
+            &by.payload,
+            now,
+            keys,
+        ),
+    )
+}
+
+fn push_headers(rt: &impl Abort, alloc: Global, head: &mut Head, alike: bool) {
     for number in 0..MANY {
-        push_header(alloc, &mut by.head, if alike { 0 } else { number })?;
-    }
-    let now = Timestamp::from_nanos(NOW)?;
-    match sign_head(alloc, &by.head, &by.credential, &by.scope, &by.payload, now) {
-        Ok(_) => String::from_str(alloc, "signed").ok(),
-        Err(why) => format!(in alloc; "{why:?}").ok(),
+        push_one(rt, alloc, head, if alike { 0 } else { number });
     }
 }
 
-#[test]
-fn a_name_may_come_more_often_than_a_map_has_names(rt: HostRuntime) {
-    let mut by = plain(rt.alloc()).expect(&rt, "memory");
-    is_text(&rt, told(rt.alloc(), &mut by, true), "signed");
-}
-
-#[test]
-fn a_head_with_more_names_than_a_map_may_have_is_refused(rt: HostRuntime) {
-    let mut by = plain(rt.alloc()).expect(&rt, "memory");
-    is_text(&rt, told(rt.alloc(), &mut by, false), "Head");
+fn push_one(rt: &impl Abort, alloc: Global, head: &mut Head, number: u32) {
+    let name = format!(in alloc; "h{number}").expect(rt, "memory");
+    push_header(alloc, head, name.as_bytes(), b"v").expect(rt, "memory");
 }

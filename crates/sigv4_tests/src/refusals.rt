@@ -1,16 +1,7 @@
 //! What is refused, with which kind and message.
 use crate::told::{is_text, refusal};
-use sign_base::Error;
 use sigv4_core::{Payload, SigCredential, SigError, SigScope};
-use std::alloc::Global;
-
-/// What a call answered: `made`, or the kind and the message of its error.
-fn told<T: Drop>(alloc: Global, answer: Result<T, Error>) -> Option<String> {
-    match answer {
-        Ok(_) => String::from_str(alloc, "made").ok(),
-        Err(error) => refusal(alloc, &error),
-    }
-}
+use sigv4_presign::PresignError;
 
 const INVALID_KEY: &str = "CredentialInvalid: invalid key";
 
@@ -29,7 +20,7 @@ const KEYS: [(&[u8], &[u8], &str); 7] = [
 fn keys_are_visible(rt: HostRuntime) {
     for (access, secret, wanted) in KEYS {
         let made = SigCredential::new(rt.alloc(), access, secret, None);
-        is_text(&rt, told(rt.alloc(), made), wanted);
+        is_text(&rt, refusal(&rt, rt.alloc(), made.err()), wanted);
     }
 }
 
@@ -50,7 +41,7 @@ const SCOPES: [(&[u8], &[u8], &str); 7] = [
 fn scopes_are_in_lower_case(rt: HostRuntime) {
     for (region, service, wanted) in SCOPES {
         let made = SigScope::new(rt.alloc(), region, service);
-        is_text(&rt, told(rt.alloc(), made), wanted);
+        is_text(&rt, refusal(&rt, rt.alloc(), made.err()), wanted);
     }
 }
 
@@ -84,11 +75,8 @@ const DIGESTS: [(&[u8], &str); 6] = [
 #[test]
 fn digests_have_64_lower_case_digits(rt: HostRuntime) {
     for (digest, wanted) in DIGESTS {
-        is_text(
-            &rt,
-            told(rt.alloc(), Payload::digest(rt.alloc(), digest)),
-            wanted,
-        );
+        let made = Payload::digest(rt.alloc(), digest);
+        is_text(&rt, refusal(&rt, rt.alloc(), made.err()), wanted);
     }
 }
 
@@ -107,14 +95,39 @@ const ERRORS: [(SigError, &str); 5] = [
     (SigError::OutOfMemory, "OutOfMemory: "),
 ];
 
-fn as_error(alloc: Global, why: SigError) -> Option<String> {
-    let error = why.into_error(alloc).ok()?;
-    refusal(alloc, &error)
+#[test]
+fn refusals_of_heads_become_errors(rt: HostRuntime) {
+    for (why, wanted) in ERRORS {
+        let error = why.into_error(rt.alloc()).expect(&rt, "memory");
+        is_text(&rt, refusal(&rt, rt.alloc(), Some(error)), wanted);
+    }
 }
 
+/// Refusals of links as errors.
+const LINK_ERRORS: [(PresignError, &str); 8] = [
+    (PresignError::Head, "RequestInvalid: head not accepted"),
+    (
+        PresignError::Authority,
+        "RequestInvalid: request without authority is invalid for signing",
+    ),
+    (
+        PresignError::Path,
+        "RequestInvalid: path with escapes is not supported",
+    ),
+    (PresignError::Moment, "RequestInvalid: moment out of range"),
+    (
+        PresignError::Already,
+        "RequestInvalid: query is presigned already",
+    ),
+    (PresignError::Expires, "RequestInvalid: expiry out of range"),
+    (PresignError::Link, "RequestInvalid: link not accepted"),
+    (PresignError::OutOfMemory, "OutOfMemory: "),
+];
+
 #[test]
-fn refusals_become_errors(rt: HostRuntime) {
-    for (why, wanted) in ERRORS {
-        is_text(&rt, as_error(rt.alloc(), why), wanted);
+fn refusals_of_links_become_errors(rt: HostRuntime) {
+    for (why, wanted) in LINK_ERRORS {
+        let error = why.into_error(rt.alloc()).expect(&rt, "memory");
+        is_text(&rt, refusal(&rt, rt.alloc(), Some(error)), wanted);
     }
 }

@@ -2,14 +2,13 @@
 use Rattle.std.proofs.Common.{◌≡◌, ℕ, ◌<◌, Bool, true, false, cond, not, is_some, IsSome, List, [], ◌∷◌, ◌++◌, Option, Some, None, filter, drop, refl, sym, ap, subst, ◌∙◌, arith}
 use Rattle.std.specs.Map.{lookup}
 use Rattle.std.proofs.lemmas.Map.Made.{is_some-lookup}
-use Rattle.wake_lock.specs.declared.CallId.{CallId}
-use Rattle.wake_lock.specs.Calls.{same_call, is_among, IsOnce}
+use Rattle.sign_base.specs.declared.call_id.CallId.{CallId}
+use Rattle.sign_base.specs.Calls.{same_call, is_among, IsOnce}
 use Rattle.wake_lock.specs.Lock.{in_line, IsLock}
 use Rattle.wake_lock.specs.Links.{times}
 use Rattle.wake_lock.specs.WaitList.{calls_of, places_of, first_place}
-use Rattle.wake_lock.proofs.Truth.{or_left, or_right}
-use Rattle.wake_lock.proofs.Calls.{same_call-eq, same_call-refl, same_call-comm}
-use Rattle.wake_lock.proofs.Lines.{absent-leaves}
+use Rattle.sign_base.proofs.Truth.{or_left, or_right}
+use Rattle.sign_base.proofs.Calls.{same_call-eq, same_call-refl, same_call-comm, absent-leaves}
 use Rattle.wake_lock.proofs.Places.{times-here}
 
 -- a call has a place exactly where it waits

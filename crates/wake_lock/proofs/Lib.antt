@@ -1,5 +1,3 @@
-pub mod Truth
-pub mod Calls
 pub mod Lines
 pub mod Places
 pub mod Links

@@ -1,10 +1,10 @@
 -- The line of a lock: one more call at its end, and one taken out.
 use Rattle.std.proofs.Common.{◌≡◌, ℕ, true, false, not, List, [], ◌∷◌, ◌++◌, Option, Some, None, filter, drop, refl, sym, ◌∙◌, ap, subst}
-use Rattle.wake_lock.specs.declared.CallId.{CallId}
-use Rattle.wake_lock.specs.Calls.{same_call, is_among, IsOnce}
+use Rattle.sign_base.specs.declared.call_id.CallId.{CallId}
+use Rattle.sign_base.specs.Calls.{same_call, is_among, IsOnce}
 use Rattle.wake_lock.specs.Lock.{Lock, in_line, line, is_holder, is_held_by, IsLock}
-use Rattle.wake_lock.proofs.Truth.{or_left, or_right, or_none}
-use Rattle.wake_lock.proofs.Calls.{same_call-eq, same_call-comm, once-filter}
+use Rattle.sign_base.proofs.Truth.{or_left, or_right, or_none}
+use Rattle.sign_base.proofs.Calls.{same_call-eq, same_call-comm, once-filter, absent-leaves}
 
 absent-more : (call last : CallId) (xs : List CallId) → is_among call xs ≡ false → same_call call last ≡ false
     → is_among call (xs ++ last ∷ []) ≡ false
@@ -15,15 +15,6 @@ pub once-more : (call : CallId) (xs : List CallId) → IsOnce xs → is_among ca
     → IsOnce (xs ++ call ∷ [])
 once-more call [] o h = (refl, tt)
 once-more call (x ∷ xs) o h = (absent-more x call xs o.0 (same_call-comm x call ∙ or_left _ _ h), once-more call xs o.1 (or_right _ _ h))
-
--- nothing leaves where the call is not there
-pub absent-leaves : (call : CallId) (xs : List CallId) → is_among call xs ≡ false
-    → filter (λ other. not (same_call other call)) xs ≡ xs
-absent-leaves call [] h = refl
-absent-leaves call (x ∷ xs) h =
-    let s : same_call x call ≡ false = same_call-comm x call ∙ or_left _ _ h in
-    let rest : filter (λ other. not (same_call other call)) xs ≡ xs = absent-leaves call xs (or_right _ _ h) in
-    rw (s, rest) refl
 
 -- the first leaves alone
 first_leaves : (call first : CallId) (xs : List CallId) → IsOnce (first ∷ xs) → same_call first call ≡ true

@@ -1,7 +1,7 @@
 -- How often a place stands in a list of places.
 use Rattle.std.proofs.Common.{◌≡◌, ℕ, ◌+◌, ◌≤◌, List, [], ◌∷◌, ◌++◌, refl, arith}
 use Rattle.wake_lock.specs.Links.{times}
-use Rattle.wake_lock.proofs.Truth.{number_refl}
+use Rattle.sign_base.proofs.Truth.{number_refl}
 
 -- the first place stands there once more
 pub times-here : (p : ℕ) (ps : List ℕ) → times p (p ∷ ps) ≡ 1 + times p ps

@@ -1,7 +1,7 @@
 -- Where the waiters stand after one more came.
 use Rattle.std.proofs.Common.{◌≡◌, ℕ, ◌+◌, ◌-◌, ◌≤◌, ◌<◌, ◌^◌, cond, nat_lt, List, [], ◌∷◌, ◌++◌, Option, Some, None, length, set, refl, sym, ap, subst, ◌∙◌, arith}
 use Rattle.std.proofs.lemmas.List.{length-set, length-append, map-append}
-use Rattle.wake_lock.specs.declared.CallId.{CallId}
+use Rattle.sign_base.specs.declared.call_id.CallId.{CallId}
 use Rattle.wake_lock.specs.declared.slots.Slot.{Slot}
 use Rattle.wake_lock.specs.declared.wait_list.WaitList.TheInside.{Inside}
 use Rattle.wake_lock.specs.Slots.{slot_at}

@@ -1,4 +1,3 @@
-pub mod Calls
 pub mod Links
 pub mod Lock
 pub mod LockCalls

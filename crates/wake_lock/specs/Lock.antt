@@ -1,7 +1,7 @@
 -- A lock with a holder and waiters, in the order in which they came.
 use Rattle.std.specs.Prelude.{◌≡◌, ℕ, Bool, false, List, [], ◌∷◌, Option, Some, None, is_some}
-use Rattle.wake_lock.specs.declared.CallId.{CallId}
-use Rattle.wake_lock.specs.Calls.{same_call, is_among, IsOnce}
+use Rattle.sign_base.specs.declared.call_id.CallId.{CallId}
+use Rattle.sign_base.specs.Calls.{same_call, is_among, IsOnce}
 
 -- the call that holds, the calls that wait, the calls for which there is room, and the slots
 -- in which calls wait or can wait

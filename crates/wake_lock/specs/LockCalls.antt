@@ -1,11 +1,11 @@
 -- What the calls of the lock do, whether their steps are counted or not.
 use Rattle.std.specs.Prelude.{◌≡◌, ◌+◌, ◌-◌, ◌≤◌, ◌++◌, ◌∷◌, [], Some, Option, not, filter, drop, is_some, if◌then◌else◌}
-use Rattle.wake_lock.specs.declared.CallId.{CallId}
+use Rattle.sign_base.specs.declared.call_id.CallId.{CallId}
 use Rattle.wake_lock.specs.declared.lock.Entered.{Entered}
 use Rattle.wake_lock.specs.declared.lock.Entered.TheVariants.{Granted, Queued}
 use Rattle.wake_lock.specs.declared.lock.Left.{Left}
 use Rattle.wake_lock.specs.declared.lock.Left.TheVariants.{Holder, Waiter, Absent}
-use Rattle.wake_lock.specs.Calls.{same_call, first_of, is_among}
+use Rattle.sign_base.specs.Calls.{same_call, first_of, is_among}
 use Rattle.wake_lock.specs.Lock.{Lock, line, is_held_by, IsLock}
 
 -- a call that comes holds the lock, or stands behind all waiters

@@ -2,8 +2,8 @@
 use Rattle.std.specs.Prelude.{◌≡◌, ◌+◌, ◌≤◌, length}
 use Rattle.std.specs.HashMap.{get, spare}
 use Rattle.std.specs.Map.{lookup}
-use Rattle.wake_lock.specs.declared.CallId.{CallId}
-use Rattle.wake_lock.specs.Calls.{same_call}
+use Rattle.sign_base.specs.declared.call_id.CallId.{CallId}
+use Rattle.sign_base.specs.Calls.{same_call}
 use Rattle.wake_lock.specs.Lock.{Lock, IsLock}
 use Rattle.wake_lock.specs.WaitList.{calls_of}
 use Rattle.wake_lock.specs.declared.lock.WaitLock.TheInside.{Inside}

@@ -1,6 +1,6 @@
 -- Calls that wait, each with the place of its slot.
 use Rattle.std.specs.Prelude.{◌≡◌, ℕ, List, [], ◌∷◌, ◌++◌, map, Option, Some, None}
-use Rattle.wake_lock.specs.declared.CallId.{CallId}
+use Rattle.sign_base.specs.declared.call_id.CallId.{CallId}
 
 -- the calls that wait, in order, each with its place; and the number of slots in which nobody waits
 pub record Waiting : Type 0 where

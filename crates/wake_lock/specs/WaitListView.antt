@@ -1,6 +1,6 @@
 -- How a list of waiters stands in its slots.
 use Rattle.std.specs.Prelude.{◌≡◌, ℕ, ◌+◌, ◌<◌, ◌^◌, nat_lt, if◌then◌else◌, List, map, None, length}
-use Rattle.wake_lock.specs.declared.CallId.{CallId}
+use Rattle.sign_base.specs.declared.call_id.CallId.{CallId}
 use Rattle.wake_lock.specs.declared.slots.Slot.{Slot}
 use Rattle.wake_lock.specs.declared.wait_list.WaitList.TheInside.{Inside}
 use Rattle.wake_lock.specs.Slots.{slot_at}

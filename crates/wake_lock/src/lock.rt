@@ -8,7 +8,7 @@
 //! anywhere without a walk along the others. Each call also has a form that counts its steps: one
 //! for each read and each write of a slot. Finding a call in the index is not counted.
 ghost use Rattle.std.specs.Prelude.{◌≡◌, ◌+◌, ◌-◌, ◌<◌, ◌≤◌, ◌++◌, ◌∷◌, [], None, Some, Option, true, false, not, filter, drop, is_some, length, max, IsSome, IsOk, IsTrue, OnOk, OnErr, if◌then◌else◌};
-ghost use Rattle.wake_lock.specs.Calls.{same_call, first_of, is_among};
+ghost use Rattle.sign_base.specs.Calls.{same_call, first_of, is_among};
 ghost use Rattle.wake_lock.specs.Lock.{line, is_held_by, is_in_line, IsLock};
 ghost use Rattle.wake_lock.specs.LockCalls.{Enters, Releases, Cancels};
 

@@ -1,6 +1,6 @@
 //! The calls of the lock for those who count no steps: each opens a count of its own.
 ghost use Rattle.std.specs.Prelude.{◌≡◌, ◌<◌, false, IsSome};
-ghost use Rattle.wake_lock.specs.Calls.{first_of};
+ghost use Rattle.sign_base.specs.Calls.{first_of};
 ghost use Rattle.wake_lock.specs.Lock.{is_in_line};
 ghost use Rattle.wake_lock.specs.LockCalls.{Enters, Releases, Cancels};
 ghost use Rattle.wake_lock.specs.WaitList.{calls_of};

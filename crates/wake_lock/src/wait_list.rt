@@ -3,7 +3,7 @@
 //! waits are linked too, and are used again before a new one is made.
 ghost use Rattle.std.specs.Prelude.{◌≡◌, ◌+◌, ◌<◌, ◌≤◌, ◌++◌, ◌∷◌, [], Option, OnOk, OnErr, length, max};
 ghost use Rattle.std.specs.Option.{ForSome};
-ghost use Rattle.wake_lock.specs.Calls.{first_of};
+ghost use Rattle.sign_base.specs.Calls.{first_of};
 ghost use Rattle.wake_lock.specs.Links.{times, with_after, with_before, end_with};
 ghost use Rattle.wake_lock.specs.WaitList.{calls_of, places_of, first_place, TakesOut};
 

@@ -1,7 +1,8 @@
 //! The system's clock, reader and writer where they fail: the last reading stands, and nothing is
 //! tried again.
 use crate::told::{is_told, shown};
-use sign_base::{Clock, Failed, Sink, Source, StdSink, StdSource, SystemClock};
+use sign_base::{Clock, SystemClock};
+use sign_io::{Failed, Sink, Source, StdSink, StdSource};
 use std::cell::Cell;
 use std::io::{Read, Write};
 use std::time::Duration;
@@ -38,6 +39,11 @@ fn a_clock_that_cannot_be_read_stands(rt: HostRuntime) {
     for second in &[0, 7, 7, 7, 5, 5] {
         assert!(rt; clock.now().as_second() == *second);
     }
+}
+
+#[test]
+fn the_systems_clock_is_past_1970(rt: HostRuntime) {
+    assert!(rt; SystemClock::new(&rt).now().as_second() > 0);
 }
 
 /// A reader and writer whose first call is interrupted, and which has then no fault.
@@ -83,10 +89,10 @@ fn an_interrupted_call_is_not_tried_again(rt: HostRuntime) {
         assert!(rt; source.read(&mut buf) == *answer);
         assert!(rt; sink.write(b"abcd") == *answer);
     }
+    let counted = shown(rt.alloc(), &(source, sink));
     is_told(
         &rt,
-        shown(rt.alloc(), &source),
-        "StdSource { faults: 1, .. }",
+        counted,
+        "(StdSource { faults: 1, .. }, StdSink { faults: 1, .. })",
     );
-    is_told(&rt, shown(rt.alloc(), &sink), "StdSink { faults: 1, .. }");
 }

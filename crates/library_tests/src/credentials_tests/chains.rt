@@ -1,103 +1,82 @@
-//! What a chain answers, and how many of its providers it asks.
-use super::providers::{Asked, Says, chain_of, credential_of};
-use crate::told::is_text;
+//! What a chain answers, how many of its providers it asks, and that it shows none of them.
+use super::providers::{Asked, Says};
+use crate::told::{hides_as, is_told};
 use credentials::{ProvideCredential, ProvideCredentialChain};
+use fixtures::Key;
+use sequential_signer::SigningCredential;
 use std::alloc::Global;
+use std::process::Abort;
 
 type Chain = ProvideCredentialChain<Says>;
 
 type Load = <Chain as ProvideCredential>::Load;
 
-/// What a load of a chain answers at a poll, how many providers there are and whether there are none, and how
-/// many were asked.
+/// A chain of these providers, the first of which is put in front last.
+fn chain_of(alloc: Global, says: &[Says]) -> Option<Chain> {
+    let mut chain = ProvideCredentialChain::new(alloc);
+    for says in says.iter().skip(1) {
+        chain = chain.push(*says).ok()?;
+    }
+    match says.first() {
+        Some(says) => chain.push_front(*says).ok(),
+        None => Some(chain),
+    }
+}
+
+/// What a load of a chain answers at a poll, and how many providers were asked.
 fn polled(alloc: Global, chain: &Chain, ctx: &Asked, load: &mut Load) -> Option<String> {
     let answer = chain.poll_load(alloc, ctx, load);
-    let (length, empty, asked) = (chain.len(), chain.is_empty(), ctx.count.get());
-    format!(in alloc; "{answer:?} of {length}, {empty}, asked {asked}").ok()
+    let asked = ctx.count.get();
+    format!(in alloc; "{answer:?}, asked {asked}").ok()
 }
 
-/// The same of the first poll.
-fn answer(alloc: Global, chain: &Chain) -> Option<String> {
+/// Whether the polls of a load of this chain answer so.
+fn answers(rt: &impl Abort, alloc: Global, chain: &Chain, polls: &[&str]) {
     let ctx = Asked::new();
-    let mut load = chain.provide_credential(alloc, &ctx).ok()?;
-    polled(alloc, chain, &ctx, &mut load)
+    let mut load = chain.provide_credential(alloc, &ctx).expect(rt, "memory");
+    for wanted in polls {
+        is_told(rt, polled(alloc, chain, &ctx, &mut load), *wanted);
+    }
 }
 
-/// The same of the chain of these.
-fn answer_of(alloc: Global, says: &[Says]) -> Option<String> {
-    answer(alloc, &chain_of(alloc, says).ok()?)
-}
-
-/// What the providers say, and what is told.
-const ANSWERS: [(&[Says], &str); 5] = [
+/// What the providers say, and what each poll answers. A chain answers what is found first, asks no provider
+/// behind that, waits for a provider that is pending, and goes on from there.
+const ANSWERS: [(&[Says], &[&str]); 6] = [
     (
         &[Says::Failed, Says::Missing, Says::Found(1), Says::Found(2)],
-        "Ready(Some(1)) of 4, false, asked 3",
+        &["Ready(Some(1)), asked 3"],
     ),
-    (&[], "Ready(None) of 0, true, asked 0"),
+    (&[], &["Ready(None), asked 0"]),
     (
         &[Says::Found(0), Says::Failed, Says::Found(2)],
-        "Ready(Some(0)) of 3, false, asked 1",
+        &["Ready(Some(0)), asked 1"],
     ),
+    (&[Says::Failed, Says::Failed], &["Ready(None), asked 2"]),
+    (&[Says::Missing], &["Ready(None), asked 1"]),
     (
-        &[Says::Failed, Says::Failed],
-        "Ready(None) of 2, false, asked 2",
+        &[Says::Missing, Says::Later(5)],
+        &["Pending, asked 2", "Ready(Some(5)), asked 2"],
     ),
-    (&[Says::Missing], "Ready(None) of 1, false, asked 1"),
 ];
 
 #[test]
 fn chains_answer_their_first_found(rt: HostRuntime) {
-    for (says, wanted) in &ANSWERS {
-        is_text(&rt, answer_of(rt.alloc(), *says), *wanted);
+    for (says, polls) in &ANSWERS {
+        let chain = chain_of(rt.alloc(), *says).expect(&rt, "memory");
+        answers(&rt, rt.alloc(), &chain, *polls);
     }
 }
 
-/// What two polls answer, and how many providers were asked after each.
-const TWO_ANSWERS: [&str; 2] = [
-    "Pending of 2, false, asked 2",
-    "Ready(Some(5)) of 2, false, asked 2",
-];
-
-/// A chain waits for the provider that it asked, and goes on from there.
 #[test]
-fn chains_wait_for_a_pending_provider(rt: HostRuntime) {
-    let chain = chain_of(rt.alloc(), &[Says::Missing, Says::Later(5)]).expect(&rt, "memory");
-    let ctx = Asked::new();
-    let mut load = chain
-        .provide_credential(rt.alloc(), &ctx)
-        .expect(&rt, "memory");
-    for wanted in &TWO_ANSWERS {
-        is_text(&rt, polled(rt.alloc(), &chain, &ctx, &mut load), *wanted);
-    }
+fn a_chain_shows_its_number_of_providers(rt: HostRuntime) {
+    let says = [Says::Found(5551234), Says::Missing];
+    let chain = chain_of(rt.alloc(), &says).expect(&rt, "memory");
+    let wanted = "ProvideCredentialChain { providers_count: 2 }";
+    hides_as(&rt, rt.alloc(), &chain, wanted);
 }
 
-/// A chain of one provider, then with one in front, and then with one behind.
-fn one_in_front_and_one_behind(alloc: Global) -> Option<Chain> {
-    let chain = ProvideCredentialChain::new(alloc)
-        .push(Says::Found(2))
-        .ok()?;
-    let chain = chain.push_front(Says::Found(1)).ok()?;
-    chain.push(Says::Found(3)).ok()
-}
-
-/// Whether the providers of a chain find 1, 2 and 3.
-fn says_in_order(chain: &Chain) -> bool {
-    let mut is_so = true;
-    for (place, says) in &[(0, Some(1)), (1, Some(2)), (2, Some(3)), (3, None)] {
-        is_so &= chain.provider(*place).and_then(credential_of) == *says;
-    }
-    is_so
-}
-
-/// A provider put in front is asked first, and one put behind last.
+/// A credential that may be absent has the name of the type within.
 #[test]
-fn providers_are_put_in_front_and_behind(rt: HostRuntime) {
-    let chain = one_in_front_and_one_behind(rt.alloc()).expect(&rt, "memory");
-    assert!(rt; says_in_order(&chain));
-    is_text(
-        &rt,
-        answer(rt.alloc(), &chain),
-        "Ready(Some(1)) of 3, false, asked 1",
-    );
+fn an_absent_credential_has_a_name(rt: HostRuntime) {
+    assert!(rt; <Option<Key> as SigningCredential>::NAME == "Key");
 }

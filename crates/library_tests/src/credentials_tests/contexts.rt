@@ -1,129 +1,132 @@
-//! What a context answers: what its objects answer, as text where it is asked for text, and a refusal
-//! where an object is not there.
-use super::objects::{ContextOfA, always_a};
-use crate::told::{is_text, is_told, refusal, shown};
+//! What a context answers of its objects: what they answer, as text where it is asked for text, and a
+//! refusal where an object is not there.
+use super::objects::AlwaysA;
+use crate::told::{is_told, shown};
 use bytes::Bytes;
-use credentials::{
-    CommandOutput, Context, NoopCommandExecute, NoopEnv, NoopFileRead, NoopHttpSend, Polled,
-};
+use credentials::{CommandExecute, Context, FileRead, HttpSend, NoopEnv};
 use http::Request;
 use std::alloc::Global;
-use std::process::Abort;
+
+/// What a context is asked for.
+#[derive(Clone, Copy)]
+enum Ask {
+    File,
+    FileAsString(&'static str),
+    Response,
+    ResponseAsString,
+    Command,
+}
+
+fn answer<F: FileRead, H: HttpSend, C: CommandExecute>(
+    alloc: Global,
+    ctx: &Context<F, H, NoopEnv, C>,
+    ask: Ask,
+) -> Option<String> {
+    match ask {
+        Ask::File => file(alloc, ctx),
+        Ask::FileAsString(path) => file_as_string(alloc, ctx, path),
+        Ask::Response => response(alloc, ctx),
+        Ask::ResponseAsString => response_as_string(alloc, ctx),
+        Ask::Command => output(alloc, ctx),
+    }
+}
+
+fn file<F: FileRead, H: HttpSend, C: CommandExecute>(
+    alloc: Global,
+    ctx: &Context<F, H, NoopEnv, C>,
+) -> Option<String> {
+    let mut read = ctx.file_read(alloc, "/a").ok()?;
+    shown(alloc, &ctx.poll_file_read(alloc, &mut read))
+}
+
+fn file_as_string<F: FileRead, H: HttpSend, C: CommandExecute>(
+    alloc: Global,
+    ctx: &Context<F, H, NoopEnv, C>,
+    path: &str,
+) -> Option<String> {
+    let mut read = ctx.file_read(alloc, path).ok()?;
+    shown(alloc, &ctx.poll_file_read_as_string(alloc, &mut read))
+}
 
 fn empty_request(alloc: Global) -> Option<Request<Bytes>> {
     Some(Request::new(alloc, Bytes::copy_from_slice(alloc, b"").ok()?))
 }
 
-/// What a poll that is ready answers.
-fn ready<T: Drop>(polled: Polled<T>) -> Option<T> {
-    match polled {
-        Polled::Ready(answer) => Some(answer),
-        _ => None,
-    }
-}
-
-fn file(alloc: Global, ctx: &ContextOfA) -> Option<String> {
-    let mut read = ctx.file_read(alloc, "/a").ok()?;
-    shown(alloc, &ctx.poll_file_read(alloc, &mut read)).ok()
-}
-
-fn file_as_string(alloc: Global, ctx: &ContextOfA, path: &str) -> Option<String> {
-    let mut read = ctx.file_read(alloc, path).ok()?;
-    shown(alloc, &ctx.poll_file_read_as_string(alloc, &mut read)).ok()
-}
-
-fn response(alloc: Global, ctx: &ContextOfA) -> Option<String> {
+fn response<F: FileRead, H: HttpSend, C: CommandExecute>(
+    alloc: Global,
+    ctx: &Context<F, H, NoopEnv, C>,
+) -> Option<String> {
     let mut send = ctx.http_send(alloc, empty_request(alloc)?).ok()?;
-    let response = ready(ctx.poll_http_send(alloc, &mut send))?;
-    shown(alloc, &response.body().as_slice()).ok()
+    shown(alloc, &ctx.poll_http_send(alloc, &mut send))
 }
 
-fn response_as_string(alloc: Global, ctx: &ContextOfA) -> Option<String> {
+fn response_as_string<F: FileRead, H: HttpSend, C: CommandExecute>(
+    alloc: Global,
+    ctx: &Context<F, H, NoopEnv, C>,
+) -> Option<String> {
     let mut send = ctx.http_send(alloc, empty_request(alloc)?).ok()?;
-    let response = ready(ctx.poll_http_send_as_string(alloc, &mut send))?;
-    shown(alloc, &(response.status().as_u16(), response.body())).ok()
+    shown(alloc, &ctx.poll_http_send_as_string(alloc, &mut send))
 }
 
-/// Whether a command was run with success.
-fn is_run(alloc: Global, ctx: &ContextOfA) -> Option<bool> {
+fn output<F: FileRead, H: HttpSend, C: CommandExecute>(
+    alloc: Global,
+    ctx: &Context<F, H, NoopEnv, C>,
+) -> Option<String> {
     let mut run = ctx.command_execute(alloc, "a", &[]).ok()?;
-    let output = ready(ctx.poll_command(alloc, &mut run))?;
-    Some(output.success())
+    shown(alloc, &ctx.poll_command(alloc, &mut run))
 }
+
+/// What objects answer that answer `a`, but for the file `/empty`.
+static ANSWERS: [(Ask, &str); 6] = [
+    (Ask::File, "Ready([97])"),
+    (Ask::FileAsString("/a"), "Ready(\"a\")"),
+    (Ask::FileAsString("/empty"), "Ready(\"\")"),
+    (
+        Ask::Response,
+        r#"Ready(Response { status: 200, version: HTTP/1.1, headers: {}, body: b"a" })"#,
+    ),
+    (
+        Ask::ResponseAsString,
+        r#"Ready(Response { status: 200, version: HTTP/1.1, headers: {}, body: "a" })"#,
+    ),
+    (
+        Ask::Command,
+        "Ready(CommandOutput(status 0, 1 bytes, 0 bytes of errors))",
+    ),
+];
 
 #[test]
 fn objects_answer(rt: HostRuntime) {
-    let ctx = always_a();
-    is_text(&rt, file(rt.alloc(), &ctx), "Ready([97])");
-    is_text(&rt, file_as_string(rt.alloc(), &ctx, "/a"), "Ready(\"a\")");
-    is_text(
-        &rt,
-        file_as_string(rt.alloc(), &ctx, "/empty"),
-        "Ready(\"\")",
-    );
-    is_text(&rt, response(rt.alloc(), &ctx), "[97]");
-    is_text(&rt, response_as_string(rt.alloc(), &ctx), "(200, \"a\")");
-    assert!(rt; is_run(rt.alloc(), &ctx) == Some(true));
-}
-
-/// A status other than 0 is no success.
-#[test]
-fn a_status_of_0_is_success(rt: HostRuntime) {
-    for (status, success) in &[(0, true), (1, false), (-1, false), (256, false)] {
-        let output = CommandOutput {
-            status: *status,
-            stdout: Vec::new(rt.alloc()),
-            stderr: Vec::new(rt.alloc()),
-        };
-        assert!(rt; output.success() == *success);
+    let ctx = Context::new()
+        .with_file_read(AlwaysA)
+        .with_http_send(AlwaysA)
+        .with_command_execute(AlwaysA);
+    for (ask, wanted) in &ANSWERS {
+        is_told(&rt, answer(rt.alloc(), &ctx, *ask), *wanted);
     }
 }
 
-type EmptyContext = Context<NoopFileRead, NoopHttpSend, NoopEnv, NoopCommandExecute>;
+const NO_FILE: &str =
+    r#"Failed(Error { kind: Unexpected, message: "file reading not supported: no file reader configured", retryable: false })"#;
 
-/// The kind and the message of a poll that failed.
-fn failure<T: Drop>(alloc: Global, polled: Polled<T>) -> Option<String> {
-    match polled {
-        Polled::Failed(error) => refusal(alloc, &error),
-        _ => None,
-    }
-}
-
-fn no_file(alloc: Global, ctx: &EmptyContext) -> Option<String> {
-    let mut read = ctx.file_read(alloc, "/a").ok()?;
-    failure(alloc, ctx.poll_file_read(alloc, &mut read))
-}
-
-fn no_response(alloc: Global, ctx: &EmptyContext) -> Option<String> {
-    let mut send = ctx.http_send(alloc, empty_request(alloc)?).ok()?;
-    failure(alloc, ctx.poll_http_send(alloc, &mut send))
-}
-
-fn no_output(alloc: Global, ctx: &EmptyContext) -> Option<String> {
-    let mut run = ctx.command_execute(alloc, "a", &[]).ok()?;
-    failure(alloc, ctx.poll_command(alloc, &mut run))
-}
-
-/// Whether there is no variable and no home folder.
-fn has_no_environment(rt: &impl Abort, alloc: Global, ctx: &EmptyContext) {
-    is_told(rt, shown(alloc, &ctx.env_var(alloc, "k")), "Ok(None)");
-    is_told(rt, shown(alloc, &ctx.env_vars(alloc)), "Ok({})");
-    is_told(rt, shown(alloc, &ctx.home_dir(alloc)), "Ok(None)");
-}
-
-const NO_FILE: &str = "unexpected error: file reading not supported: no file reader configured";
-
-const NO_RESPONSE: &str = "unexpected error: HTTP sending not supported: no HTTP client configured";
+const NO_RESPONSE: &str =
+    r#"Failed(Error { kind: Unexpected, message: "HTTP sending not supported: no HTTP client configured", retryable: false })"#;
 
 const NO_OUTPUT: &str =
-    "unexpected error: command execution not supported: no command executor configured";
+    r#"Failed(Error { kind: Unexpected, message: "command execution not supported: no command executor configured", retryable: false })"#;
 
-/// Objects that are not there fail at their poll, each with its text, and an environment is empty.
+/// What a context answers that has no objects.
+static REFUSED: [(Ask, &str); 5] = [
+    (Ask::File, NO_FILE),
+    (Ask::FileAsString("/a"), NO_FILE),
+    (Ask::Response, NO_RESPONSE),
+    (Ask::ResponseAsString, NO_RESPONSE),
+    (Ask::Command, NO_OUTPUT),
+];
+
 #[test]
 fn objects_that_are_not_there_fail(rt: HostRuntime) {
-    let ctx = Context::new();
-    is_text(&rt, no_file(rt.alloc(), &ctx), NO_FILE);
-    is_text(&rt, no_response(rt.alloc(), &ctx), NO_RESPONSE);
-    is_text(&rt, no_output(rt.alloc(), &ctx), NO_OUTPUT);
-    has_no_environment(&rt, rt.alloc(), &ctx);
+    for (ask, wanted) in &REFUSED {
+        is_told(&rt, answer(rt.alloc(), &Context::new(), *ask), *wanted);
+    }
 }

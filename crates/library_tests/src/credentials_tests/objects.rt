@@ -2,23 +2,13 @@
 ghost use Rattle.std.specs.Prelude.{⊤};
 
 use bytes::Bytes;
-use credentials::{CommandExecute, CommandOutput, Context, FileRead, HttpSend, NoopEnv, Polled};
+use credentials::{CommandExecute, CommandOutput, FileRead, HttpSend, Polled};
 use http::{Request, Response};
 use sign_base::NoMemory;
 use std::alloc::Global;
 
 #[derive(Clone, Copy)]
 pub(crate) struct AlwaysA;
-
-/// A context of these objects.
-pub(crate) type ContextOfA = Context<AlwaysA, AlwaysA, NoopEnv, AlwaysA>;
-
-pub(crate) fn always_a() -> ContextOfA {
-    Context::new()
-        .with_file_read(AlwaysA)
-        .with_http_send(AlwaysA)
-        .with_command_execute(AlwaysA)
-}
 
 impl FileRead for AlwaysA {
     /// Whether the file is empty.

@@ -1,6 +1,6 @@
 //! Pairs, sorted and joined.
 use crate::pairs::{Pairs, owned};
-use crate::told::is_text;
+use crate::told::is_told;
 use sign_request::SigningRequest;
 use std::alloc::Global;
 
@@ -35,6 +35,6 @@ static JOINED: [(Pairs<'static>, Joined, &str); 3] = [
 #[test]
 fn pairs_are_sorted_and_joined(rt: HostRuntime) {
     for (texts, how, wanted) in &JOINED {
-        is_text(&rt, sorted(rt.alloc(), *texts, *how), *wanted);
+        is_told(&rt, sorted(rt.alloc(), *texts, *how), *wanted);
     }
 }

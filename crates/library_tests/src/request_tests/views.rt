@@ -1,56 +1,50 @@
-//! The view of a head: its parts, its query and its path.
-use super::view;
-use crate::told::{is_text, is_told, shown};
-use sign_request::{SigningMethod, SigningRequest};
+//! The view of a head: how it prints, and that each call on it succeeds or is refused.
+use super::parts;
+use crate::told::{is_told, shown};
+use fixtures::Headers;
+use http::header::{HeaderName, HeaderValue};
+use http::request::Parts;
+use sign_request::SigningRequest;
 use std::alloc::Global;
 use std::cell::Cell;
-use std::mem;
-use std::time::Duration;
 
-/// A target whose query has escapes, equal names, and pairs with no name and with no value.
-const TARGET: &str =
-    "https://example.com/object%2Fname?slash=%2F&hash=%23&amp=%26&equals=%3D&space=%20&encoded-plus=%2B&literal-plus=+&double=%252F&dup=first&dup=second&=empty-key&empty=&flag&flag=&";
-
-const VIEW: &str =
-    r##"SigningRequest { method: GET, scheme: "https", authority: example.com, path: "/object%2Fname", query: [("slash", "/"), ("hash", "#"), ("amp", "&"), ("equals", "="), ("space", " "), ("encoded-plus", "+"), ("literal-plus", "+"), ("double", "%2F"), ("dup", "first"), ("dup", "second"), ("", "empty-key"), ("empty", ""), ("flag", ""), ("flag", "")], headers: {"x-original": " value "} }"##;
-
-#[test]
-fn a_view_shows_its_head(rt: HostRuntime) {
-    let view = view(rt.alloc(), TARGET, &[("x-original", b" value ")]).expect(&rt, "memory");
-    is_told(&rt, shown(rt.alloc(), &view), VIEW);
-    assert!(rt; view.query_size() == Some(102));
+/// What a view is asked for.
+#[derive(Clone, Copy)]
+enum Ask {
+    Itself,
+    Path,
+    Names,
+    Value(&'static [u8]),
+    WithPrefix(&'static str),
+    Filtered(&'static str),
 }
 
-fn query_text(alloc: Global, uri: &str) -> Option<String> {
-    let mut view = view(alloc, uri, &[])?;
-    let query = mem::replace(&mut view.query, Vec::new(alloc));
-    SigningRequest::query_to_string(alloc, query, "=", "&").ok()
-}
-
-/// Queries, and the text that each is read as.
-static QUERIES: [(&str, &str); 8] = [
-    (
-        TARGET,
-        "=empty-key&amp=&&double=%2F&dup=first&dup=second&empty&encoded-plus=+&equals==&flag&flag&hash=#&literal-plus=+&slash=/&space= ",
-    ),
-    ("https://e.x/?%zz=%&%4", "%4&%zz=%"),
-    ("https://e.x/?%80=a%E2%82", "\u{FFFD}=a\u{FFFD}"),
-    ("https://e.x/?=", ""),
-    ("https://e.x/?=&=", "&"),
-    ("https://e.x/?", ""),
-    ("https://e.x/?&b=&a=b=c&&", "a=b=c&b"),
-    ("https://e.x/?k=%C3%A9+%2541", "k=é+%41"),
-];
-
-#[test]
-fn queries_read_as_they_are_written(rt: HostRuntime) {
-    for (uri, wanted) in &QUERIES {
-        is_text(&rt, query_text(rt.alloc(), *uri), *wanted);
+fn answer(alloc: Global, view: &mut SigningRequest, ask: Ask) -> Option<String> {
+    match ask {
+        Ask::Itself => shown(alloc, view),
+        Ask::Path => path(alloc, view),
+        Ask::Names => shown(alloc, &view.header_name_to_vec_sorted()),
+        Ask::Value(name) => value(alloc, view, name),
+        Ask::WithPrefix(prefix) => shown(alloc, &view.header_to_vec_with_prefix(prefix)),
+        Ask::Filtered(text) => {
+            view.query_append(text).ok()?;
+            filtered(alloc, view)
+        }
     }
 }
 
-/// The query, its size, what passes a filter of it, and the digits that the filter was asked for as keys, in
-/// one number.
+fn path(alloc: Global, view: &SigningRequest) -> Option<String> {
+    let path = view.path_percent_decoded().ok()?;
+    path.into_owned(alloc).ok()
+}
+
+fn value(alloc: Global, view: &SigningRequest, name: &[u8]) -> Option<String> {
+    let name = HeaderName::from_bytes(alloc, name).ok()?;
+    shown(alloc, &view.header_get_or_default(&name))
+}
+
+/// The size of the query, what passes a filter of it, and the digits that the filter was asked for as keys,
+/// in one number.
 fn filtered(alloc: Global, view: &SigningRequest) -> Option<String> {
     let asked = Cell::new(0u32);
     let kept = view.query_to_vec_with_filter(|key| {
@@ -58,73 +52,126 @@ fn filtered(alloc: Global, view: &SigningRequest) -> Option<String> {
         asked.set(asked.get().wrapping_mul(10).wrapping_add(u32::from(digit)));
         digit == 2
     });
-    shown(alloc, &(&view.query, view.query_size(), kept, asked.get())).ok()
+    shown(alloc, &(view.query_size(), kept, asked.get()))
 }
 
-/// What `filtered` shows of a query with one text appended.
-fn append(alloc: Global, view: &mut SigningRequest, text: &str) -> Option<String> {
-    view.query_append(text).ok()?;
-    filtered(alloc, view)
+/// The view of a head, boxed as the head is.
+fn view(alloc: Global, uri: &str, headers: Headers<'_>) -> Option<Box<SigningRequest>> {
+    let parts = parts(alloc, uri, headers)?;
+    let view = SigningRequest::build(alloc, &*parts).ok()?;
+    Box::new(alloc, view).ok()
 }
 
-fn appended(alloc: Global, uri: &str, text: &str) -> Option<String> {
-    let mut view = view(alloc, uri, &[])?;
-    append(alloc, &mut view, text)
+fn answer_of(alloc: Global, uri: &str, headers: Headers<'_>, ask: Ask) -> Option<String> {
+    let mut view = view(alloc, uri, headers)?;
+    answer(alloc, &mut *view, ask)
 }
 
-/// A query, what is appended to it, and what is shown. The filter is asked once for each key, in order.
-static APPENDED: [(&str, &str, &str); 3] = [
+const NAMES: Headers<'static> = &[("x-a", b"1"), ("Host", b"h"), ("X-B", b"2")];
+
+const ODD: Headers<'static> = &[("x-a", b"1"), ("x-b", b"\xff")];
+
+const INVALID: &str =
+    r#"Err(Error { kind: RequestInvalid, message: "invalid header value", retryable: false })"#;
+
+/// A target, headers, what their view is asked for, and what it answers. A filter is asked once for each key,
+/// in order.
+static ANSWERS: [(&str, Headers<'static>, Ask, &str); 9] = [
+    (
+        "https://e.x/a%2Fb?c=%2F&=d&e",
+        &[("x", b" v ")],
+        Ask::Itself,
+        r#"SigningRequest { method: GET, scheme: "https", authority: e.x, path: "/a%2Fb", query: [("c", "/"), ("", "d"), ("e", "")], headers: {"x": " v "} }"#,
+    ),
+    ("https://e.x/a%252Fb", &[], Ask::Path, "/a%2Fb"),
     (
         "https://e.x/",
-        "2",
-        r#"([("2", "")], Some(1), Ok([("2", "")]), 2)"#,
+        NAMES,
+        Ask::Names,
+        r#"Ok(["host", "x-a", "x-b"])"#,
     ),
-    ("https://e.x/", "1", r#"([("1", "")], Some(1), Ok([]), 1)"#),
+    ("https://e.x/", NAMES, Ask::Value(b"host"), r#"Ok("h")"#),
+    ("https://e.x/", ODD, Ask::Value(b"x-b"), INVALID),
+    (
+        "https://e.x/",
+        NAMES,
+        Ask::WithPrefix("x-"),
+        r#"Ok([("x-a", "1"), ("x-b", "2")])"#,
+    ),
+    ("https://e.x/", ODD, Ask::WithPrefix("x-"), INVALID),
+    (
+        "https://e.x/",
+        &[],
+        Ask::Filtered("2"),
+        r#"(Some(1), Ok([("2", "")]), 2)"#,
+    ),
     (
         "https://e.x/?2=a&1=b&2=c",
-        "3",
-        r#"([("2", "a"), ("1", "b"), ("2", "c"), ("3", "")], Some(7), Ok([("2", "a"), ("2", "c")]), 2123)"#,
+        &[],
+        Ask::Filtered("3"),
+        r#"(Some(7), Ok([("2", "a"), ("2", "c")]), 2123)"#,
     ),
 ];
 
 #[test]
-fn a_query_is_appended_to_and_filtered(rt: HostRuntime) {
-    for (uri, text, wanted) in &APPENDED {
-        is_text(&rt, appended(rt.alloc(), *uri, *text), *wanted);
+fn a_view_answers(rt: HostRuntime) {
+    for (uri, headers, ask, wanted) in &ANSWERS {
+        is_told(&rt, answer_of(rt.alloc(), *uri, *headers, *ask), *wanted);
     }
 }
 
-fn decoded_path(alloc: Global, uri: &str) -> Option<String> {
-    let view = view(alloc, uri, &[])?;
-    path_text(alloc, &view)
+/// What `apply` answers to a head.
+fn applied_to(alloc: Global, view: Box<SigningRequest>, head: &mut Parts) -> Option<String> {
+    shown(alloc, &Box::into_inner(view).apply(head))
 }
 
-fn path_text(alloc: Global, view: &SigningRequest) -> Option<String> {
-    let path = view.path_percent_decoded().ok()?;
-    path.into_owned(alloc).ok()
+/// What `apply` answers to a view to whose query a pair was pushed or not, and to a head.
+fn applied(alloc: Global, pushed: bool, target: &str) -> Option<String> {
+    let mut view = view(alloc, "https://e.x/a?b", &[])?;
+    if pushed {
+        view.query_push("auth", "value").ok()?;
+    }
+    let mut head = parts(alloc, target, &[])?;
+    applied_to(alloc, view, &mut *head)
+}
+
+const MODIFIED: &str =
+    r#"Err(Error { kind: RequestInvalid, message: "signing request method or URI working view was modified", retryable: false })"#;
+
+const NO_AUTHORITY: &str =
+    r#"Err(Error { kind: RequestInvalid, message: "request without authority is invalid for signing", retryable: false })"#;
+
+/// Whether a view was changed, the target that it is applied to, and what is answered.
+static APPLIED: [(bool, &str, &str); 3] = [
+    (false, "HTTPS://E.X/a?%62", "Ok(())"),
+    (true, "https://e.x/a?b", MODIFIED),
+    (false, "/a", NO_AUTHORITY),
+];
+
+#[test]
+fn a_view_is_applied_where_it_fits(rt: HostRuntime) {
+    for (pushed, target, wanted) in &APPLIED {
+        is_told(&rt, applied(rt.alloc(), *pushed, *target), *wanted);
+    }
+}
+
+fn unviewed(alloc: Global) -> Option<String> {
+    let parts = parts(alloc, "*", &[])?;
+    shown(alloc, &SigningRequest::build(alloc, &*parts))
 }
 
 #[test]
-fn paths_are_decoded_once(rt: HostRuntime) {
-    for (uri, path) in &[
-        ("https://e.x/object%2Fname", "/object/name"),
-        ("https://e.x/a%2Fb", "/a/b"),
-        ("https://e.x/a%252Fb", "/a%2Fb"),
-    ] {
-        is_text(&rt, decoded_path(rt.alloc(), *uri), *path);
-    }
+fn a_head_without_authority_has_no_view(rt: HostRuntime) {
+    is_told(&rt, unviewed(rt.alloc()), NO_AUTHORITY);
+}
+
+fn trimmed(alloc: Global, value: &str) -> Option<String> {
+    let mut value = HeaderValue::from_str(alloc, value).ok()?;
+    SigningRequest::header_value_normalize(&mut value).ok()?;
+    shown(alloc, &value)
 }
 
 #[test]
-fn places_are_compared_and_copied(rt: HostRuntime) {
-    let place = SigningMethod::Query(Duration::from_secs(60));
-    let copy = place;
-    for (other, is_header, is_place) in [
-        (SigningMethod::Header, true, false),
-        (SigningMethod::Query(Duration::from_secs(60)), false, true),
-        (SigningMethod::Query(Duration::from_secs(61)), false, false),
-    ] {
-        assert!(rt; (other == SigningMethod::Header) == is_header);
-        assert!(rt; (other == place) == is_place && (copy == other) == is_place);
-    }
+fn values_are_trimmed(rt: HostRuntime) {
+    is_told(&rt, trimmed(rt.alloc(), "  a b "), "\"a b\"");
 }

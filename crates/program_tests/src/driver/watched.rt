@@ -2,9 +2,9 @@
 //! sink that may fail. Both count their calls. What they count as faults stands at its greatest
 //! number, so any call may fail.
 ghost use Rattle.std.specs.Prelude.{None};
-ghost use Rattle.sign_base.specs.Faults.{last_count};
+ghost use Rattle.sign_io.specs.Faults.{last_count};
 
-use sign_base::{Failed, Sink, Source};
+use sign_io::{Failed, Sink, Source};
 use std::sync::atomic::{AtomicU64, Ordering};
 
 /// Bytes in pieces, a read that fails, and how many bytes are to stand in the sink where so many were

@@ -1,11 +1,10 @@
 //! The calls of a round, and those of them that were signed.
 ghost use Rattle.std.specs.Prelude.{◌≡◌, ◌≤◌, ◌<◌, ◌*◌, IfOk, filter};
-ghost use Rattle.wake_lock.specs.Calls.{is_among};
+ghost use Rattle.sign_base.specs.Calls.{is_among};
 ghost use Rattle.signctl_script.specs.LoadRound.{calls_in_round};
 
-use sign_base::NoMemory;
+use sign_base::{CallId, NoMemory};
 use std::alloc::Global;
-use wake_lock::CallId;
 
 /// The calls of a round, out of so many.
 pub(crate) fn calls_in_round(

@@ -1,6 +1,6 @@
 //! How often each kind of reply came.
 ghost use Rattle.std.specs.Prelude.{◌≡◌, ◌++◌, ◌∷◌, [], OnOk, decimal};
-ghost use Rattle.sign_base.specs.Faults.{one_more};
+ghost use Rattle.sign_io.specs.Faults.{one_more};
 ghost use Rattle.signctl_format.specs.Words.{spaced_words};
 ghost use Rattle.signctl_format.specs.Lines.{with_newline};
 ghost use Rattle.signctl_script.specs.Load.{counts_of, counts_line};

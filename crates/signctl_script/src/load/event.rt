@@ -4,10 +4,9 @@ ghost use Rattle.signctl_format.specs.Moments.{nanos_of_second};
 ghost use Rattle.signctl_script.specs.LoadRound.{moment_in_round, load_head, accepted_head, load_credential, begin_event, poll_event, found_event, accepted_event};
 
 use sequential_signer::{Answer, Event, Verdict};
-use sign_base::{Field, Fields, Head, NoMemory, Octets, Timestamp, Version};
+use sign_base::{CallId, Field, Fields, Head, NoMemory, Octets, Timestamp, Version};
 use signctl_format::ScriptCredential;
 use std::alloc::Global;
-use wake_lock::CallId;
 
 pub(crate) fn begin_event(
     alloc: Global,

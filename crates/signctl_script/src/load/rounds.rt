@@ -16,11 +16,10 @@ use super::calls::{calls_in_round, signed_among};
 use super::counts::Counts;
 use super::event::{accepted_event, begin_event, found_event, poll_event};
 use sequential_signer::{Event, Loader, Reply};
-use sign_base::NoMemory;
+use sign_base::{CallId, NoMemory};
 use sign_desk::Desk;
 use signctl_format::{ScriptCredential, ScriptRule};
 use std::alloc::Global;
-use wake_lock::CallId;
 
 /// A desk with one handle, the counts of its replies, and the calls of this round that were answered `Sign`.
 #[derive(Drop)]

@@ -2,7 +2,7 @@ use Rattle.std.proofs.Common.{◌≡◌, ◌<◌, ◌↔◌, ℕ, List, Option, 
 use Rattle.std.specs.declared.time.Duration.{Duration}
 use Rattle.std.proofs.lemmas.Option.{slice_get_within}
 use Rattle.sign_base.specs.declared.head.Head.{Head}
-use Rattle.wake_lock.specs.declared.CallId.{CallId}
+use Rattle.sign_base.specs.declared.call_id.CallId.{CallId}
 use Rattle.sequential_signer.specs.declared.event.Entry.{Entry}
 use Rattle.sign_pool.specs.Notes.{AreBegins, AreBeginsWith, IsBeginWith}
 use Rattle.sign_pool.specs.declared.notes.Begins.{Begins}

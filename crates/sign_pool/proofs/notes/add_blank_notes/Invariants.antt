@@ -1,6 +1,6 @@
 use Rattle.std.proofs.Common.{take}
 use Rattle.std.specs.Prelude.{IsSome}
-use Rattle.wake_lock.specs.declared.CallId.{CallId}
+use Rattle.sign_base.specs.declared.call_id.CallId.{CallId}
 use Rattle.sign_pool.specs.Notes.{AreBlank, HaveNotes, note_of}
 use Rattle.sign_pool.proofs.notes.add_blank_notes.Given as goal
 

@@ -6,7 +6,7 @@ use Rattle.std.proofs.lemmas.Option.{none-some}
 use Rattle.sequential_signer.specs.Transcript.{call_of}
 use Rattle.sequential_signer.specs.declared.event.Entry.{Entry}
 use Rattle.signer_book.proofs.Receipts.{some-at}
-use Rattle.wake_lock.specs.declared.CallId.{CallId}
+use Rattle.sign_base.specs.declared.call_id.CallId.{CallId}
 use Rattle.sign_pool.specs.Notes.{IsNoteOf, blank_note, note_of}
 use Rattle.sign_pool.specs.declared.notes.CallNote.{CallNote}
 use Rattle.sign_pool.proofs.CallNotes.{blank-read, kept-more, noted-there, notes-after, notes-same, since-ok, none-other}

@@ -1,6 +1,6 @@
 use Rattle.std.proofs.Common.{sym, ap, ◌∙◌}
-use Rattle.wake_lock.specs.declared.CallId.{CallId}
-use Rattle.wake_lock.specs.Calls.{first_of}
+use Rattle.sign_base.specs.declared.call_id.CallId.{CallId}
+use Rattle.sign_base.specs.Calls.{first_of}
 use Rattle.sequential_signer.specs.Transcript.{committed_entries}
 use Rattle.desk_parts.specs.Tables.{setup_of}
 use Rattle.sign_audit.specs.Blockers.{blockers_of}

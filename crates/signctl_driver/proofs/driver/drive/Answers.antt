@@ -1,7 +1,7 @@
 use Rattle.std.proofs.Common.{inl, ◌≡◌, true, [], refl, sym, ap, ◌∙◌, arith}
 use Rattle.std.proofs.KnownBytes.{Appends-nil, Consumes-nil}
-use Rattle.sign_base.specs.LineReader.{is_fault}
-use Rattle.sign_base.specs.Next.{answer_of}
+use Rattle.sign_io.specs.LineReader.{is_fault}
+use Rattle.sign_io.specs.Next.{answer_of}
 use Rattle.signctl_driver.proofs.RunSteps.{state-first, state-wrote, stops-writing, stops-taking, state-line, items-few, line-fits, line-hands_out, ends-after, finishes}
 use Rattle.signctl_driver.proofs.RunFaults.{good-no_fault, turn-no_write_fault, turn-fault, turn-nothing, needs-fault, counts-answer, counts-same, counts-none, finish-fault, nothing-waits, where-ok}
 use Rattle.signctl_driver.proofs.driver.drive.Goals as goal

@@ -1,5 +1,5 @@
 use Rattle.std.proofs.Common.{◌≡◌, ◌-◌}
-use Rattle.sign_base.specs.Lines.{input_limit}
+use Rattle.sign_io.specs.Lines.{input_limit}
 use Rattle.signctl_driver.proofs.RunState.{streams_of, RunState}
 use Rattle.signctl_driver.proofs.driver.drive.Given as goal
 

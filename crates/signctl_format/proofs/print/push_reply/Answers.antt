@@ -1,6 +1,6 @@
 use Rattle.std.proofs.Common.{◌≡◌, ◌++◌, ◌∷◌, ℕ, List, Option}
 use Rattle.std.proofs.lemmas.Grind.{flat_map-append}
-use Rattle.wake_lock.specs.declared.CallId.{CallId}
+use Rattle.sign_base.specs.declared.call_id.CallId.{CallId}
 use Rattle.sequential_signer.specs.declared.event.Why.{Why}
 use Rattle.signctl_format.specs.Lines.{wake_words, why_words}
 use Rattle.std.proofs.lemmas.Result.{on_ok_weaker, on_err_weaker}

@@ -1,5 +1,5 @@
 use Rattle.std.proofs.Common.{◌≡◌, ◌+◌, ◌*◌, ◌^◌, ◌≤◌, take}
-use Rattle.sign_base.specs.MomentRead.{number_of}
+use Rattle.sign_time.specs.MomentRead.{number_of}
 use Rattle.sigv4_presign.proofs.link_date.number_of.Given as goal
 
 -- the value of the digits so far; a byte counts for 207 at most

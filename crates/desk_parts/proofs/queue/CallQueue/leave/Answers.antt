@@ -1,5 +1,5 @@
 use Rattle.std.proofs.Common.{◌∙◌, ap}
-use Rattle.wake_lock.specs.Calls.{is_among}
+use Rattle.sign_base.specs.Calls.{is_among}
 use Rattle.desk_parts.specs.Queue.{Queue, next_holder}
 use Rattle.desk_parts.specs.QueueView.{next_of_left}
 use Rattle.desk_parts.proofs.Leaves.{leave-wakes}

@@ -1,5 +1,5 @@
 use Rattle.std.proofs.Common.{◌∙◌, ap, sym, subst, List, [], Option, ◌<◌, length, slice_index_or}
-use Rattle.wake_lock.specs.declared.CallId.{CallId}
+use Rattle.sign_base.specs.declared.call_id.CallId.{CallId}
 use Rattle.sequential_signer.specs.Policy.{policy_of}
 use Rattle.desk_parts.specs.Tables.{setup_of}
 use Rattle.desk_parts.specs.declared.call_record.Stage.{Stage}

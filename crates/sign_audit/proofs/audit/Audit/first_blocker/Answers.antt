@@ -1,5 +1,5 @@
 use Rattle.std.proofs.Common.{◌≡◌, ◌∙◌, ap, sym}
-use Rattle.wake_lock.specs.Calls.{first_of}
+use Rattle.sign_base.specs.Calls.{first_of}
 use Rattle.sequential_signer.specs.Policy.{policy_of}
 use Rattle.desk_parts.specs.Queue.{line_at}
 use Rattle.sign_audit.specs.AuditState.{AuditState}

@@ -1,6 +1,6 @@
 use Rattle.std.proofs.Common.{◌++◌, List, ◌∙◌, ap, sym}
 use Rattle.std.specs.Map.{keys_of}
-use Rattle.wake_lock.specs.declared.CallId.{CallId}
+use Rattle.sign_base.specs.declared.call_id.CallId.{CallId}
 use Rattle.sequential_signer.specs.Turn.{before_call}
 use Rattle.sign_audit.proofs.LineEntries.{stops, goes_on, ends}
 use Rattle.sign_audit.proofs.line.Line.before.Goals as goal

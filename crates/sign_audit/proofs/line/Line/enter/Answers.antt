@@ -1,7 +1,7 @@
 use Rattle.std.proofs.Common.{◌≡◌, ◌<◌, ◌^◌, List, ◌∷◌, ◌++◌, [], false, ◌∙◌, ap, subst}
 use Rattle.std.specs.Map.{keys_of}
-use Rattle.wake_lock.specs.declared.CallId.{CallId}
-use Rattle.wake_lock.specs.Calls.{same_call, is_among}
+use Rattle.sign_base.specs.declared.call_id.CallId.{CallId}
+use Rattle.sign_base.specs.Calls.{same_call, is_among}
 use Rattle.lru.specs.LruCache.{LruCache, demoted}
 use Rattle.sign_audit.proofs.LineEntries.{entered}
 use Rattle.sign_audit.proofs.line.Line.enter.Goals as goal

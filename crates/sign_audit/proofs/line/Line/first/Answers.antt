@@ -1,6 +1,6 @@
 use Rattle.std.proofs.Common.{◌∙◌, ap, sym, option_map}
-use Rattle.wake_lock.specs.declared.CallId.{CallId}
-use Rattle.wake_lock.specs.Calls.{first_of}
+use Rattle.sign_base.specs.declared.call_id.CallId.{CallId}
+use Rattle.sign_base.specs.Calls.{first_of}
 use Rattle.sign_audit.proofs.LineEntries.{first-key}
 use Rattle.sign_audit.proofs.line.Line.first.Goals as goal
 

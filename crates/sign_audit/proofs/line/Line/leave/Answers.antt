@@ -1,7 +1,7 @@
 use Rattle.std.proofs.Common.{List, not, filter, ◌∙◌, ap}
 use Rattle.std.specs.Map.{keys_of}
-use Rattle.wake_lock.specs.declared.CallId.{CallId}
-use Rattle.wake_lock.specs.Calls.{same_call}
+use Rattle.sign_base.specs.declared.call_id.CallId.{CallId}
+use Rattle.sign_base.specs.Calls.{same_call}
 use Rattle.lru.specs.LruCache.{LruCache}
 use Rattle.sign_audit.proofs.LineEntries.{left}
 use Rattle.sign_audit.proofs.line.Line.leave.Goals as goal

@@ -1,5 +1,5 @@
 use Rattle.std.proofs.Common.{◌≡◌, ◌++◌, ◌∷◌, [], ◌∙◌, ap, sym, length, ◌<◌, List, inl, inr, Result, Ok, Err, OnOk}
-use Rattle.wake_lock.specs.declared.CallId.{CallId}
+use Rattle.sign_base.specs.declared.call_id.CallId.{CallId}
 use Rattle.desk_parts.proofs.ChangedAt.{write-changed}
 use Rattle.sign_audit.specs.LineChange.{changed_line, changed_lines, change_before}
 use Rattle.sign_audit.specs.declared.line_change.LineChange.{LineChange}

@@ -1,6 +1,6 @@
 use Rattle.std.proofs.Common.{◌++◌, ◌∷◌, [], List, ◌∙◌, ap, replicate}
 use Rattle.std.proofs.lemmas.List.{replicate_more}
-use Rattle.wake_lock.specs.declared.CallId.{CallId}
+use Rattle.sign_base.specs.declared.call_id.CallId.{CallId}
 use Rattle.sign_audit.proofs.lines.Lines.new.Goals as goal
 
 pub loop-init : goal.loop-init

@@ -1,5 +1,5 @@
 use Rattle.std.proofs.Common.{◌∙◌}
-use Rattle.sign_pool.proofs.Finishing.{calls-own, noted-own, index-own}
+use Rattle.sign_pool.proofs.Finishing.{as-many, few-passes, calls-own, noted-own, index-own}
 use Rattle.sign_pool.proofs.pool.Pool.finish_in.Goals as goal
 
 pub finish_cause-requires-clause-index : goal.finish_cause-requires-clause-index
@@ -35,6 +35,49 @@ returns-in-Some-clause-uncleared g c =
       c.in-Some.ensures,
       record {
         passes_are = closed.passes ∙ handed.passes;
+        answers_are = handed.answers;
+        left_are = c.take_rest-left.ensures;
+        submitted_are = c.hand_out_submitters-submitted.ensures;
+      },
+    )
+
+pub finish_cause-requires-clause-settled : goal.finish_cause-requires-clause-settled
+finish_cause-requires-clause-settled g c = c.in-Ok.ensures.settled
+
+pub finish_cause-requires-clause-few : goal.finish_cause-requires-clause-few
+finish_cause-requires-clause-few g c =
+    few-passes c.args.workers.items c.in-Ok.settled.passes.items (c.in-Ok.ensures.passes ∙ c.hand_out_workers-passes.ensures.passes) c.args.self.workers c.requires.seats.all_workers c.args.self.few
+
+pub finish_cause-requires-clause-count : goal.finish_cause-requires-clause-count
+finish_cause-requires-clause-count g c =
+    let handed = c.hand_out_workers-passes.ensures in
+    as-many c.args.workers.items c.in-Ok.settled.passes.items (c.in-Ok.ensures.passes ∙ handed.passes) c.hand_out_workers-passes.result.1.items handed.answers
+
+pub returns-in-None-clause-cleared : goal.returns-in-None-clause-cleared
+returns-in-None-clause-cleared g c = c.in-None.ensures.0
+
+pub returns-in-None-clause-answers : goal.returns-in-None-clause-answers
+returns-in-None-clause-answers g c = c.in-None.ensures.1
+
+pub returns-in-None-clause-values : goal.returns-in-None-clause-values
+returns-in-None-clause-values g c =
+    let handed = c.hand_out_workers-passes.ensures in
+    record {
+      passes_are = c.in-Ok.ensures.passes ∙ handed.passes;
+      answers_are = handed.answers;
+      left_are = c.take_rest-left.ensures;
+      submitted_are = c.hand_out_submitters-submitted.ensures;
+    }
+
+pub returns-in-Err-clause-close : goal.returns-in-Err-clause-close
+returns-in-Err-clause-close g c =
+    let handed = c.hand_out_workers-passes.ensures in
+    let back = c.in-Err.ensures.back in (
+      back.0,
+      back.2,
+      c.in-Err.ensures.why,
+      record {
+        passes_are = back.1 ∙ handed.passes;
         answers_are = handed.answers;
         left_are = c.take_rest-left.ensures;
         submitted_are = c.hand_out_submitters-submitted.ensures;

@@ -1,4 +1,4 @@
-use Rattle.std.proofs.Common.{rules, ◌≡◌, ℕ, ◌+◌, List, ◌∷◌, ◌++◌, [], refl, ap, subst, length}
+use Rattle.std.proofs.Common.{rules, ◌≡◌, ℕ, ◌+◌, List, ◌∷◌, ◌++◌, [], refl, sym, ap, subst, length, ◌<◌, vec_capacity}
 use Rattle.signer_shared.specs.Serving.{IsServing}
 use Rattle.sign_pool.specs.Work.{job_of}
 use Rattle.sign_pool.specs.declared.answer.Answer.{Answer}
@@ -39,3 +39,6 @@ returns-clause-serves g c =
           c.push_reserved.ensures.items s.1 c.receipts.ensures (ap length c.receipts-before.ensures) refl
           c.answer_of-last.ensures.last c.answer_of-last.ensures.outcome;
     }
+
+pub push_reserved-requires : goal.push_reserved-requires
+push_reserved-requires g c = subst (λ (n : ℕ). n < vec_capacity c.args.seat.now.answers) (sym c.args.seat.now.answers.ok.0) c.requires

@@ -1,5 +1,5 @@
 use Rattle.std.proofs.Common.{◌≤◌, length, ◌∙◌, arith}
-use Rattle.sign_base.specs.Lines.{input_limit}
+use Rattle.sign_io.specs.Lines.{input_limit}
 use Rattle.signctl_audit.specs.Account.{Account, account_of}
 use Rattle.signctl_audit.proofs.Accounts.{entries-few}
 use Rattle.signctl_audit.proofs.ClaimChecks.{counts-are, stepped-few}

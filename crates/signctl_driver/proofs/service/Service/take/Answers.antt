@@ -1,6 +1,6 @@
 use Rattle.std.proofs.Common.{◌≡◌, ◌+◌, false, length, ap, ◌∙◌, [], sym, append-nil}
-use Rattle.sign_base.specs.LineReader.{is_fault}
-use Rattle.sign_base.specs.Next.{answer_of}
+use Rattle.sign_io.specs.LineReader.{is_fault}
+use Rattle.sign_io.specs.Next.{answer_of}
 use Rattle.signctl_driver.specs.LineOutcome.{Good, line_outcome_by, line_outcome}
 use Rattle.signctl_driver.specs.LinesRead.{too_long_line}
 use Rattle.signctl_driver.proofs.Refusing.{line-ends, refused-ends, refused-stops}

@@ -1,6 +1,6 @@
 use Rattle.std.proofs.Common.{◌++◌, ◌∷◌, [], List, sym, ap, ◌∙◌}
 use Rattle.std.proofs.lemmas.List.{append-nil}
-use Rattle.wake_lock.specs.declared.CallId.{CallId}
+use Rattle.sign_base.specs.declared.call_id.CallId.{CallId}
 use Rattle.signctl_script.proofs.LoadSteps.{signed_calls-one, signed_calls-other}
 use Rattle.signctl_script.proofs.load.rounds.note_signed.Goals as goal
 

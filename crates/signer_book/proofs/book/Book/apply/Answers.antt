@@ -12,13 +12,13 @@ use Rattle.sign_desk.specs.LiveCount.{LiveAfter}
 use Rattle.sign_desk.specs.ReplyKinds.{is_reply_to}
 use Rattle.signer_book.specs.BookState.{BookState}
 use Rattle.signer_book.specs.declared.pass.Receipt.{Receipt}
-use Rattle.wake_lock.specs.declared.CallId.{CallId}
+use Rattle.sign_base.specs.declared.call_id.CallId.{CallId}
 use Rattle.sequential_signer.specs.Legal.{IsLegalEntry}
 use Rattle.sequential_signer.specs.declared.event.Event.{Event}
 use Rattle.desk_parts.specs.LiveCallView.{find_view}
 use Rattle.signer_book.specs.OpenBegins.{is_open}
 use Rattle.sequential_signer.specs.Replies.{is_cancelled}
-use Rattle.signer_book.proofs.Applying.{kept-is, live-cancelled, cancel-in_memory}
+use Rattle.signer_book.proofs.Applying.{in-memory, kept-is, live-cancelled, cancel-in_memory}
 use Rattle.signer_book.proofs.book.Book.apply.Goals as goal
 
 pub take_receipt_room-requires : goal.take_receipt_room-requires
@@ -184,6 +184,19 @@ returns-then-is_out_of_memory-clause-cancel g c = λ call is live opened same.
 
 pub returns-clause-cancel : goal.returns-clause-cancel
 returns-clause-cancel g c = λ call is live opened same.
-    let memory : is_out_of_memory c.step-reply.result ≡ false = sym c.is_out_of_memory.ensures ∙ c.if-is_out_of_memory.false in
-    let bad : true ≡ false = ap is_out_of_memory (sym same) ∙ memory in
-    absurd (cc)
+    absurd (in-memory (policy_of g.K.SigningCredential.valid g.K.SigningCredential.valid_at g.D.DeadlineRule.deadline) c.step-reply.result (sym c.is_out_of_memory.ensures ∙ c.if-is_out_of_memory.false) same)
+
+pub returns-clause-setup : goal.returns-clause-setup
+returns-clause-setup g c = c.step-reply.ensures.step.setup ∙ ap (λ (b : BookState g.row.K.Denot g.row.D.Denot). setup_of b.desk) c.self.view_is
+
+pub returns-clause-book_unchanged : goal.returns-clause-book_unchanged
+returns-clause-book_unchanged g c = λ same.
+    absurd (in-memory (policy_of g.K.SigningCredential.valid g.K.SigningCredential.valid_at g.D.DeadlineRule.deadline) c.step-reply.result (sym c.is_out_of_memory.ensures ∙ c.if-is_out_of_memory.false) same)
+
+pub returns-clause-pass_unchanged : goal.returns-clause-pass_unchanged
+returns-clause-pass_unchanged g c = λ same.
+    absurd (in-memory (policy_of g.K.SigningCredential.valid g.K.SigningCredential.valid_at g.D.DeadlineRule.deadline) c.step-reply.result (sym c.is_out_of_memory.ensures ∙ c.if-is_out_of_memory.false) same)
+
+pub take_entry_room-requires : goal.take_entry_room-requires
+take_entry_room-requires g c =
+    subst (λ (n : ℕ). length c.self.inside.journal.items + n ≤ min (vec_capacity c.self.inside.journal) (vec_capacity c.self.inside.owners)) (sym c.live-live.ensures) c.self.invariant.room

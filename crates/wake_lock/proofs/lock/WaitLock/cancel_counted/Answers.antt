@@ -1,12 +1,13 @@
 use Rattle.std.proofs.Common.{◌≡◌, ℕ, ◌+◌, ◌<◌, length, length-append, true, false, not, cond, List, ◌∷◌, ◌++◌, Option, Some, None, filter, refl, ap, sym, subst, ◌∙◌, arith}
 use Rattle.std.specs.Map.{lookup}
-use Rattle.wake_lock.specs.declared.CallId.{CallId}
-use Rattle.wake_lock.specs.Calls.{same_call, is_among, IsOnce}
+use Rattle.sign_base.specs.declared.call_id.CallId.{CallId}
+use Rattle.sign_base.specs.Calls.{same_call, is_among, IsOnce}
 use Rattle.wake_lock.specs.Lock.{Lock, line, in_line, is_held_by, is_holder, IsLock}
 use Rattle.wake_lock.specs.declared.lock.Left.TheVariants.{Holder, Waiter, Absent}
 use Rattle.wake_lock.specs.Links.{times}
 use Rattle.wake_lock.specs.WaitList.{calls_of, places_of, TakesOut}
-use Rattle.wake_lock.proofs.Lines.{lock-left, holder-leaves, waiter-leaves, absent-leaves}
+use Rattle.sign_base.proofs.Calls.{absent-leaves}
+use Rattle.wake_lock.proofs.Lines.{lock-left, holder-leaves, waiter-leaves}
 use Rattle.wake_lock.proofs.Index.{place-among, place-left, place-split, place-stands, calls-left, once-waiters}
 use Rattle.wake_lock.proofs.lock.WaitLock.cancel_counted.Goals as goal
 

@@ -1,11 +1,11 @@
 use Rattle.std.proofs.Common.{◌≡◌, ℕ, ◌+◌, ◌-◌, length, cond, false, List, [], ◌∷◌, ◌++◌, Option, Some, ap, sym, subst, ◌∙◌, arith}
 use Rattle.std.specs.Map.{lookup}
 use Rattle.std.proofs.lemmas.List.{map-append}
-use Rattle.wake_lock.specs.declared.CallId.{CallId}
-use Rattle.wake_lock.specs.Calls.{same_call, is_among, IsOnce}
+use Rattle.sign_base.specs.declared.call_id.CallId.{CallId}
+use Rattle.sign_base.specs.Calls.{same_call, is_among, IsOnce}
 use Rattle.wake_lock.specs.Lock.{Lock, line, in_line, IsLock}
 use Rattle.wake_lock.specs.WaitList.{calls_of}
-use Rattle.wake_lock.proofs.Truth.{or_right}
+use Rattle.sign_base.proofs.Truth.{or_right}
 use Rattle.wake_lock.proofs.Lines.{lock-enters}
 use Rattle.wake_lock.proofs.Index.{place-more}
 use Rattle.wake_lock.proofs.lock.WaitLock.enter_counted.Goals as goal

@@ -1,7 +1,7 @@
 use Rattle.std.proofs.Common.{◌≡◌, ℕ, length, cond, List, [], ◌∷◌, Option, Some, None, drop, ap, sym, subst, ◌∙◌, arith}
 use Rattle.std.specs.Map.{lookup}
-use Rattle.wake_lock.specs.declared.CallId.{CallId}
-use Rattle.wake_lock.specs.Calls.{same_call, first_of, IsOnce}
+use Rattle.sign_base.specs.declared.call_id.CallId.{CallId}
+use Rattle.sign_base.specs.Calls.{same_call, first_of, IsOnce}
 use Rattle.wake_lock.specs.Lock.{Lock}
 use Rattle.wake_lock.specs.WaitList.{calls_of, first_place, TakesOut}
 use Rattle.wake_lock.proofs.Index.{place-left, first-waiter, once-waiters, drop-line}

@@ -1,7 +1,7 @@
 use Rattle.std.proofs.Common.{ℕ, List, ◌+◌, length, ap, sym, ◌∙◌, arith}
 use Rattle.std.specs.Map.{lookup}
-use Rattle.wake_lock.specs.declared.CallId.{CallId}
-use Rattle.wake_lock.specs.Calls.{same_call}
+use Rattle.sign_base.specs.declared.call_id.CallId.{CallId}
+use Rattle.sign_base.specs.Calls.{same_call}
 use Rattle.wake_lock.specs.WaitList.{Waiting}
 use Rattle.wake_lock.proofs.Index.{lock-same}
 use Rattle.wake_lock.proofs.lock.WaitLock.reserve.Goals as goal

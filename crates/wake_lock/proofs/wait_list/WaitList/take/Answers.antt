@@ -1,5 +1,5 @@
 use Rattle.std.proofs.Common.{◌≡◌, ℕ, ◌+◌, ◌<◌, ◌≤◌, List, ◌∷◌, ◌++◌, Some, length, ap, sym, ◌∙◌, subst, arith}
-use Rattle.wake_lock.specs.declared.CallId.{CallId}
+use Rattle.sign_base.specs.declared.call_id.CallId.{CallId}
 use Rattle.wake_lock.specs.declared.slots.Slot.{Slot}
 use Rattle.wake_lock.specs.declared.wait_list.WaitList.TheInside.{Inside}
 use Rattle.wake_lock.specs.Slots.{slot_at}

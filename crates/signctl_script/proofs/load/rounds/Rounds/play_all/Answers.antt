@@ -1,5 +1,5 @@
 use Rattle.std.proofs.Common.{◌++◌, List, sym, ap, ◌∙◌}
-use Rattle.wake_lock.specs.declared.CallId.{CallId}
+use Rattle.sign_base.specs.declared.call_id.CallId.{CallId}
 use Rattle.signctl_script.specs.Load.{entries_in_round, transcript_of_rounds}
 use Rattle.signctl_script.proofs.LoadSteps.{as_spelled, transcript-none, transcript-more}
 use Rattle.signctl_script.proofs.load.rounds.Rounds.play_all.Goals as goal

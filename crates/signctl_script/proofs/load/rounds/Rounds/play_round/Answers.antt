@@ -1,8 +1,8 @@
 use Rattle.std.proofs.Common.{◌++◌, List, map, refl, ap, ◌∙◌}
 use Rattle.std.proofs.lemmas.Result.{on_ok_weaker}
 use Rattle.std.specs.List.{filter}
-use Rattle.wake_lock.specs.declared.CallId.{CallId}
-use Rattle.wake_lock.specs.Calls.{is_among}
+use Rattle.sign_base.specs.declared.call_id.CallId.{CallId}
+use Rattle.sign_base.specs.Calls.{is_among}
 use Rattle.signctl_script.specs.LoadRound.{accepted_event, asking_events}
 use Rattle.signctl_script.specs.Load.{entries_after, signed_calls}
 use Rattle.signctl_script.proofs.LoadSteps.{alike, round-played}

@@ -1,5 +1,0 @@
-use Rattle.pool_tests.specs.Slots.{IsSlotOf}
-use Rattle.pool_tests.proofs.threads.submit_one.Given as goal
-
-abbrev pub invariant-loop : goal.invariant-loop
-invariant-loop g l = IsSlotOf l.pool.queue l.slot

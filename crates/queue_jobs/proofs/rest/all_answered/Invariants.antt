@@ -1,6 +1,0 @@
-use Rattle.std.proofs.Common.{◌≡◌, ◌+◌, take}
-use Rattle.queue_jobs.specs.Slots.{answered_in}
-use Rattle.queue_jobs.proofs.rest.all_answered.Given as goal
-
-abbrev pub invariant-loop-slot : goal.invariant-loop-slot
-invariant-loop-slot l = l.missing + answered_in (take l.slot-index l.slots) ≡ l.jobs

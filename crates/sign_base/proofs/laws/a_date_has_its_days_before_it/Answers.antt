@@ -1,5 +1,0 @@
-use Rattle.sign_base.proofs.DaysCounted.{days_before-reached}
-use Rattle.sign_base.proofs.laws.a_date_has_its_days_before_it.Goals as goal
-
-pub returns : goal.returns
-returns c = days_before-reached

@@ -1,0 +1,10 @@
+pub mod Faults
+pub mod Filled
+pub mod Faulty
+pub mod Lines
+pub mod LineInput
+pub mod LineReader
+pub mod Window
+pub mod LineBuffer
+pub mod Next
+pub mod NextShown

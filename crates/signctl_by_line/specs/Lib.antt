@@ -1,0 +1,10 @@
+pub mod LineByLine
+pub mod BytesWords
+pub mod HmacGrammar
+pub mod HmacReading
+pub mod HmacAnswers
+pub mod ViewGrammar
+pub mod ViewAnswers
+pub mod Sigv4Grammar
+pub mod Sigv4Reading
+pub mod Sigv4Answers

@@ -1,0 +1,38 @@
+//! The command `sigv4`: heads signed with AWS Signature Version 4, line by line.
+ghost use Rattle.signctl_by_line.specs.Sigv4Reading.{sigv4_item_of};
+ghost use Rattle.signctl_by_line.specs.Sigv4Answers.{sigv4_answer};
+
+use crate::sigv4_answer::push_answer;
+use crate::{EachLine, Sigv4Item, read_sigv4_line};
+use sign_base::NoMemory;
+use sign_request::HeaderKeys;
+use signctl_format::ReadError;
+use std::alloc::Global;
+
+/// The command `sigv4`. The names of headers come from outside, so the maps that are made of them have these
+/// keys; no answer depends on them.
+#[derive(Clone, Copy, Debug)]
+pub struct Sigv4Command {
+    pub keys: HeaderKeys,
+}
+
+impl EachLine for Sigv4Command {
+    type Item = Sigv4Item;
+
+    ghost item_of = { sigv4_item_of };
+
+    ghost answer_to = { sigv4_answer };
+
+    fn read(alloc: Global, line: &[u8]) -> Result<Sigv4Item, ReadError> {
+        read_sigv4_line(alloc, line)
+    }
+
+    fn answer(
+        &self,
+        alloc: Global,
+        item: &Sigv4Item,
+        text: &mut Vec<u8>,
+    ) -> Result<(), NoMemory<()>> {
+        push_answer(alloc, self.keys, item, text)
+    }
+}

@@ -1,0 +1,34 @@
+//! The command `view`: what a service signs of a request head, line by line.
+ghost use Rattle.signctl_by_line.specs.ViewGrammar.{head_of_line};
+ghost use Rattle.signctl_by_line.specs.ViewAnswers.{view_answer};
+
+use crate::EachLine;
+use crate::view_answer::push_answer;
+use sign_base::{Head, NoMemory};
+use sign_request::HeaderKeys;
+use signctl_format::ReadError;
+use signctl_format::head::head_line;
+use std::alloc::Global;
+
+/// The command `view`. The names of headers come from outside, so the maps that are made of them have these
+/// keys; no answer depends on them.
+#[derive(Clone, Copy, Debug)]
+pub struct ViewCommand {
+    pub keys: HeaderKeys,
+}
+
+impl EachLine for ViewCommand {
+    type Item = Head;
+
+    ghost item_of = { head_of_line };
+
+    ghost answer_to = { view_answer };
+
+    fn read(alloc: Global, line: &[u8]) -> Result<Head, ReadError> {
+        head_line(alloc, line)
+    }
+
+    fn answer(&self, alloc: Global, head: &Head, text: &mut Vec<u8>) -> Result<(), NoMemory<()>> {
+        push_answer(alloc, self.keys, head, text)
+    }
+}

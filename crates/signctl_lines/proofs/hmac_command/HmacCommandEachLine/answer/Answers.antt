@@ -1,6 +1,0 @@
-use Rattle.signctl_lines.proofs.HmacGrammars.{item_fits}
-use Rattle.signctl_lines.proofs.hmac_command.HmacCommandEachLine.answer.Goals as goal
-
--- the item was read, so its line spells it
-pub push_answer-requires : goal.push_answer-requires
-push_answer-requires c = item_fits c.requires.0 c.args.item.now c.requires.1

@@ -1,6 +1,0 @@
-use Rattle.std.proofs.Common.{◌≡◌, ◌++◌, List, ℕ, map, take, Bor}
-use Rattle.signctl_format.specs.Words.{spaced_words}
-use Rattle.signctl_lines.proofs.view_answer.push_words.Given as goal
-
-abbrev pub invariant-loop-word : goal.invariant-loop-word
-invariant-loop-word l = l.text.items ≡ l.fn.text.items ++ spaced_words (map (λ (word : Bor (List ℕ)). word.now) (take l.word-index l.words))

@@ -1,6 +1,0 @@
-pub mod BytesWords
-pub mod HmacGrammar
-pub mod HmacReading
-pub mod HmacAnswers
-pub mod ViewGrammar
-pub mod ViewAnswers

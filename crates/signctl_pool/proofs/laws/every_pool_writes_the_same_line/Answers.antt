@@ -1,5 +1,0 @@
-use Rattle.signctl_pool.proofs.PoolLines.{every_pool_writes_the_same_line}
-use Rattle.signctl_pool.proofs.laws.every_pool_writes_the_same_line.Goals as goal
-
-pub returns : goal.returns
-returns c = every_pool_writes_the_same_line

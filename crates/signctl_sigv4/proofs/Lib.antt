@@ -1,2 +1,0 @@
-pub mod Sigv4Parts
-pub mod Sigv4Grammars

@@ -1,0 +1,42 @@
+//! Whether an allocation failed, in a thread or in a job.
+ghost use Rattle.std.specs.Prelude.{◌≡◌, true, false, All};
+ghost use Rattle.signctl_threads.specs.Slots.{DidNotStop, NoAnswerRanOut};
+ghost use Rattle.signctl_threads.specs.Served.{DidNotRunOut};
+
+use crate::slots::Slot;
+use sign_pool::{Answer, Outcome};
+
+/// Whether some thread stopped.
+pub(crate) fn any_stopped(slots: &[Slot]) -> bool
+    ensures { result ≡ false → All DidNotStop slots.now }
+{
+    for slot in slots {
+        if slot.out_of_memory {
+            return true;
+        }
+    }
+    false
+}
+
+/// Whether some job met an allocation that failed.
+pub(crate) fn any_ran_out(slots: &[Slot]) -> bool
+    ensures { result ≡ false → All NoAnswerRanOut slots.now }
+{
+    for slot in slots {
+        if answers_ran_out(slot.worker.answers()) {
+            return true;
+        }
+    }
+    false
+}
+
+fn answers_ran_out(answers: &[Answer]) -> bool
+    ensures { result ≡ false → All DidNotRunOut answers.now }
+{
+    for answer in answers {
+        if answer.outcome == Outcome::OutOfMemory {
+            return true;
+        }
+    }
+    false
+}

@@ -1,0 +1,146 @@
+//! The request to IAM that AWS publishes, signed by a signer with the key of the environment.
+use crate::environment_key::{EnvironmentKey, Surroundings};
+use crate::suite::{NOW, moment};
+use crate::told::{is_text, text_of};
+use credentials::{OsEnv, Providers};
+use fixtures::head_with_headers;
+use http::request::Parts;
+use sequential_signer::SigningCredential;
+use sign_base::{Error, Timestamp};
+use sign_request::parts_of;
+use signer::{Refusal, SignAnswer, SignPoll, Signer};
+use sigv4_core::{Payload, SigCredential, SigScope, SigService};
+use std::alloc::Global;
+use std::process::Abort;
+
+/// A signer for AWS.
+type AwsSigner = Signer<EnvironmentKey, SigService<Surroundings>>;
+
+/// A signer of requests to IAM that have no content.
+fn aws_signer(alloc: Global, env: OsEnv, now: Timestamp) -> Option<AwsSigner> {
+    let service = service(alloc).ok()?;
+    let key = Providers::Single(EnvironmentKey);
+    Signer::new(alloc, Surroundings { env, now }, key, service).ok()
+}
+
+fn service(alloc: Global) -> Result<SigService<Surroundings>, Error> {
+    let scope = SigScope::new(alloc, b"us-east-1", b"iam")?;
+    Ok(SigService::new(scope, Payload::of(alloc, b"")?))
+}
+
+/// Signs a request under handle 0, and tells the header that it has then, or why it is refused. Provider and service answer
+/// at once, so the call ends at its first poll.
+fn sign(
+    rt: &impl Abort,
+    alloc: Global,
+    signer: &mut AwsSigner,
+    req: &mut Parts,
+    now: Timestamp,
+) -> String {
+    assert!(rt; signer.desk().handles() > 0);
+    let sign = signer.sign(0, req, None).expect(rt, "a call");
+    let SignPoll { answer, .. } = signer.poll(sign, req, now);
+    match answer {
+        SignAnswer::Done => authorization(rt, alloc, req),
+        SignAnswer::Refused(why) => error_text(rt, alloc, why),
+        goes_on => {
+            drop(goes_on);
+            String::new(alloc)
+        }
+    }
+}
+
+fn authorization(rt: &impl Abort, alloc: Global, req: &Parts) -> String {
+    let value = req.headers.get("authorization").expect(rt, "a header");
+    text_of(rt, alloc, value.as_bytes())
+}
+
+fn error_text(rt: &impl Abort, alloc: Global, why: Refusal) -> String {
+    let error = why.into_error(alloc, SigCredential::NAME);
+    let error = error.expect(rt, "memory");
+    format!(in alloc; "{error}").expect(rt, "memory")
+}
+
+/// The published request, to this URI.
+fn request(rt: &impl Abort, alloc: Global, uri: &str) -> Parts {
+    let headers = [(
+        "content-type",
+        b"application/x-www-form-urlencoded; charset=utf-8".as_slice(),
+    )];
+    let head = head_with_headers(alloc, "GET", uri, headers.as_slice());
+    let head = head.expect(rt, "memory");
+    parts_of(alloc, &head).expect(rt, "a request")
+}
+
+/// Names and values of variables.
+type Variables = &'static [(&'static str, &'static str)];
+
+/// An environment in which these variables are set.
+fn environment(rt: &impl Abort, alloc: Global, set: Variables) -> OsEnv {
+    let mut list = Vec::new(alloc);
+    for (name, value) in set {
+        let name = text_of(rt, alloc, name.as_bytes());
+        list.push((name, text_of(rt, alloc, value.as_bytes())))
+            .expect(rt, "memory");
+    }
+    OsEnv::from_list(None, list).expect(rt, "memory")
+}
+
+/// What a signer in this environment makes of the request to this URI, at 2015-08-30T12:36:00Z.
+fn signed_in(rt: &impl Abort, alloc: Global, set: Variables, uri: &str) -> String {
+    let now = moment(rt, NOW);
+    let mut req = request(rt, alloc, uri);
+    let mut signer = aws_signer(alloc, environment(rt, alloc, set), now).expect(rt, "memory");
+    let told = sign(rt, alloc, &mut signer, &mut req, now);
+    drop(signer);
+    told
+}
+
+/// The URI as it is published.
+const LIST_USERS: &str = "https://iam.amazonaws.com/?Action=ListUsers&Version=2010-05-08";
+
+const ACCESS: (&str, &str) = ("AWS_ACCESS_KEY_ID", "AKIDEXAMPLE");
+
+const SECRET: (&str, &str) = (
+    "AWS_SECRET_ACCESS_KEY",
+    "wJalrXUtnFEMI/K7MDENG+bPxRfiCYEXAMPLEKEY",
+);
+
+/// The header as it is published.
+const SIGNED: &str =
+    "AWS4-HMAC-SHA256 Credential=AKIDEXAMPLE/20150830/us-east-1/iam/aws4_request, SignedHeaders=content-type;host;x-amz-date, Signature=5d672d79c15b13162d9279b0855cfba6789a8edb4c82c400e06b5924a6f2b5d7";
+
+/// Variables, and what becomes of the request.
+const ENVIRONMENTS: [(Variables, &str); 4] = [
+    (&[ACCESS, SECRET], SIGNED),
+    (&[ACCESS], "failed to load signing credential"),
+    (&[SECRET], "failed to load signing credential"),
+    (&[ACCESS, ("AWS_SECRET_ACCESS_KEY", "")], "invalid key"),
+];
+
+#[test]
+fn a_signer_signs_with_the_key_of_the_environment(rt: HostRuntime) {
+    for (set, wanted) in ENVIRONMENTS {
+        is_text(&rt, signed_in(&rt, rt.alloc(), set, LIST_USERS), wanted);
+    }
+}
+
+/// URIs that the service does not sign, and the message of the call's error.
+const REFUSED: [(&str, &str); 2] = [
+    ("/", "request without authority is invalid for signing"),
+    (
+        "https://iam.amazonaws.com/%20",
+        "path with escapes is not supported",
+    ),
+];
+
+#[test]
+fn a_refusal_of_the_service_ends_the_call(rt: HostRuntime) {
+    for (uri, wanted) in REFUSED {
+        is_text(
+            &rt,
+            signed_in(&rt, rt.alloc(), &[ACCESS, SECRET], uri),
+            wanted,
+        );
+    }
+}
