@@ -2,7 +2,7 @@
 ghost use Rattle.std.specs.Prelude.{◌<◌};
 
 use sign_io::{FaultySink, FaultySource};
-use signctl_core::{HeaderKeys, run_program};
+use signctl_core::{HeaderSeeds, run_program};
 use std::alloc::{AllocError, Global};
 
 /// The bytes that a sink has room for.
@@ -37,7 +37,7 @@ pub fn written(alloc: Global, words: &str, input: &[u8], piece: usize) -> Option
         &mut source,
         &mut output,
         &mut errors,
-        HeaderKeys::default(),
+        HeaderSeeds::default(),
     );
     transcript(alloc, output.written(), errors.written(), exit).ok()
 }

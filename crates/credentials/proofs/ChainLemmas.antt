@@ -39,7 +39,7 @@ module _ {P K : Type 0} (gives : P → Polled (Option K) → Type 0) where
       → AllPassedOver gives (take k xs) → gives p answer → FirstGives gives xs answer
   first-gives xs k p answer e before here = (take k xs, p, drop (k + 1) xs, cut-at xs k p e, before, here)
 
-  -- where the first load can't be started for want of memory, the first provider gives that
+  -- where an allocation fails before the first load is started, the first provider gives that
   pub first-without-memory : {L E : Type 0} (xs ys : List P) (p : P) (begun : Result L E) → ys ≡ xs
       → 0 < length ys → ((q : P) → p ≡ get_or ys 0 q) → gives p OutOfMemory
       → OnErr begun (ChainGives gives xs OutOfMemory)

@@ -1,6 +1,7 @@
 -- Providers that are asked in order. Of each provider the definitions take what it gives, and which of its
 -- loads it started and has ready, all in one context.
-use Rattle.std.specs.Prelude.{◌≡◌, ◌++◌, ◌∷◌, ◌+◌, ◌⊎◌, ℕ, Bool, true, false, List, All, take, drop, Option, Some, None, IfSome, IsSomeAnd, MatchOption, slice_get}
+use Rattle.std.specs.Prelude.{◌≡◌, ◌++◌, ◌∷◌, ◌+◌, ◌⊎◌, ℕ, Bool, true, false, List, All, take, drop}
+use Rattle.std.specs.Prelude.{Option, Some, None, IfSome, IsSomeAnd, MatchOption, slice_get}
 use Rattle.sign_base.specs.Error.{ErrorParts}
 use Rattle.credentials.specs.declared.polled.Polled.{Polled}
 use Rattle.credentials.specs.declared.polled.Polled.TheVariants.{Pending, Ready, Failed, OutOfMemory}

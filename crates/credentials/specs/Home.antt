@@ -1,5 +1,6 @@
 -- Paths that begin in the home folder.
-use Rattle.std.specs.Prelude.{ℕ, List, ◌∷◌, [], ◌==◌, ◌||◌, Bool, Option, Some, option_map, nat_eq, codes, if◌then◌else◌}
+use Rattle.std.specs.Prelude.{ℕ, List, ◌∷◌, [], ◌==◌, ◌||◌, Bool, Option, Some}
+use Rattle.std.specs.Prelude.{option_map, nat_eq, codes, if◌then◌else◌}
 use Rattle.std.specs.List.{flat_map, starts_with}
 
 -- the byte is `~`

@@ -3,7 +3,6 @@ pub mod Operation
 pub mod Chain
 pub mod Unsupported
 pub mod Env
-pub mod EnvShown
 pub mod Home
 pub mod Context
 pub mod Law

@@ -1,5 +1,6 @@
 //! How a chain asks its providers.
-ghost use Rattle.std.specs.Prelude.{◌≡◌, ◌≢◌, ◌+◌, ◌^◌, ◌<◌, ◌≤◌, length, [], IfOk, IsOk, IfSome, IsSome, IfNone, None, Some, OnErr, MatchOption};
+ghost use Rattle.std.specs.Prelude.{◌≡◌, ◌≢◌, ◌+◌, ◌^◌, ◌<◌, ◌≤◌, length, [], IfOk, IsOk, IfSome};
+ghost use Rattle.std.specs.Prelude.{IsSome, IfNone, None, Some, OnErr, MatchOption};
 ghost use Rattle.credentials.specs.Chain.{ChainStarted, ChainReady, ChainGives, is_passed_over};
 ghost use Rattle.credentials.specs.Polled.{CanBePolledAgain};
 

@@ -1,5 +1,6 @@
 //! Where commands are run.
-ghost use Rattle.std.specs.Prelude.{◌≡◌, ◌≢◌, ◌↔◌, ℕ, ℤ, pos, List, map, IfOk, IsOk, IsTrue, ⊤, codes};
+ghost use Rattle.std.specs.Prelude.{◌≡◌, ◌≢◌, ◌↔◌, ℕ, ℤ, pos, List, map, IfOk, IsOk, IsTrue, Some, ⊤, codes};
+ghost use Rattle.std.specs.Fmt.{WritesOnOk, WritesStyledOnOk};
 ghost use Rattle.std.specs.String.{string_bytes};
 ghost use Rattle.credentials.specs.declared.command_execute.CommandOutput.{CommandOutput};
 ghost use Rattle.credentials.specs.declared.polled.Polled.{Polled};
@@ -12,7 +13,7 @@ use sign_base::NoMemory;
 use std::alloc::Global;
 use std::fmt;
 
-/// What a command left. `Debug` shows its status, and of what it wrote the number of bytes alone.
+/// What a command left. `Debug` shows nothing of it, since commands print credentials.
 #[derive(Drop)]
 pub struct CommandOutput {
     /// Its exit status, 0 where it succeeded.
@@ -33,20 +34,13 @@ impl CommandOutput {
 }
 
 impl fmt::Debug for CommandOutput {
-    ghost use Rattle.std.specs.Fmt.{signed_decimal};
-    ghost use Rattle.std.specs.Prelude.{◌++◌, Some, codes, decimal, vec_len};
+    ghost debug_output = { λ _. Some (codes "CommandOutput(***)") };
 
-    ghost debug_output = { λ o. Some (codes "CommandOutput(status " ++ signed_decimal o.status ++ codes ", "
-        ++ decimal (vec_len o.stdout) ++ codes " bytes, " ++ decimal (vec_len o.stderr)
-        ++ codes " bytes of errors)") };
-
-    fn fmt<W: fmt::Write>(&self, f: &mut fmt::Formatter<W>) -> fmt::Result {
-        let (out, errors) = (self.stdout.len(), self.stderr.len());
-        write!(
-            f,
-            "CommandOutput(status {}, {out} bytes, {errors} bytes of errors)",
-            self.status
-        )
+    fn fmt<W: fmt::Write>(&self, f: &mut fmt::Formatter<W>) -> fmt::Result
+        ensures writes { WritesOnOk W.write_str_gives f.old result (codes "CommandOutput(***)") f.new }
+        ensures styled { WritesStyledOnOk W.write_str_gives f.old result (codes "CommandOutput(***)") f.new }
+    {
+        f.write_str("CommandOutput(***)")
     }
 }
 

@@ -1,6 +1,7 @@
 //! What providers, services and granters work in: a reader of files, a sender of HTTP requests, an
 //! environment, and a runner of commands. Each call goes to the object that is there for it.
-ghost use Rattle.std.specs.Prelude.{◌≡◌, ◌≢◌, ℕ, List, map, IfOk, IfErr, option_map};
+ghost use Rattle.std.specs.Prelude.{◌≡◌, ◌≢◌, ℕ, List, map, IfOk, IfErr, Some, codes, option_map};
+ghost use Rattle.std.specs.Fmt.{WritesOnOk, WritesStyledOnOk};
 ghost use Rattle.std.specs.String.{string_bytes};
 ghost use Rattle.http.specs.declared.request.Request.{Request};
 ghost use Rattle.http.specs.declared.response.Response.{Response};
@@ -276,7 +277,12 @@ impl<F: FileRead, H: HttpSend, E: Env, C: CommandExecute> Context<F, H, E, C> {
 
 /// Shows nothing of its objects, which may hold secrets.
 impl<F, H, E, C> fmt::Debug for Context<F, H, E, C> {
-    fn fmt<W: fmt::Write>(&self, f: &mut fmt::Formatter<W>) -> fmt::Result {
+    ghost debug_output = { λ _. Some (codes "Context") };
+
+    fn fmt<W: fmt::Write>(&self, f: &mut fmt::Formatter<W>) -> fmt::Result
+        ensures writes { WritesOnOk W.write_str_gives f.old result (codes "Context") f.new }
+        ensures styled { WritesStyledOnOk W.write_str_gives f.old result (codes "Context") f.new }
+    {
         f.write_str("Context")
     }
 }

@@ -1,5 +1,6 @@
 //! Environments: variables, and the home folder.
-ghost use Rattle.std.specs.Prelude.{◌≡◌, ℕ, List, Option, None, IfOk, IsOk, option_map};
+ghost use Rattle.std.specs.Prelude.{◌≡◌, ℕ, List, Option, None, Some, IfOk, IsOk, codes, option_map};
+ghost use Rattle.std.specs.Fmt.{WritesOnOk, WritesStyledOnOk};
 ghost use Rattle.std.specs.String.{string_bytes};
 ghost use Rattle.credentials.specs.Env.{HasVariables, map_variables, no_variables};
 
@@ -60,8 +61,8 @@ impl Env for NoopEnv {
     }
 }
 
-/// An environment that is written down, for tests and for settings of one's own. `Debug` shows the names of
-/// its variables alone, in any order, since a value may be a secret.
+/// An environment that is written down, for tests and for settings of one's own. `Debug` shows nothing of it,
+/// since a value may be a secret.
 #[derive(Drop)]
 pub struct StaticEnv {
     /// The path of the home folder.
@@ -97,8 +98,13 @@ impl Env for StaticEnv {
 }
 
 impl fmt::Debug for StaticEnv {
-    fn fmt<W: fmt::Write>(&self, f: &mut fmt::Formatter<W>) -> fmt::Result {
-        write!(f, "StaticEnv: {:?}", self.envs.keys())
+    ghost debug_output = { λ _. Some (codes "StaticEnv(***)") };
+
+    fn fmt<W: fmt::Write>(&self, f: &mut fmt::Formatter<W>) -> fmt::Result
+        ensures writes { WritesOnOk W.write_str_gives f.old result (codes "StaticEnv(***)") f.new }
+        ensures styled { WritesStyledOnOk W.write_str_gives f.old result (codes "StaticEnv(***)") f.new }
+    {
+        f.write_str("StaticEnv(***)")
     }
 }
 

@@ -1,8 +1,8 @@
 //! The environment that a program hands in.
-ghost use Rattle.std.specs.Prelude.{◌≡◌, map, IfOk, IsOk, IsOkAnd, None, Some, option_map};
+ghost use Rattle.std.specs.Prelude.{◌≡◌, map, IfOk, IsOk, IsOkAnd, None, Some, codes, option_map};
+ghost use Rattle.std.specs.Fmt.{WritesOnOk, WritesStyledOnOk};
 ghost use Rattle.std.specs.String.{string_bytes};
 ghost use Rattle.credentials.specs.Env.{no_variables, set_variables, variable_of, HasVariables};
-ghost use Rattle.credentials.specs.EnvShown.{os_env_text};
 
 use crate::Env;
 use crate::env::copy_of;
@@ -15,8 +15,8 @@ use std::marker::Model;
 /// What `from_list` hands back.
 type Handed = (Option<String>, Vec<(String, String)>);
 
-/// The environment of a process, as its program read it. Nothing is read again. `Debug` shows the names of
-/// its variables alone, since a value may be a secret.
+/// The environment of a process, as its program read it. Nothing is read again. `Debug` shows nothing of it,
+/// since a value may be a secret.
 #[derive(Drop)]
 pub struct OsEnv {
     home: Option<String>,
@@ -101,14 +101,12 @@ impl Env for OsEnv {
 }
 
 impl fmt::Debug for OsEnv {
-    ghost debug_output = { λ env. Some (os_env_text env.variables) };
+    ghost debug_output = { λ _. Some (codes "OsEnv(***)") };
 
-    fn fmt<W: fmt::Write>(&self, f: &mut fmt::Formatter<W>) -> fmt::Result {
-        f.write_str("OsEnv:")?;
-        for (name, _) in &self.variables {
-            f.write_str(" ")?;
-            f.write_str(name.as_str())?;
-        }
-        Ok(())
+    fn fmt<W: fmt::Write>(&self, f: &mut fmt::Formatter<W>) -> fmt::Result
+        ensures writes { WritesOnOk W.write_str_gives f.old result (codes "OsEnv(***)") f.new }
+        ensures styled { WritesStyledOnOk W.write_str_gives f.old result (codes "OsEnv(***)") f.new }
+    {
+        f.write_str("OsEnv(***)")
     }
 }

@@ -1,5 +1,6 @@
 -- What a desk's step on a call leaves: the setup, the records of the other calls, and where the call is.
-use Rattle.std.proofs.Common.{◌≡◌, ℕ, ◌<◌, length, Option, Some, None, IsSomeAnd, is_some, true, option_map, option_and_then, slice_get, refl, sym, ◌∙◌, ap, subst}
+use Rattle.std.proofs.Common.{◌≡◌, ℕ, ◌<◌, length, Option, Some, None, IsSomeAnd, is_some, true, option_map}
+use Rattle.std.proofs.Common.{option_and_then, slice_get, refl, sym, ◌∙◌, ap, subst}
 use Rattle.sign_base.specs.declared.call_id.CallId.{CallId}
 use Rattle.sequential_signer.specs.Setup.{Handle}
 use Rattle.sequential_signer.specs.declared.event.Loader.{Loader}
@@ -27,7 +28,8 @@ pub same-self : {K D Q H : Type 0} (old : DeskTables K D Q H) → SameCalls old 
 same-self old = record { loaders = refl; rules = refl; handles = refl; greatest = refl; calls = refl }
 
 -- what a step does to the call, and that it leaves the others
-pub record DeskStep {K D Q H : Type 0} (call : CallId) (old new : DeskTables K D Q H) (After : Type 0) : Type 0 where
+pub record DeskStep {K D Q H : Type 0} (call : CallId) (old new : DeskTables K D Q H)
+    (After : Type 0) : Type 0 where
   pub after : After
   pub others : LeavesOthers call old new
 

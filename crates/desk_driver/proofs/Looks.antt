@@ -1,9 +1,12 @@
 -- How far a look at a cache gets, and a load, by the answers of its providers.
-use Rattle.std.proofs.Common.{◌≡◌, ◌⊎◌, inl, inr, nat_lt, ℕ, ℤ, ◌<◌, true, false, Bool, cond, Option, Some, None, is_some, IfSome, IsTrue, refl, subst, arith}
+use Rattle.std.proofs.Common.{◌≡◌, ◌⊎◌, inl, inr, nat_lt, ℕ, ℤ, ◌<◌, true, false, Bool, cond, Option, Some}
+use Rattle.std.proofs.Common.{None, is_some, IfSome, IsTrue, refl, subst, arith}
 use Rattle.std.proofs.lemmas.Bool.Decides.{nat_tests}
 use Rattle.sequential_signer.specs.Policy.{Policy}
-use Rattle.sequential_signer.specs.Lookup.{Outcome, HandOut, Refuse, cache_lookup, lookup_by, check_by, check_refreshed}
-use Rattle.sequential_signer.specs.SequentialCall.{Progress, Asking, Over, HoldInput, sequential_call, next_of_chain, found_progress, after_lookup, load_progress}
+use Rattle.sequential_signer.specs.Lookup.{Outcome, HandOut, Refuse, cache_lookup, lookup_by, check_by}
+use Rattle.sequential_signer.specs.Lookup.{check_refreshed}
+use Rattle.sequential_signer.specs.SequentialCall.{Progress, Asking, Over, HoldInput, sequential_call}
+use Rattle.sequential_signer.specs.SequentialCall.{next_of_chain, found_progress, after_lookup, load_progress}
 use Rattle.sequential_signer.specs.declared.event.Loader.{Loader}
 use Rattle.sequential_signer.specs.declared.event.Loader.TheVariants.{Single, Chain}
 use Rattle.sequential_signer.specs.declared.event.Why.{Why}

@@ -1,5 +1,6 @@
 -- States that are kept by the numbers of their calls stay so, whatever is done with one call.
-use Rattle.std.proofs.Common.{◌≡◌, ◌<◌, ◌+◌, ◌⊎◌, ℕ, true, false, List, [], ◌∷◌, ◌++◌, length, Option, Some, None, slice_get, slice_set, ◌≢◌, inl, inr, sym, ◌∙◌, ap, subst, arith}
+use Rattle.std.proofs.Common.{◌≡◌, ◌<◌, ◌+◌, ◌⊎◌, ℕ, true, false, List, [], ◌∷◌, ◌++◌, length, Option, Some}
+use Rattle.std.proofs.Common.{None, slice_get, slice_set, ◌≢◌, inl, inr, sym, ◌∙◌, ap, subst, arith}
 use Rattle.std.proofs.Math.Dec.{eqb}
 use Rattle.std.proofs.lemmas.Bool.Decides.{eqb_tells}
 use Rattle.std.proofs.lemmas.List.{length-append, length-set}
@@ -30,7 +31,8 @@ module _ {X : Type 0} (call_of : X → CallId) where
           absurd (cc)
       by_place k state is (inr h) = all.at k state (sym (slice_get-set_other calls n k None h.1) ∙ is)
 
-  module _ {Was Is : X → Type 0} {begun next : ℕ} (calls : List (Option X)) (state : X) (all : AreNumbered call_of Was begun calls)
+  module _ {Was Is : X → Type 0} {begun next : ℕ} (calls : List (Option X)) (state : X)
+      (all : AreNumbered call_of Was begun calls)
       (keeps : (other : X) → (call_of other ≡ call_of state → ⊥) → Was other → Is other) where
     -- the next call is begun, and the states of the others stay such
     pub numbered-begun : (call_of state).number ≡ begun → next ≡ begun + 1 → Is state

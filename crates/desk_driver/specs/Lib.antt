@@ -2,6 +2,8 @@ pub mod ProviderList
 pub mod LoadAnswer
 pub mod CallAt
 pub mod Objects
+pub mod Meanings
+pub mod PolledCall
 pub mod CallNumbers
 pub mod NumberedCalls
 pub mod Causes

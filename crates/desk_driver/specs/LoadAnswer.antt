@@ -7,7 +7,8 @@ use Rattle.sequential_signer.specs.declared.event.Answer.{Answer}
 use Rattle.sequential_signer.specs.declared.event.Answer.TheVariants as answer
 use Rattle.sign_base.specs.Error.{ErrorParts}
 use Rattle.desk_driver.specs.declared.load_state.LoadAnswer.{LoadAnswer}
-use Rattle.desk_driver.specs.declared.load_state.LoadAnswer.TheVariants.{Pending, OutOfMemory, Found, Missing, Failed}
+use Rattle.desk_driver.specs.declared.load_state.LoadAnswer.TheVariants.{Pending, OutOfMemory, Found, Missing}
+use Rattle.desk_driver.specs.declared.load_state.LoadAnswer.TheVariants.{Failed}
 use Rattle.desk_driver.specs.declared.load_state.LoadState.{LoadState}
 use Rattle.desk_driver.specs.declared.load_state.LoadState.TheVariants as load_state
 

@@ -6,8 +6,6 @@ use credentials::Providers;
 use sequential_signer::Loader;
 
 /// How a desk loads a cache with these providers.
-///
-/// Requires a chain of at most 4,294,967,295 providers.
 pub fn loader_of<P>(providers: &Providers<P>) -> Loader
     requires { AreFew providers.now }
     ensures { result ≡ loader_for providers.now }

@@ -1,7 +1,8 @@
 //! The errors that refusals become, where they have none of their own: of a signer and of a granter.
 ghost use Rattle.std.specs.Prelude.{◌≡◌, ◌++◌, ◌∷◌, [], IfOk};
 ghost use Rattle.std.specs.String.{string_bytes};
-ghost use Rattle.desk_driver.specs.RefusalText.{credential_error, credential_error_with, range_error, type_line, moment_line};
+ghost use Rattle.desk_driver.specs.RefusalText.{credential_error, credential_error_with, range_error};
+ghost use Rattle.desk_driver.specs.RefusalText.{type_line, moment_line};
 
 use sign_base::{Error, NoMemory, Timestamp};
 use std::alloc::Global;

@@ -30,7 +30,8 @@ module _ {K D Q H : Type 0} (desk : DeskTables K D Q H) (number : ℕ) (answer :
       subst Q ruled (subst P there timely)
 
 -- of two facts about an error the second, whatever the error
-pub on_err-second : {T E : Type 0} (A : E → Type 0) (B : Type 0) (answer : Result T E) → IfErr answer (λ e. A e × B)
+pub on_err-second : {T E : Type 0} (A : E → Type 0) (B : Type 0) (answer : Result T E)
+    → IfErr answer (λ e. A e × B)
     → OnErr answer B
 on_err-second A B (Ok n) h = tt
 on_err-second A B (Err e) h = h.1
@@ -55,7 +56,8 @@ module _ {S T E A : Type 0} (Good : S → Type 0) (old more new : S) (answer : R
 
 module _ {K D Q H : Type 0} (old : DeskTables K D Q H) where
   -- what was added was added before the first begin
-  pub unbegun-where_added : (number : ℕ) (answer : Result ℕ AddError) → AddAnswer (late_refusal old) number answer
+  pub unbegun-where_added : (number : ℕ) (answer : Result ℕ AddError)
+      → AddAnswer (late_refusal old) number answer
       → OnOk answer (old.started ≡ false)
   unbegun-where_added number (Err e) h = tt
   unbegun-where_added number (Ok n) h = by_flag old.started refl h

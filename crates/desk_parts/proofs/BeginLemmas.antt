@@ -17,12 +17,12 @@ changed-length f zero (x ∷ xs) = refl
 changed-length f (suc i) (x ∷ xs) = let h : length (with_changed f i xs) ≡ length xs = changed-length f i xs in omega (arith, h)
 
 given_back : (q : Queue) → without_room (with_room q) ≡ q
-given_back q = ap (λ (n : ℕ). let r : Queue = record { line = q.line; unpolled = n } in r) (back q.unpolled)
+given_back q = ap (λ (n : ℕ). let r : Queue = record { line = q.line; reserved = n } in r) (back q.reserved)
   where
     back : (n : ℕ) → n + 1 - 1 ≡ n
     back n = omega arith
 
-counted_by : (o : Option Queue) → IfSome (option_map with_room o) (λ (q : Queue). 0 < q.unpolled)
+counted_by : (o : Option Queue) → IfSome (option_map with_room o) (λ (q : Queue). 0 < q.reserved)
 counted_by None = tt
 counted_by (Some q) = omega arith
 
@@ -34,7 +34,7 @@ module _ {K D H : Type 0} (old : DeskTables K D Queue H) (i : ℕ) where
 
   -- its room is counted
   pub with_room-counted : (k mid : DeskTables K D Queue H) → k ≡ mid → mid ≡ with_queue with_room i old
-      → IfSome (slice_get k.queues i) (λ (q : Queue). 0 < q.unpolled)
+      → IfSome (slice_get k.queues i) (λ (q : Queue). 0 < q.reserved)
   with_room-counted k mid e f = rw (e, f, changed-same with_room old.queues i) (counted_by (slice_get old.queues i))
 
   -- room that is given back leaves the desk as it was

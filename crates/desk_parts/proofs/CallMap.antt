@@ -14,7 +14,8 @@ use Rattle.desk_parts.specs.Change.{ChangesOnlyCall, one_if}
 use Rattle.desk_parts.specs.declared.call_record.CallRecord.{CallRecord}
 use Rattle.sign_base.proofs.Calls.{same_call-refl}
 
-module _ {H : Type 0} (cmp : CallId → CallId → Ordering) (same : (a b : CallId) → is_eq (cmp a b) ≡ same_call a b) where
+module _ {H : Type 0} (cmp : CallId → CallId → Ordering)
+    (same : (a b : CallId) → is_eq (cmp a b) ≡ same_call a b) where
   lookup_is : (q : CallId) (es : List (CallId × CallRecord H)) → lookup (is_at (cmp q)) es ≡ find_call q es
   lookup_is q [] = refl
   lookup_is q (e ∷ es) = rw (same q e.0, lookup_is q es) refl

@@ -4,8 +4,9 @@ use Rattle.std.proofs.lemmas.List.{length-append}
 use Rattle.sequential_signer.specs.Setup.{Setup, Handle}
 use Rattle.sequential_signer.specs.declared.event.Loader.{Loader}
 use Rattle.desk_parts.specs.WellFormedSetup.{IsWellFormedSetup}
+use Rattle.desk_parts.specs.declared.limits.TheConstants.{MOST_ROWS}
 
-more_few : {X : Type 0} (xs : List X) (x : X) → length xs < 4294967295 → length (xs ++ x ∷ []) < 2 ^ 32
+more_few : {X : Type 0} (xs : List X) (x : X) → length xs < MOST_ROWS → length (xs ++ x ∷ []) < 2 ^ 32
 more_few xs x h = omega (arith, length-append xs (x ∷ []))
 
 -- a number below a length is below that of a longer list
@@ -28,7 +29,7 @@ each-by P Q f (Some x) h = f x h
 
 module _ {D : Type 0} (setup : Setup D) (ok : IsWellFormedSetup setup) where
   -- one more cache
-  pub set_up-cache : (loader : Loader) → length setup.loaders < 4294967295
+  pub set_up-cache : (loader : Loader) → length setup.loaders < MOST_ROWS
       → IsWellFormedSetup (record setup { loaders = setup.loaders ++ loader ∷ [] })
   set_up-cache loader h = record {
     caches_few = more_few setup.loaders loader h;
@@ -38,7 +39,7 @@ module _ {D : Type 0} (setup : Setup D) (ok : IsWellFormedSetup setup) where
   }
 
   -- one more rule
-  pub set_up-rule : (rule : D) → length setup.rules < 4294967295
+  pub set_up-rule : (rule : D) → length setup.rules < MOST_ROWS
       → IsWellFormedSetup (record setup { rules = setup.rules ++ rule ∷ [] })
   set_up-rule rule h = record {
     caches_few = ok.caches_few;
@@ -48,7 +49,7 @@ module _ {D : Type 0} (setup : Setup D) (ok : IsWellFormedSetup setup) where
   }
 
   -- one more handle
-  pub set_up-handle : (handle : Handle) → length setup.handles < 4294967295
+  pub set_up-handle : (handle : Handle) → length setup.handles < MOST_ROWS
       → handle.cache < length setup.loaders → handle.rule < length setup.rules
       → IsWellFormedSetup (record setup { handles = setup.handles ++ handle ∷ [] })
   set_up-handle handle h c r = record {

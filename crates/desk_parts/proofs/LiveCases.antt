@@ -12,7 +12,8 @@ use Rattle.desk_parts.proofs.ListPlaces.{place-there}
 use Rattle.desk_parts.proofs.LiveRecord.{Lives}
 use Rattle.desk_parts.proofs.Views.{view-cases}
 
-module _ {K D Q H : Type 0} (desk : DeskTables K D Q H) (set_up : IsWellFormedSetup (setup_of desk)) (call : CallId) where
+module _ {K D Q H : Type 0} (desk : DeskTables K D Q H) (set_up : IsWellFormedSetup (setup_of desk))
+    (call : CallId) where
   lives : (h : Handle) (r : CallRecord H) → slice_get desk.handles call.handle ≡ Some h
       → find_call call desk.calls ≡ Some r → Lives desk call h r
   lives h r under found =

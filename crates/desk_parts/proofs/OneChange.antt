@@ -39,7 +39,8 @@ module _ {K D Q H : Type 0} where
       → new.caches ≡ slice_set old.caches i (Some c) → Caches call c old new
   caches-stored call c old new i at within h = rw at (within, h)
 
-  module _ (old base new : DeskTables K D Q H) (call : CallId) (r : Option (CallRecord H)) (same : base.calls ≡ old.calls) (changes : ChangesOnlyCall base call r new) where
+  module _ (old base new : DeskTables K D Q H) (call : CallId) (r : Option (CallRecord H))
+      (same : base.calls ≡ old.calls) (changes : ChangesOnlyCall base call r new) where
     -- as many calls are live as the transcript says
     pub live-counted : (before after : ℕ) → length old.calls ≡ before
         → before + one_if r ≡ after + one_if (find_call call old.calls) → length new.calls ≡ after

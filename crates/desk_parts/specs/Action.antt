@@ -28,7 +28,11 @@ as_viewed view live = record live { stage = view.stage; answers = view.answers }
 module _ {R K D Q H : Type 0} where
   -- the call stays live, as this view says
   abbrev pub live_effect : DeskTables K D Q H → LiveCallView → R → EffectOn R K D Q H
-  live_effect desk view reply = record { reply = reply; desk = desk; live = option_map (as_viewed view) (find_call view.call desk.calls) }
+  live_effect desk view reply = record {
+    reply = reply;
+    desk = desk;
+    live = option_map (as_viewed view) (find_call view.call desk.calls);
+  }
 
   -- the call is over
   abbrev pub end_effect : DeskTables K D Q H → R → EffectOn R K D Q H

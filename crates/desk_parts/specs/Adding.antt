@@ -1,5 +1,6 @@
 -- What the calls do that set up a desk.
-use Rattle.std.specs.Prelude.{◌≡◌, ℕ, nat_lt, [], ◌∷◌, ◌++◌, Option, Some, None, Result, Ok, Err, length, if◌then◌else◌}
+use Rattle.std.specs.Prelude.{◌≡◌, ℕ, nat_lt, [], ◌∷◌, ◌++◌, Option, Some}
+use Rattle.std.specs.Prelude.{None, Result, Ok, Err, length, if◌then◌else◌}
 use Rattle.sequential_signer.specs.declared.event.Loader.{Loader}
 use Rattle.desk_parts.specs.Tables.{DeskTables}
 use Rattle.desk_parts.specs.declared.adding.AddError.{AddError}
@@ -8,7 +9,11 @@ use Rattle.desk_parts.specs.declared.adding.AddError.TheVariants.{Late, NoCache,
 
 -- the desk with one more empty cache, and what is kept of it beside its credential
 abbrev pub with_cache : {K D Q H : Type 0} → Loader → Q → DeskTables K D Q H → DeskTables K D Q H
-with_cache loader queue desk = record desk { loaders = desk.loaders ++ loader ∷ []; caches = desk.caches ++ None ∷ []; queues = desk.queues ++ queue ∷ [] }
+with_cache loader queue desk = record desk {
+  loaders = desk.loaders ++ loader ∷ [];
+  caches = desk.caches ++ None ∷ [];
+  queues = desk.queues ++ queue ∷ [];
+}
 
 -- the desk with one more rule
 abbrev pub with_rule : {K D Q H : Type 0} → D → DeskTables K D Q H → DeskTables K D Q H
@@ -16,7 +21,10 @@ with_rule rule desk = record desk { rules = desk.rules ++ rule ∷ [] }
 
 -- the desk with one more handle
 abbrev pub with_handle : {K D Q H : Type 0} → ℕ → ℕ → DeskTables K D Q H → DeskTables K D Q H
-with_handle cache rule desk = record desk { handles = desk.handles ++ record { cache = cache; rule = rule } ∷ []; greatest = desk.greatest ++ None ∷ [] }
+with_handle cache rule desk = record desk {
+  handles = desk.handles ++ record { cache = cache; rule = rule } ∷ [];
+  greatest = desk.greatest ++ None ∷ [];
+}
 
 -- why nothing may be added any more, where a begin was accepted
 abbrev pub late_refusal : {K D Q H : Type 0} → DeskTables K D Q H → Option AddError

@@ -3,7 +3,8 @@ use Rattle.std.specs.Prelude.{ℕ, ℤ, ◌+◌, [], Option, Some, None, slice_g
 use Rattle.std.specs.Duration.{as_nanos}
 use Rattle.sequential_signer.specs.Policy.{Policy}
 use Rattle.sequential_signer.specs.Lookup.{Outcome, Refuse, check_refreshed}
-use Rattle.sequential_signer.specs.SequentialCall.{Progress, Over, HoldInput, sequential_call, found_progress, next_of_chain}
+use Rattle.sequential_signer.specs.SequentialCall.{Progress, Over, HoldInput, sequential_call}
+use Rattle.sequential_signer.specs.SequentialCall.{found_progress, next_of_chain}
 use Rattle.sequential_signer.specs.declared.event.Answer.{Answer}
 use Rattle.sequential_signer.specs.declared.event.Answer.TheVariants.{Found, Missing, Failed}
 use Rattle.sequential_signer.specs.declared.event.Loader.{Loader}

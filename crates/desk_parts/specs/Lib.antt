@@ -17,3 +17,5 @@ pub mod Memory
 pub mod Cause
 pub mod Caches
 pub mod StepsBy
+pub use Rattle.sequential_signer.specs.Policy
+pub use Rattle.sign_base.specs.Calls

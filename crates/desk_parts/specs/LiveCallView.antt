@@ -8,7 +8,14 @@ use Rattle.desk_parts.specs.declared.tables.LiveCallView.{LiveCallView}
 
 -- the call with the places of its handle, and what its record says beside the head
 abbrev pub stored_view : {H : Type 0} → CallId → Handle → CallRecord H → LiveCallView
-stored_view call handle live = record { call = call; cache = handle.cache; rule = handle.rule; stage = live.stage; expires_in = live.expires_in; answers = live.answers }
+stored_view call handle live = record {
+  call = call;
+  cache = handle.cache;
+  rule = handle.rule;
+  stage = live.stage;
+  expires_in = live.expires_in;
+  answers = live.answers;
+}
 
 -- the same, where handle and record are there
 abbrev pub view_by : {H : Type 0} → CallId → Option Handle → Option (CallRecord H) → Option LiveCallView

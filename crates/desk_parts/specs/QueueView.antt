@@ -9,11 +9,11 @@ use Rattle.desk_parts.specs.declared.queue.CallQueue.TheInside.{Inside}
 
 -- the line of the lock, and how many calls may still come
 abbrev pub queue_view : Inside → Queue
-queue_view queue = record { line = line queue.lock; unpolled = queue.unpolled }
+queue_view queue = record { line = line queue.lock; reserved = queue.reserved }
 
 -- the lock has room for each call that was begun and not polled
 abbrev pub HasRoom : Inside → Type 0
-HasRoom queue = queue.unpolled ≤ queue.lock.spare
+HasRoom queue = queue.reserved ≤ queue.lock.spare
 
 -- the call that holds by a leave
 abbrev pub next_of_left : Left → Option CallId

@@ -17,7 +17,7 @@ tables_view desk = record {
   handles = map handle_view desk.handles.items;
   caches = desk.caches.items;
   queues = desk.queues.items;
-  greatest = desk.greatest.items;
-  started = desk.started;
+  greatest = desk.last_numbers.items;
+  started = desk.has_begun_calls;
   calls = desk.calls.entries;
 }

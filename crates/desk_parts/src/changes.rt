@@ -1,6 +1,7 @@
 //! The small changes of live calls of which each step is made. Live calls are found by their names, so no
 //! change goes over all of them.
-ghost use Rattle.std.specs.Prelude.{◌≡◌, true, Some, None, option_map, IsSome, OnOk, OnErr, length, slice_get, slice_set, ◌<◌};
+ghost use Rattle.std.specs.Prelude.{◌≡◌, true, Some, None, option_map, IsSome};
+ghost use Rattle.std.specs.Prelude.{OnOk, OnErr, length, slice_get, slice_set, ◌<◌};
 
 use crate::call_record::CallRecord;
 use crate::tables::{LiveCallView, Tables};
@@ -25,7 +26,7 @@ impl<K: SigningCredential, D: DeadlineRule<Credential = K>, Q: Drop, H: Drop> Ta
     }
 
     /// The cache of a handle that is there.
-    pub fn cache_under(&self, handle: u32) -> u32
+    pub fn cache_of_handle(&self, handle: u32) -> u32
         requires { IsSome (slice_get self.now.handles handle) }
         ensures { result ≡ cache_at (slice_get self.now.handles handle) }
     {
@@ -46,8 +47,8 @@ impl<K: SigningCredential, D: DeadlineRule<Credential = K>, Q: Drop, H: Drop> Ta
         requires { call.handle < length self.old.greatest }
         ensures { self.new ≡ with_number call self.old }
     {
-        self.greatest[call.handle as usize] = Some(call.number);
-        self.started = true;
+        self.last_numbers[call.handle as usize] = Some(call.number);
+        self.has_begun_calls = true;
     }
 
     /// Takes a call in, where it waits in no queue: its record and its number, or changes nothing.
@@ -77,8 +78,6 @@ impl<K: SigningCredential, D: DeadlineRule<Credential = K>, Q: Drop, H: Drop> Ta
     }
 
     /// Keeps a credential in a cache.
-    ///
-    /// Requires a cache that is there.
     pub fn store(&mut self, cache: u32, credential: K)
         requires { cache < length self.old.caches }
         ensures { self.new ≡ record self.old { caches = slice_set self.old.caches cache (Some credential) } }

@@ -6,14 +6,12 @@ use sequential_signer::{DeadlineRule, Loader, SigningCredential, Why};
 use sign_base::Timestamp;
 
 impl<K: SigningCredential, D: DeadlineRule<Credential = K>, Q: Drop, H: Drop> Tables<K, D, Q, H> {
-    ghost use Rattle.sequential_signer.specs.Policy.{policy_of};
+    ghost use Rattle.sequential_signer.specs.Policy.{policy_for};
     ghost use Rattle.desk_parts.specs.Places.{provider_count};
     ghost use Rattle.desk_parts.specs.HoldProgress.{desk_check, with_answer};
     ghost use Rattle.desk_parts.specs.IsCheck.{IsCheck};
 
     /// How many providers a cache asks at most.
-    ///
-    /// Requires a cache that is there.
     pub fn provider_count(&self, cache: u32) -> u32
         requires { cache < length self.now.loaders }
         ensures { IfSome (slice_get self.now.loaders cache) (λ loader. result ≡ provider_count loader) }
@@ -40,11 +38,9 @@ impl<K: SigningCredential, D: DeadlineRule<Credential = K>, Q: Drop, H: Drop> Ta
     }
 
     /// What a credential that was found is good for. Whether it is fresh is not asked.
-    ///
-    /// Requires a rule that is there.
     pub fn check(&self, view: LiveCallView, now: Timestamp, found: &K) -> Result<(), Why>
         requires { view.rule < length self.now.rules }
-        ensures { IsCheck (desk_check (policy_of K.valid K.valid_at D.deadline) self.now now view found.now)
+        ensures { IsCheck (desk_check (policy_for K.SigningCredential D.DeadlineRule) self.now now view found.now)
             found.now result }
     {
         let rule = &self.rules[view.rule as usize];

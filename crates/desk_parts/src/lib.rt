@@ -7,6 +7,7 @@ pub mod adding;
 pub mod call_record;
 mod changes;
 mod check;
+pub mod limits;
 pub mod lookup;
 pub mod queue;
 mod queues;
@@ -17,6 +18,7 @@ pub mod tables;
 
 pub use adding::{AddError, AddRefused};
 pub use call_record::{CallRecord, Stage};
+pub use limits::{MOST_ROWS, NUMBERED_ROWS};
 pub use lookup::Lookup;
 pub use queue::CallQueue;
 pub use run_error::RunError;

@@ -19,21 +19,19 @@ pub enum Lookup<K> {
 }
 
 impl<K: SigningCredential, D: DeadlineRule<Credential = K>, Q: Drop, H: Drop> Tables<K, D, Q, H> {
-    ghost use Rattle.sequential_signer.specs.Policy.{policy_of};
+    ghost use Rattle.sequential_signer.specs.Policy.{policy_for};
     ghost use Rattle.desk_parts.specs.HoldProgress.{desk_lookup};
     ghost use Rattle.desk_parts.specs.IsLookup.{IsLookup};
     ghost use Rattle.desk_parts.specs.Memory.{ClonesAreFree};
     ghost use Rattle.desk_parts.specs.declared.lookup.Lookup.TheVariants.{OutOfMemory};
 
     /// What its cache holds for the call now.
-    ///
-    /// Requires a cache and a rule that are there.
     pub fn look(&self, view: LiveCallView, now: Timestamp) -> Lookup<K>
         requires loader { view.cache < length self.now.loaders }
         requires cache { view.cache < length self.now.caches }
         requires rule { view.rule < length self.now.rules }
         ensures lookup { IsLookup
-            (desk_lookup (policy_of K.valid K.valid_at D.deadline) self.now now view) result }
+            (desk_lookup (policy_for K.SigningCredential D.DeadlineRule) self.now now view) result }
         ensures memory { ClonesAreFree K.clones_freely → result ≢ OutOfMemory }
     {
         let rule = &self.rules[view.rule as usize];

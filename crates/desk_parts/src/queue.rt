@@ -1,7 +1,8 @@
 //! The queue of a cache: its lock, with room for each call that was begun and may still come.
-ghost use Rattle.std.specs.Prelude.{◌≡◌, ◌+◌, ◌-◌, ◌<◌, ◌++◌, ◌∷◌, [], false, OnOk, OnErr, ◌^◌};
+ghost use Rattle.std.specs.Prelude.{◌≡◌, ◌+◌, ◌-◌, ◌<◌, ◌++◌, ◌∷◌, [], false, OnOk, OnErr};
 ghost use Rattle.sign_base.specs.Calls.{is_first, is_among};
-ghost use Rattle.desk_parts.specs.Queue.{is_held, with_last, without_room, without_call, next_holder, with_room};
+ghost use Rattle.desk_parts.specs.Queue.{is_held, with_last, without_room};
+ghost use Rattle.desk_parts.specs.Queue.{without_call, next_holder, with_room};
 ghost use Rattle.desk_parts.specs.QueueView.{next_of_left};
 
 use sign_base::{CallId, NoMemory};
@@ -9,12 +10,12 @@ use std::alloc::Global;
 use std::marker::Model;
 use wake_lock::{Left, WaitLock};
 
-/// The lock of a cache and the number of its calls that were begun and not polled. There is room
-/// in the lock for each of them.
+/// The lock of a cache, and how many places in it are reserved: one for each call that was begun and not
+/// polled.
 #[derive(Drop)]
 pub struct CallQueue {
     lock: WaitLock,
-    unpolled: usize,
+    reserved: u32,
 }
 
 impl Model for CallQueue {
@@ -32,24 +33,21 @@ impl Model for CallQueue {
 impl CallQueue {
     /// A queue with nobody in it.
     pub fn new(alloc: Global) -> CallQueue
-        ensures { result ≡ record { line = []; unpolled = 0 } }
+        ensures { result ≡ record { line = []; reserved = 0 } }
     {
         CallQueue {
             lock: WaitLock::new(alloc),
-            unpolled: 0,
+            reserved: 0,
         }
     }
 
-    /// Takes the room of a call that begins, or changes nothing.
-    ///
-    /// Requires fewer than 18,446,744,073,709,551,615 rooms that are taken.
-    pub fn take_room(&mut self) -> Result<(), NoMemory<()>>
-        requires { self.old.unpolled + 1 < 2 ^ 64 }
+    /// Reserves the place of a call that begins, or changes nothing.
+    pub fn reserve_place(&mut self) -> Result<(), NoMemory<()>>
         ensures ok { OnOk result (self.new ≡ with_room self.old) }
         ensures err { OnErr result (self.new ≡ self.old) }
     {
-        self.lock.reserve(self.unpolled + 1)?;
-        self.unpolled += 1;
+        self.lock.reserve(self.reserved as usize + 1)?;
+        self.reserved += 1;
         Ok(())
     }
 
@@ -80,26 +78,22 @@ impl CallQueue {
         }
     }
 
-    /// A first poll by which the call takes its place, in the room that was taken for it.
-    ///
-    /// Requires a room that was taken, and a call that is not in line.
+    /// A first poll by which the call takes the place that was reserved for it.
     pub fn enter(&mut self, call: CallId)
-        requires room { 0 < self.old.unpolled }
+        requires reserved { 0 < self.old.reserved }
         requires outside { is_among call self.old.line ≡ false }
         ensures { self.new ≡ with_last call self.old }
     {
         let _entered = self.lock.enter(call);
-        self.unpolled -= 1;
+        self.reserved -= 1;
     }
 
     /// A first poll that ends its call's hold at once, or the end of a call that was never polled.
-    ///
-    /// Requires a room that was taken.
-    pub fn return_room(&mut self)
-        requires { 0 < self.old.unpolled }
+    pub fn release_place(&mut self)
+        requires { 0 < self.old.reserved }
         ensures { self.new ≡ without_room self.old }
     {
-        self.unpolled -= 1;
+        self.reserved -= 1;
     }
 
     /// Takes the call out, and names the call that gets its turn by this.

@@ -1,5 +1,6 @@
 //! What is added to the tables of a desk, all of it before the first call is begun.
 ghost use Rattle.std.specs.Prelude.{◌≡◌, ◌<◌, length, OnOk, OnErr, IfErr, vec_len, vec_capacity};
+ghost use Rattle.desk_parts.specs.declared.limits.TheConstants.{NUMBERED_ROWS};
 
 use crate::adding::{AddError, AddRefused};
 use crate::tables::{HandleRecord, Tables};
@@ -26,32 +27,31 @@ fn reserve_cache_row<K: Drop, Q: Drop>(
 /// Takes room for the row of one more handle, or changes nothing.
 fn reserve_handle_row(
     handles: &mut Vec<HandleRecord>,
-    greatest: &mut Vec<Option<u64>>,
+    last_numbers: &mut Vec<Option<u64>>,
 ) -> Result<(), AllocError>
     ensures handles { handles.new.items ≡ handles.old.items }
-    ensures greatest { greatest.new.items ≡ greatest.old.items }
+    ensures last_numbers { last_numbers.new.items ≡ last_numbers.old.items }
     ensures room { OnOk result (vec_len handles.new < vec_capacity handles.new
-        × vec_len greatest.new < vec_capacity greatest.new) }
+        × vec_len last_numbers.new < vec_capacity last_numbers.new) }
 {
     handles.reserve(1)?;
-    greatest.reserve(1)
+    last_numbers.reserve(1)
 }
 
 impl<K: SigningCredential, D: DeadlineRule<Credential = K>, Q: Drop, H: Drop> Tables<K, D, Q, H> {
-    ghost use Rattle.desk_parts.specs.Adding.{with_cache, with_rule, with_handle, late_refusal, handle_refusal, AddAnswer, AddAnswerBack};
+    ghost use Rattle.desk_parts.specs.Adding.{with_cache, with_rule, with_handle, late_refusal};
+    ghost use Rattle.desk_parts.specs.Adding.{handle_refusal, AddAnswer, AddAnswerBack};
 
     /// Adds an empty cache with this queue, and returns its number.
     ///
     /// Errors: `Late` where a call was begun, `OutOfMemory`. An error changes nothing.
-    ///
-    /// Requires fewer than 4,294,967,296 caches.
     pub fn add_cache(&mut self, loader: Loader, queue: Q) -> Result<u32, AddError>
-        requires { length self.old.loaders < 4294967296 }
+        requires { length self.old.loaders < NUMBERED_ROWS }
         ensures answer { AddAnswer (late_refusal self.old) (length self.old.loaders) result }
         ensures added { OnOk result (self.new ≡ with_cache loader queue self.old) }
         ensures unchanged { OnErr result (self.new ≡ self.old) }
     {
-        if self.started {
+        if self.has_begun_calls {
             return Err(AddError::Late);
         }
         let number = self.loaders.len() as u32;
@@ -66,15 +66,13 @@ impl<K: SigningCredential, D: DeadlineRule<Credential = K>, Q: Drop, H: Drop> Ta
     ///
     /// Errors: `Late` where a call was begun, `OutOfMemory`. An error changes nothing, and hands the
     /// rule back.
-    ///
-    /// Requires fewer than 4,294,967,296 rules.
     pub fn add_rule(&mut self, rule: D) -> Result<u32, AddRefused<D>>
-        requires { length self.old.rules < 4294967296 }
+        requires { length self.old.rules < NUMBERED_ROWS }
         ensures answer { AddAnswerBack (late_refusal self.old) (length self.old.rules) result }
         ensures added { OnOk result (self.new ≡ with_rule rule self.old) }
         ensures unchanged { IfErr result (λ refused. (refused.back ≡ rule) × (self.new ≡ self.old)) }
     {
-        if self.started {
+        if self.has_begun_calls {
             return Err(AddRefused {
                 why: AddError::Late,
                 back: rule,
@@ -94,15 +92,13 @@ impl<K: SigningCredential, D: DeadlineRule<Credential = K>, Q: Drop, H: Drop> Ta
     ///
     /// Errors, the first that holds: `Late` where a call was begun, `NoCache` and `NoRule` where there
     /// is no such number, `OutOfMemory`. An error changes nothing.
-    ///
-    /// Requires fewer than 4,294,967,296 handles.
     pub fn add_handle(&mut self, cache: u32, rule: u32) -> Result<u32, AddError>
-        requires { length self.old.handles < 4294967296 }
+        requires { length self.old.handles < NUMBERED_ROWS }
         ensures answer { AddAnswer (handle_refusal self.old cache rule) (length self.old.handles) result }
         ensures added { OnOk result (self.new ≡ with_handle cache rule self.old) }
         ensures unchanged { OnErr result (self.new ≡ self.old) }
     {
-        if self.started {
+        if self.has_begun_calls {
             return Err(AddError::Late);
         }
         if cache as usize >= self.loaders.len() {
@@ -112,9 +108,9 @@ impl<K: SigningCredential, D: DeadlineRule<Credential = K>, Q: Drop, H: Drop> Ta
             return Err(AddError::NoRule(rule));
         }
         let number = self.handles.len() as u32;
-        reserve_handle_row(&mut self.handles, &mut self.greatest)?;
+        reserve_handle_row(&mut self.handles, &mut self.last_numbers)?;
         self.handles.push_reserved(HandleRecord { cache, rule });
-        self.greatest.push_reserved(None);
+        self.last_numbers.push_reserved(None);
         Ok(number)
     }
 
@@ -122,24 +118,22 @@ impl<K: SigningCredential, D: DeadlineRule<Credential = K>, Q: Drop, H: Drop> Ta
     ///
     /// Errors: `Late` where a call was begun, `OutOfMemory`. An error changes nothing, and hands the
     /// rule back.
-    ///
-    /// Requires fewer than 4,294,967,296 rules and handles.
-    pub fn add_handle_with_rule(&mut self, cache: u32, rule: D) -> Result<u32, AddRefused<D>>
-        requires rules { length self.old.rules < 4294967296 }
-        requires handles { length self.old.handles < 4294967296 }
+    pub fn add_rule_and_handle(&mut self, cache: u32, rule: D) -> Result<u32, AddRefused<D>>
+        requires rules { length self.old.rules < NUMBERED_ROWS }
+        requires handles { length self.old.handles < NUMBERED_ROWS }
         ensures answer { AddAnswerBack (late_refusal self.old) (length self.old.handles) result }
         ensures added { OnOk result
             (self.new ≡ with_handle cache (length self.old.rules) (with_rule rule self.old)) }
         ensures unchanged { IfErr result (λ refused. (refused.back ≡ rule) × (self.new ≡ self.old)) }
     {
-        if self.started {
+        if self.has_begun_calls {
             return Err(AddRefused {
                 why: AddError::Late,
                 back: rule,
             });
         }
         if self.rules.reserve(1).is_err()
-            | reserve_handle_row(&mut self.handles, &mut self.greatest).is_err()
+            | reserve_handle_row(&mut self.handles, &mut self.last_numbers).is_err()
         {
             return Err(AddRefused {
                 why: AddError::OutOfMemory,
@@ -151,7 +145,7 @@ impl<K: SigningCredential, D: DeadlineRule<Credential = K>, Q: Drop, H: Drop> Ta
         self.rules.push_reserved(rule);
         self.handles
             .push_reserved(HandleRecord { cache, rule: place });
-        self.greatest.push_reserved(None);
+        self.last_numbers.push_reserved(None);
         Ok(number)
     }
 
@@ -159,33 +153,31 @@ impl<K: SigningCredential, D: DeadlineRule<Credential = K>, Q: Drop, H: Drop> Ta
     /// number.
     ///
     /// Errors: `Late` where a call was begun, `OutOfMemory`. An error changes nothing.
-    ///
-    /// Requires fewer than 4,294,967,296 caches and handles.
-    pub fn add_handle_with_cache(
+    pub fn add_cache_and_handle(
         &mut self,
         loader: Loader,
         queue: Q,
         rule: u32,
     ) -> Result<u32, AddError>
-        requires caches { length self.old.loaders < 4294967296 }
-        requires handles { length self.old.handles < 4294967296 }
+        requires caches { length self.old.loaders < NUMBERED_ROWS }
+        requires handles { length self.old.handles < NUMBERED_ROWS }
         ensures answer { AddAnswer (late_refusal self.old) (length self.old.handles) result }
         ensures added { OnOk result
             (self.new ≡ with_handle (length self.old.loaders) rule (with_cache loader queue self.old)) }
         ensures unchanged { OnErr result (self.new ≡ self.old) }
     {
-        if self.started {
+        if self.has_begun_calls {
             return Err(AddError::Late);
         }
         let cache = self.loaders.len() as u32;
         let number = self.handles.len() as u32;
-        reserve_handle_row(&mut self.handles, &mut self.greatest)?;
+        reserve_handle_row(&mut self.handles, &mut self.last_numbers)?;
         reserve_cache_row(&mut self.loaders, &mut self.caches, &mut self.queues)?;
         self.loaders.push_reserved(loader);
         self.caches.push_reserved(None);
         self.queues.push_reserved(queue);
         self.handles.push_reserved(HandleRecord { cache, rule });
-        self.greatest.push_reserved(None);
+        self.last_numbers.push_reserved(None);
         Ok(number)
     }
 }

@@ -1,5 +1,5 @@
 //! What a desk keeps: a table for each kind of place, and the live calls by their names. A cache has its
-//! row in `loaders`, `caches` and `queues`, a handle in `handles` and `greatest`.
+//! row in `loaders`, `caches` and `queues`, a handle in `handles` and `last_numbers`.
 ghost use Rattle.std.specs.Prelude.{◌≡◌, [], false, option_map, option_copied, IfSome, slice_get};
 
 use crate::call_record::{CallRecord, Stage};
@@ -44,8 +44,9 @@ pub struct Tables<K, D, Q, H> {
     pub handles: Vec<HandleRecord>,
     pub caches: Vec<Option<K>>,
     pub queues: Vec<Q>,
-    pub greatest: Vec<Option<u64>>,
-    pub started: bool,
+    /// The number of the last call begun under each handle, which is the greatest so far.
+    pub last_numbers: Vec<Option<u64>>,
+    pub has_begun_calls: bool,
     pub calls: BTreeMap<CallId, CallRecord<H>>,
 }
 
@@ -85,17 +86,17 @@ impl<K: SigningCredential, D: DeadlineRule<Credential = K>, Q: Drop, H: Drop> Ta
             handles: Vec::new(alloc),
             caches: Vec::new(alloc),
             queues: Vec::new(alloc),
-            greatest: Vec::new(alloc),
-            started: false,
+            last_numbers: Vec::new(alloc),
+            has_begun_calls: false,
             calls: BTreeMap::new(alloc),
         }
     }
 
     /// Whether a begin was accepted.
-    pub fn is_started(&self) -> bool
+    pub fn has_begun_calls(&self) -> bool
         ensures { result ≡ self.now.started }
     {
-        self.started
+        self.has_begun_calls
     }
 
     /// The handle at this place.
@@ -110,11 +111,11 @@ impl<K: SigningCredential, D: DeadlineRule<Credential = K>, Q: Drop, H: Drop> Ta
         ensures { result ≡ can_begin self.now call }
     {
         let place = call.handle as usize;
-        if place >= self.handles.len() || place >= self.greatest.len() {
+        if place >= self.handles.len() || place >= self.last_numbers.len() {
             return false;
         }
-        match self.greatest[place] {
-            Some(greatest) => greatest < call.number,
+        match self.last_numbers[place] {
+            Some(last) => last < call.number,
             None => true,
         }
     }

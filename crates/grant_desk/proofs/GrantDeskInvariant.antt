@@ -27,6 +27,7 @@ use Rattle.grant_desk.specs.GrantDeskState.{GrantState, with_source, GrantRepres
 use Rattle.grant_desk.specs.GrantSteps.{GrantUnchangedBy}
 use Rattle.grant_desk.specs.IsGrantDesk.{IsGrantDesk}
 use Rattle.grant_desk.proofs.GrantEmpty.{grant_empty, grant_represents-empty, grant_represents-with_source, grant_represents-with_rule, grant_represents-with_handle}
+use Rattle.desk_parts.specs.declared.limits.TheConstants.{MOST_ROWS}
 
 module _ {K D : Type 0} (policy : Policy K D) where
   -- an empty desk is a desk
@@ -45,7 +46,7 @@ module _ {K D : Type 0} (policy : Policy K D) where
 
   module _ (old : GrantState K D) (d : IsGrantDesk policy old) (h : old.started ≡ false) where
     -- one more cache leaves a desk
-    pub grant_desk-with_source : (loader : Loader) → length old.loaders < 4294967295
+    pub grant_desk-with_source : (loader : Loader) → length old.loaders < MOST_ROWS
         → IsGrantDesk policy (with_source loader old)
     grant_desk-with_source loader few = record {
       set_up = set_up-cache (setup_of old) d.set_up loader few;
@@ -55,7 +56,7 @@ module _ {K D : Type 0} (policy : Policy K D) where
     }
 
     -- one more rule leaves a desk
-    pub grant_desk-with_rule : (rule : D) → length old.rules < 4294967295
+    pub grant_desk-with_rule : (rule : D) → length old.rules < MOST_ROWS
         → IsGrantDesk policy (with_rule rule old)
     grant_desk-with_rule rule few = record {
       set_up = set_up-rule (setup_of old) d.set_up rule few;
@@ -65,7 +66,7 @@ module _ {K D : Type 0} (policy : Policy K D) where
     }
 
     -- one more handle leaves a desk
-    pub grant_desk-with_handle : (cache rule : ℕ) → length old.handles < 4294967295
+    pub grant_desk-with_handle : (cache rule : ℕ) → length old.handles < MOST_ROWS
         → cache < length old.loaders → rule < length old.rules
         → IsGrantDesk policy (with_handle cache rule old)
     grant_desk-with_handle cache rule few c r = record {
@@ -115,7 +116,8 @@ module _ {K D : Type 0} (policy : Policy K D) where
       let either : is_first reply ≡ true = ap is_first l ∙ first_expected setup event in
       sym (or_false (is_begun (as_reply reply))) ∙ ap (λ v. is_begun (as_reply reply) || v) (sym n) ∙ either
 
-  module _ (old new : GrantState K D) (event : GrantEvent K) (reply : GrantReply K) (d : IsGrantDesk policy old) (setup : setup_of new ≡ setup_of old)
+  module _ (old new : GrantState K D) (event : GrantEvent K) (reply : GrantReply K)
+      (d : IsGrantDesk policy old) (setup : setup_of new ≡ setup_of old)
       (next : GrantRepresents policy new (d.entries ++ record { event = event; reply = reply } ∷ [])) where
     committed_begins : is_out_of_memory (as_reply reply) ≡ false → is_not_now (as_reply reply) ≡ false
         → new.started ≡ false → ⊥

@@ -20,7 +20,8 @@ use Rattle.desk_parts.proofs.LiveRecord.{RecordSays, record_says, Lives}
 use Rattle.grant_desk.specs.GrantDeskState.{GrantState, GrantRecord, granted_view, GrantRepresents}
 use Rattle.grant_desk.proofs.GrantRefine.{grants_ran}
 
-module _ {K D : Type 0} (policy : Policy K D) (old : GrantState K D) (entries : List (GrantEntry K)) (stood : GrantRepresents policy old entries) where
+module _ {K D : Type 0} (policy : Policy K D) (old : GrantState K D) (entries : List (GrantEntry K))
+    (stood : GrantRepresents policy old entries) where
   abbrev before : List (GrantEntry K)
   before = committed_grants entries
 

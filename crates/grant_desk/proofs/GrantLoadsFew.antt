@@ -56,7 +56,8 @@ asks k (Some (Over (HandOut c) left)) h = absurd (cc)
 asks k (Some (Over (Refuse cause) left)) h = absurd (cc)
 
 module _ {K D : Type 0} (policy : Policy K D) (setup : Setup D) where
-  module _ (entries : List (GrantEntry K)) (run : IsGrantRun policy setup entries) (i : ℕ) (loader : Loader) (there : slice_get setup.loaders i ≡ Some loader) where
+  module _ (entries : List (GrantEntry K)) (run : IsGrantRun policy setup entries) (i : ℕ) (loader : Loader)
+      (there : slice_get setup.loaders i ≡ Some loader) where
     abbrev after : GrantEvent K → GrantReply K → List (GrantEntry K)
     after event reply = entries ++ record { event = event; reply = reply } ∷ []
 

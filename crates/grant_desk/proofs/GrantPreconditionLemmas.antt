@@ -22,12 +22,15 @@ use Rattle.grant_desk.specs.GrantPlaces.{IsGrantPlaced, GrantPrecondition}
 use Rattle.grant_desk.proofs.GrantLoadsFew.{grant_loads_few}
 use Rattle.grant_desk.proofs.GrantRefine.{grants_ran}
 
-module _ {K D : Type 0} (policy : Policy K D) (desk : GrantState K D) (entries : List (GrantEntry K)) (stood : GrantRepresents policy desk entries) (set_up : IsWellFormedSetup (setup_of desk)) where
+module _ {K D : Type 0} (policy : Policy K D) (desk : GrantState K D) (entries : List (GrantEntry K))
+    (stood : GrantRepresents policy desk entries) (set_up : IsWellFormedSetup (setup_of desk)) where
   abbrev before : List (GrantEntry K)
   before = committed_grants entries
 
-  module _ (call : CallId) (h : Handle) (under : slice_get desk.handles call.handle ≡ Some h) (r : GrantRecord) (found : find_call call desk.calls ≡ Some r) where
-    recorded : RecordSays (granted_view r) (grant_phase_of before call) (length (answers_of (as_signer before) call)) (begin_of (as_signer before) call)
+  module _ (call : CallId) (h : Handle) (under : slice_get desk.handles call.handle ≡ Some h)
+      (r : GrantRecord) (found : find_call call desk.calls ≡ Some r) where
+    recorded : RecordSays (granted_view r) (grant_phase_of before call)
+        (length (answers_of (as_signer before) call)) (begin_of (as_signer before) call)
     recorded = record_says (granted_view r) (grant_phase_of before call) (length (answers_of (as_signer before) call)) (begin_of (as_signer before) call) (ap (option_map granted_view) (sym found) ∙ stood.calls call)
 
     at : cache_of (setup_of desk) call ≡ Some h.cache

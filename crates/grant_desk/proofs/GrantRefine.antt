@@ -87,7 +87,8 @@ module _ {K D : Type 0} (policy : Policy K D) where
     pub caches : SourcesAfter e.event e.reply old new
     pub unchanged : GrantUnchangedBy e.reply old new
 
-  module _ (old : GrantState K D) (entries : List (GrantEntry K)) (stood : GrantRepresents policy old entries) where
+  module _ (old : GrantState K D) (entries : List (GrantEntry K))
+      (stood : GrantRepresents policy old entries) where
     abbrev before : List (GrantEntry K)
     before = committed_grants entries
 
@@ -99,7 +100,9 @@ module _ {K D : Type 0} (policy : Policy K D) where
     grants_ran = legal_grant_run policy (setup_of old) entries stood.legal
 
     -- an entry with the expected reply, where what is kept follows it
-    module _ (e : GrantEntry K) (expected : e.reply ≡ expected_grant_reply policy (setup_of old) before e.event) (committed : is_out_of_memory (as_reply e.reply) ≡ false) where
+    module _ (e : GrantEntry K)
+        (expected : e.reply ≡ expected_grant_reply policy (setup_of old) before e.event)
+        (committed : is_out_of_memory (as_reply e.reply) ≡ false) where
       represents-more : (base new : GrantState K D) → GrantFollows old entries base e
           → (r : Option GrantRecord) → ChangesOnlyCall base (grant_call_of e.event) r new
           → option_map granted_view r ≡ live_call (as_signer (after e)) (grant_call_of e.event)
@@ -201,7 +204,9 @@ module _ {K D : Type 0} (policy : Policy K D) where
     grant_follows-same e b g = grant_follows-cached e old.caches b (sources_after-same e.event e.reply old old g refl) (sources_same e (stored_by-no_grant e.event e.reply g))
 
     -- the sources of the caches, where the entry stores a credential at its call's cache
-    module _ (e : GrantEntry K) (c : K) (i : ℕ) (at : cache_of (setup_of old) (grant_call_of e.event) ≡ Some i) (stores : stored_by e.event e.reply ≡ Some c) (within : i < length old.caches) where
+    module _ (e : GrantEntry K) (c : K) (i : ℕ)
+        (at : cache_of (setup_of old) (grant_call_of e.event) ≡ Some i)
+        (stores : stored_by e.event e.reply ≡ Some c) (within : i < length old.caches) where
       pub sources_stored : (j : ℕ)
           → slice_get (slice_set old.caches i (Some c)) j
           ≡ option_map (λ _. grant_source (setup_of old) (after e) j) (slice_get old.loaders j)

@@ -47,7 +47,8 @@ there_both : (o : Option Handle) (g : Option ℕ) → is_some (option_map (λ (h
 there_both None g h = cc
 there_both (Some x) g h = refl
 
-module _ {K D : Type 0} (policy : Policy K D) (old : GrantState K D) (entries : List (GrantEntry K)) (stood : GrantRepresents policy old entries) (call : CallId) (expires_in : Option Duration) where
+module _ {K D : Type 0} (policy : Policy K D) (old : GrantState K D) (entries : List (GrantEntry K))
+    (stood : GrantRepresents policy old entries) (call : CallId) (expires_in : Option Duration) where
   abbrev before : List (GrantEntry K)
   before = committed_grants entries
 

@@ -27,7 +27,8 @@ use Rattle.grant_desk.proofs.GrantRefine.{GrantRefines, grant_refines-lost, gran
 use Rattle.grant_desk.proofs.GrantLive.{grant_at, grant_says, grant_phase-is}
 use Rattle.grant_desk.proofs.GrantRefineLive.{grant_refines-end}
 
-module _ {K D : Type 0} (policy : Policy K D) (old : GrantState K D) (entries : List (GrantEntry K)) (stood : GrantRepresents policy old entries)
+module _ {K D : Type 0} (policy : Policy K D) (old : GrantState K D) (entries : List (GrantEntry K))
+    (stood : GrantRepresents policy old entries)
     (call : CallId) (h : Handle) (r : GrantRecord) (lives : Lives old call h r) where
   abbrev before : List (GrantEntry K)
   before = committed_grants entries

@@ -38,7 +38,8 @@ use Rattle.grant_desk.proofs.GrantLive.{grant_says}
 abbrev viewed : CallId → Handle → GrantRecord → Stage → ℕ → LiveCallView
 viewed call h r stage answers = record (stored_view call h r) { stage = stage; answers = answers }
 
-module _ {K D : Type 0} (policy : Policy K D) (old : GrantState K D) (entries : List (GrantEntry K)) (stood : GrantRepresents policy old entries)
+module _ {K D : Type 0} (policy : Policy K D) (old : GrantState K D) (entries : List (GrantEntry K))
+    (stood : GrantRepresents policy old entries)
     (event : GrantEvent K) (h : Handle) (r : GrantRecord) (lives : Lives old (grant_call_of event) h r) where
   abbrev before : List (GrantEntry K)
   before = committed_grants entries

@@ -40,8 +40,10 @@ use Rattle.grant_desk.proofs.GrantRefine.{GrantFollows, GrantRefines, grant_refi
 use Rattle.grant_desk.proofs.GrantLive.{grant_at, grant_rule, grant_cached, grant_says, grant_phase-is}
 use Rattle.grant_desk.proofs.GrantRefineLive.{ProgressLaw, grant_refines-progress}
 
-module _ {K D : Type 0} (policy : Policy K D) (old : GrantState K D) (entries : List (GrantEntry K)) (stood : GrantRepresents policy old entries)
-    (call : CallId) (h : Handle) (r : GrantRecord) (lives : Lives old call h r) (now : ℤ) (answer : Answer K) where
+module _ {K D : Type 0} (policy : Policy K D) (old : GrantState K D) (entries : List (GrantEntry K))
+    (stood : GrantRepresents policy old entries)
+    (call : CallId) (h : Handle) (r : GrantRecord) (lives : Lives old call h r)
+    (now : ℤ) (answer : Answer K) where
   abbrev before : List (GrantEntry K)
   before = committed_grants entries
 

@@ -30,7 +30,8 @@ use Rattle.desk_parts.proofs.OneChange.{keeps-all}
 use Rattle.grant_desk.proofs.GrantLive.{grant_at, grant_says, grant_phase-is, grant_look-is}
 use Rattle.grant_desk.proofs.GrantRefineLive.{ProgressLaw, grant_refines-progress}
 
-module _ {K D : Type 0} (policy : Policy K D) (old : GrantState K D) (entries : List (GrantEntry K)) (stood : GrantRepresents policy old entries)
+module _ {K D : Type 0} (policy : Policy K D) (old : GrantState K D) (entries : List (GrantEntry K))
+    (stood : GrantRepresents policy old entries)
     (call : CallId) (h : Handle) (r : GrantRecord) (lives : Lives old call h r) (now : ℤ) where
   abbrev before : List (GrantEntry K)
   before = committed_grants entries

@@ -30,7 +30,8 @@ use Rattle.grant_desk.proofs.GrantRefineLook.{grant_refines-poll}
 use Rattle.grant_desk.proofs.GrantRefineLoad.{grant_refines-provided}
 use Rattle.grant_desk.proofs.GrantRefineEnd.{grant_refines-granted, grant_refines-cancel}
 
-module _ {K D : Type 0} (policy : Policy K D) (old : GrantState K D) (entries : List (GrantEntry K)) (stood : GrantRepresents policy old entries) (set_up : IsWellFormedSetup (setup_of old)) where
+module _ {K D : Type 0} (policy : Policy K D) (old : GrantState K D) (entries : List (GrantEntry K))
+    (stood : GrantRepresents policy old entries) (set_up : IsWellFormedSetup (setup_of old)) where
   -- events of a call, but for a begin, with what is done at them where the call is live
   data IsOfCall : GrantEvent K → (LiveCallView → GrantAction K D) → Type 0 where
     poll : (call : CallId) (now : ℤ)

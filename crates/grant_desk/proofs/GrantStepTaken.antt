@@ -18,7 +18,8 @@ module _ {K D : Type 0} (policy : Policy K D) (old : GrantState K D) (d : IsGran
   pub grant_desk-precondition : GrantPrecondition old
   grant_desk-precondition = grant-precondition policy old d.entries d.represents d.set_up
 
-  module _ (event : GrantEvent K) (reply : GrantReply K) (new : GrantState K D) (m : GrantTransition policy event old reply new) where
+  module _ (event : GrantEvent K) (reply : GrantReply K) (new : GrantState K D)
+      (m : GrantTransition policy event old reply new) where
     taken : GrantRefines policy old d.entries (record { event = event; reply = reply }) new
     taken = grant_refines-step policy old d.entries d.represents d.set_up event reply new m
 

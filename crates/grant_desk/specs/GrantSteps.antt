@@ -50,10 +50,10 @@ pub record IsGrantStep {K D : Type 0} (policy : Policy K D) (event : GrantEvent 
   pub setup : setup_of new ≡ setup_of old
   pub unchanged : GrantUnchangedBy reply old new
 
--- what a caller knows of a step of a run: besides, where clones of a credential take no memory, it runs out of
--- memory at a begin alone
-abbrev pub IsGrantRunStep : {K D : Type 0} → Policy K D → (FreeClones : Type 0) → GrantEvent K → GrantState K D
-    → GrantReply K → GrantState K D → Type 0
+-- what a caller knows of a step of a run: besides, where clones of a credential take no memory, it runs out
+-- of memory at a begin alone
+abbrev pub IsGrantRunStep : {K D : Type 0} → Policy K D → (FreeClones : Type 0) → GrantEvent K
+    → GrantState K D → GrantReply K → GrantState K D → Type 0
 IsGrantRunStep policy FreeClones event old reply new =
     IsGrantStep policy event old reply new × (FreeClones → RunsOutAtBegins event reply)
 

@@ -4,3 +4,12 @@ pub mod GrantPlaces
 pub mod GrantAction
 pub mod GrantCause
 pub mod GrantSteps
+pub use Rattle.desk_parts.specs.Action
+pub use Rattle.desk_parts.specs.Adding
+pub use Rattle.desk_parts.specs.LiveCallView
+pub use Rattle.desk_parts.specs.Memory
+pub use Rattle.desk_parts.specs.Tables
+pub use Rattle.desk_parts.specs.TablesView
+pub use Rattle.sequential_signer.specs.ExpectedGrantReply
+pub use Rattle.sequential_signer.specs.GrantTranscript
+pub use Rattle.sequential_signer.specs.Policy

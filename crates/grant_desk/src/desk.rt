@@ -8,7 +8,8 @@
 //!
 //! Contracts see a desk as the record `GrantState`, and compare it with the transcript of all events and
 //! replies by `GrantRepresents`: the desk replies what the definitions expect of the transcript alone.
-ghost use Rattle.std.specs.Prelude.{◌≡◌, ◌<◌, ◌++◌, ◌∷◌, [], List, IsOk, true, not, OnOk, OnErr, IfOk, IfErr, length, option_map, option_and_then, option_copied, slice_get};
+ghost use Rattle.std.specs.Prelude.{◌≡◌, ◌<◌, ◌++◌, ◌∷◌, [], List, IsOk, true, not, OnOk, OnErr, IfOk};
+ghost use Rattle.std.specs.Prelude.{IfErr, length, option_map, option_and_then, option_copied, slice_get};
 
 use crate::state::State;
 use desk_parts::{AddError, AddRefused, HandleRecord, RunError, Tables};
@@ -27,21 +28,23 @@ impl<K: SigningCredential, D: DeadlineRule<Credential = K>> Model for GrantDesk<
 
     ghost Value = { GrantState K D };
 
-    ghost use Rattle.sequential_signer.specs.Policy.{policy_of};
+    ghost use Rattle.sequential_signer.specs.Policy.{policy_for};
     ghost use Rattle.grant_desk.specs.IsGrantDesk.{IsGrantDesk};
 
     ghost view = { λ desk. desk.state };
 
-    ghost invariant = { λ desk. IsGrantDesk (policy_of K.valid K.valid_at D.deadline) desk.state };
+    ghost invariant = { λ desk. IsGrantDesk (policy_for K.SigningCredential D.DeadlineRule) desk.state };
 }
 
 impl<K: SigningCredential, D: DeadlineRule<Credential = K>> GrantDesk<K, D> {
-    ghost use Rattle.sequential_signer.specs.Policy.{policy_of};
+    ghost use Rattle.sequential_signer.specs.Policy.{policy_for};
     ghost use Rattle.sequential_signer.specs.GrantLegal.{IsLegalGrantEntry};
     ghost use Rattle.sequential_signer.specs.GrantTranscript.{as_signer, committed_grants};
     ghost use Rattle.sequential_signer.specs.declared.grant_event.GrantEntry.{GrantEntry};
-    ghost use Rattle.desk_parts.specs.Adding.{late_refusal, handle_refusal, AddAnswer, AddAnswerBack, with_rule, with_handle};
+    ghost use Rattle.desk_parts.specs.Adding.{late_refusal, handle_refusal, AddAnswer};
+    ghost use Rattle.desk_parts.specs.Adding.{AddAnswerBack, with_rule, with_handle};
     ghost use Rattle.desk_parts.specs.Memory.{ClonesAreFree};
+    ghost use Rattle.desk_parts.specs.declared.limits.TheConstants.{MOST_ROWS};
     ghost use Rattle.desk_parts.specs.Tables.{setup_of, was_begun};
     ghost use Rattle.desk_parts.specs.TablesView.{handle_view};
     ghost use Rattle.grant_desk.specs.GrantDeskState.{GrantRepresents, with_source};
@@ -52,7 +55,7 @@ impl<K: SigningCredential, D: DeadlineRule<Credential = K>> GrantDesk<K, D> {
     /// A desk with no caches, rules, handles or calls. It represents the empty transcript.
     pub fn new(alloc: Global) -> GrantDesk<K, D>
         ensures setup { setup_of result ≡ record { loaders = []; rules = []; handles = [] } }
-        ensures fresh { GrantRepresents (policy_of K.valid K.valid_at D.deadline) result [] }
+        ensures fresh { GrantRepresents (policy_for K.SigningCredential D.DeadlineRule) result [] }
     {
         GrantDesk {
             state: State {
@@ -64,13 +67,11 @@ impl<K: SigningCredential, D: DeadlineRule<Credential = K>> GrantDesk<K, D> {
     /// Adds an empty cache with this loader, and returns its number.
     ///
     /// Errors: `Late` where a call was begun, `OutOfMemory`. An error changes nothing.
-    ///
-    /// Requires fewer than 4,294,967,295 caches.
     pub fn add_cache(&mut self, loader: Loader) -> Result<u32, AddError>
-        requires { length self.old.loaders < 4294967295 }
+        requires { length self.old.loaders < MOST_ROWS }
         ensures answer { AddAnswer (late_refusal self.old) (length self.old.loaders) result }
         ensures added { OnOk result (self.new ≡ with_source loader self.old) }
-        ensures fresh { OnOk result (GrantRepresents (policy_of K.valid K.valid_at D.deadline) self.new []) }
+        ensures fresh { OnOk result (GrantRepresents (policy_for K.SigningCredential D.DeadlineRule) self.new []) }
         ensures unchanged { OnErr result (self.new ≡ self.old) }
     {
         self.state.tables.add_cache(loader, ())
@@ -80,13 +81,11 @@ impl<K: SigningCredential, D: DeadlineRule<Credential = K>> GrantDesk<K, D> {
     ///
     /// Errors: `Late` where a call was begun, `OutOfMemory`. An error changes nothing, and hands the
     /// rule back.
-    ///
-    /// Requires fewer than 4,294,967,295 rules.
     pub fn add_rule(&mut self, rule: D) -> Result<u32, AddRefused<D>>
-        requires { length self.old.rules < 4294967295 }
+        requires { length self.old.rules < MOST_ROWS }
         ensures answer { AddAnswerBack (late_refusal self.old) (length self.old.rules) result }
         ensures added { OnOk result (self.new ≡ with_rule rule self.old) }
-        ensures fresh { OnOk result (GrantRepresents (policy_of K.valid K.valid_at D.deadline) self.new []) }
+        ensures fresh { OnOk result (GrantRepresents (policy_for K.SigningCredential D.DeadlineRule) self.new []) }
         ensures unchanged { IfErr result (λ refused. (refused.back ≡ rule) × (self.new ≡ self.old)) }
     {
         self.state.tables.add_rule(rule)
@@ -96,13 +95,11 @@ impl<K: SigningCredential, D: DeadlineRule<Credential = K>> GrantDesk<K, D> {
     ///
     /// Errors, the first that holds: `Late` where a call was begun, `NoCache` and `NoRule` where the
     /// desk has no such number, `OutOfMemory`. An error changes nothing.
-    ///
-    /// Requires fewer than 4,294,967,295 handles.
     pub fn add_handle(&mut self, cache: u32, rule: u32) -> Result<u32, AddError>
-        requires { length self.old.handles < 4294967295 }
+        requires { length self.old.handles < MOST_ROWS }
         ensures answer { AddAnswer (handle_refusal self.old cache rule) (length self.old.handles) result }
         ensures added { OnOk result (self.new ≡ with_handle cache rule self.old) }
-        ensures fresh { OnOk result (GrantRepresents (policy_of K.valid K.valid_at D.deadline) self.new []) }
+        ensures fresh { OnOk result (GrantRepresents (policy_for K.SigningCredential D.DeadlineRule) self.new []) }
         ensures unchanged { OnErr result (self.new ≡ self.old) }
     {
         self.state.tables.add_handle(cache, rule)
@@ -111,38 +108,34 @@ impl<K: SigningCredential, D: DeadlineRule<Credential = K>> GrantDesk<K, D> {
     /// Adds a rule, and a handle on this cache with it, and returns the handle's number.
     ///
     /// Errors: `Late`, `OutOfMemory`. An error changes nothing, and hands the rule back.
-    ///
-    /// Requires a cache that is there, and fewer than 4,294,967,295 rules and handles.
-    pub fn add_handle_with_rule(&mut self, cache: u32, rule: D) -> Result<u32, AddRefused<D>>
+    pub fn add_rule_and_handle(&mut self, cache: u32, rule: D) -> Result<u32, AddRefused<D>>
         requires cache { cache < length self.old.loaders }
-        requires rules { length self.old.rules < 4294967295 }
-        requires handles { length self.old.handles < 4294967295 }
+        requires rules { length self.old.rules < MOST_ROWS }
+        requires handles { length self.old.handles < MOST_ROWS }
         ensures answer { AddAnswerBack (late_refusal self.old) (length self.old.handles) result }
         ensures added { OnOk result
             (self.new ≡ with_handle cache (length self.old.rules) (with_rule rule self.old)) }
-        ensures fresh { OnOk result (GrantRepresents (policy_of K.valid K.valid_at D.deadline) self.new []) }
+        ensures fresh { OnOk result (GrantRepresents (policy_for K.SigningCredential D.DeadlineRule) self.new []) }
         ensures unchanged { IfErr result (λ refused. (refused.back ≡ rule) × (self.new ≡ self.old)) }
     {
-        self.state.tables.add_handle_with_rule(cache, rule)
+        self.state.tables.add_rule_and_handle(cache, rule)
     }
 
     /// Adds an empty cache with this loader, and a handle on it with this rule, and returns the handle's
     /// number.
     ///
     /// Errors: `Late`, `OutOfMemory`. An error changes nothing.
-    ///
-    /// Requires a rule that is there, and fewer than 4,294,967,295 caches and handles.
-    pub fn add_handle_with_cache(&mut self, loader: Loader, rule: u32) -> Result<u32, AddError>
+    pub fn add_cache_and_handle(&mut self, loader: Loader, rule: u32) -> Result<u32, AddError>
         requires rule { rule < length self.old.rules }
-        requires caches { length self.old.loaders < 4294967295 }
-        requires handles { length self.old.handles < 4294967295 }
+        requires caches { length self.old.loaders < MOST_ROWS }
+        requires handles { length self.old.handles < MOST_ROWS }
         ensures answer { AddAnswer (late_refusal self.old) (length self.old.handles) result }
         ensures added { OnOk result
             (self.new ≡ with_handle (length self.old.loaders) rule (with_source loader self.old)) }
-        ensures fresh { OnOk result (GrantRepresents (policy_of K.valid K.valid_at D.deadline) self.new []) }
+        ensures fresh { OnOk result (GrantRepresents (policy_for K.SigningCredential D.DeadlineRule) self.new []) }
         ensures unchanged { OnErr result (self.new ≡ self.old) }
     {
-        self.state.tables.add_handle_with_cache(loader, (), rule)
+        self.state.tables.add_cache_and_handle(loader, (), rule)
     }
 
     /// The handle of this number, if there is one.
@@ -207,25 +200,30 @@ impl<K: SigningCredential, D: DeadlineRule<Credential = K>> GrantDesk<K, D> {
     pub fn is_fresh(&self) -> bool
         ensures flag { result ≡ not self.now.started }
         ensures empty { result ≡ true
-            → GrantRepresents (policy_of K.valid K.valid_at D.deadline) self.now [] }
+            → GrantRepresents (policy_for K.SigningCredential D.DeadlineRule) self.now [] }
         ensures begins { (entries : List (GrantEntry K))
-            → GrantRepresents (policy_of K.valid K.valid_at D.deadline) self.now entries
+            → GrantRepresents (policy_for K.SigningCredential D.DeadlineRule) self.now entries
             → result ≡ not (was_begun (as_signer (committed_grants entries))) }
     {
-        !self.state.tables.is_started()
+        !self.state.tables.has_begun_calls()
     }
 
-    /// One event, applied whole: whatever transcript the desk represents, it then represents that
-    /// with this entry. The setup stays. What is done is exactly the event's `GrantTransition`, so a
-    /// driver knows where its calls are.
+    /// Tell the desk what happened to a call, and do what it replies:
     ///
-    /// An event that does not fit how far its call is, is answered `NotNow`. `OutOfMemory` is answered
-    /// only where memory is taken: at a begin, and where a source is handed to the granter or its
-    /// credential to the call, unless clones take none. Both change nothing.
+    /// - `Ask { provider }`: ask that provider, and step `Provided` with its answer and the moment of it.
+    /// - `Grant { source }`: give it to the granter, and step `Granted` with its answer and the moment of it.
+    /// - `Given { credential }`: it is the call's. The call is over, as after `Refused` and `Cancelled`.
+    /// - `Pending`: the answer for the call is still awaited.
+    /// - `NotNow`: the event does not fit how far its call is, and was not taken.
+    /// - `OutOfMemory`: nothing changed. Step the same event again, or cancel the call. It comes only at a
+    ///   begin, and where a source or a credential is handed out whose clones take memory.
+    ///
+    /// Whatever transcript the desk represents, it then represents that with this entry. What is done is
+    /// exactly the event's `GrantTransition`, so a driver knows where its calls are.
     pub fn step(&mut self, event: &GrantEvent<K>) -> GrantReply<K>
-        ensures step { IsGrantStep (policy_of K.valid K.valid_at D.deadline)
+        ensures step { IsGrantStep (policy_for K.SigningCredential D.DeadlineRule)
             event.now self.old result self.new }
-        ensures transition { GrantTransition (policy_of K.valid K.valid_at D.deadline)
+        ensures transition { GrantTransition (policy_for K.SigningCredential D.DeadlineRule)
             event.now self.old result self.new }
         ensures memory { ClonesAreFree K.clones_freely → RunsOutAtBegins event.now result }
         ensures sound { GrantPrecondition self.old }
@@ -240,11 +238,11 @@ impl<K: SigningCredential, D: DeadlineRule<Credential = K>> GrantDesk<K, D> {
     pub fn run(&mut self, events: &[GrantEvent<K>]) -> Result<Vec<GrantReply<K>>, RunError>
         ensures replies { IfOk result (λ replies. length replies.items ≡ length events.now) }
         ensures steps { IfOk result (λ replies.
-            AreGrantSteps (policy_of K.valid K.valid_at D.deadline) (ClonesAreFree K.clones_freely)
+            AreGrantSteps (policy_for K.SigningCredential D.DeadlineRule) (ClonesAreFree K.clones_freely)
             events.now replies.items self.old self.new) }
         ensures represents { IfOk result (λ replies. (entries : List (GrantEntry K))
-            → GrantRepresents (policy_of K.valid K.valid_at D.deadline) self.old entries
-            → GrantRepresents (policy_of K.valid K.valid_at D.deadline) self.new
+            → GrantRepresents (policy_for K.SigningCredential D.DeadlineRule) self.old entries
+            → GrantRepresents (policy_for K.SigningCredential D.DeadlineRule) self.new
             (entries ++ paired_grants events.now replies.items)) }
         ensures setup { setup_of self.new ≡ setup_of self.old }
         ensures unchanged { OnErr result (self.new ≡ self.old) }

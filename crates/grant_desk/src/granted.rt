@@ -7,17 +7,16 @@ use sequential_signer::{DeadlineRule, GrantReply, GrantWhy, Made, SigningCredent
 use sign_base::{CallId, Timestamp};
 
 impl<K: SigningCredential, D: DeadlineRule<Credential = K>> State<K, D> {
-    ghost use Rattle.sequential_signer.specs.Policy.{policy_of};
+    ghost use Rattle.sequential_signer.specs.Policy.{policy_for};
     ghost use Rattle.sequential_signer.specs.declared.grant_event.GrantEvent.TheVariants.{Granted};
     ghost use Rattle.sequential_signer.specs.declared.grant_event.GrantReply.TheVariants.{OutOfMemory};
     ghost use Rattle.desk_parts.specs.Memory.{ClonesAreFree};
     ghost use Rattle.grant_desk.specs.GrantPlaces.{GrantPrecondition};
     ghost use Rattle.grant_desk.specs.GrantAction.{GrantPerforms, GrantTransition, made_action};
 
-    /// The granter's answer.
     pub fn granted(&mut self, call: CallId, now: Timestamp, answer: &Made<K>) -> GrantReply<K>
         requires { GrantPrecondition self.old }
-        ensures done { GrantTransition (policy_of K.valid K.valid_at D.deadline) (Granted call now answer.now)
+        ensures done { GrantTransition (policy_for K.SigningCredential D.DeadlineRule) (Granted call now answer.now)
             self.old result self.new }
         ensures memory { ClonesAreFree K.clones_freely → result ≢ OutOfMemory }
     {
@@ -34,7 +33,7 @@ impl<K: SigningCredential, D: DeadlineRule<Credential = K>> State<K, D> {
     /// What the granter made. A call that is refused takes no memory.
     fn give(&mut self, call: CallId, now: Timestamp, made: &K) -> GrantReply<K>
         ensures done { GrantPerforms
-            (made_action (policy_of K.valid K.valid_at D.deadline) self.old now made.now)
+            (made_action (policy_for K.SigningCredential D.DeadlineRule) self.old now made.now)
             call self.old result self.new }
         ensures memory { ClonesAreFree K.clones_freely → result ≢ OutOfMemory }
     {

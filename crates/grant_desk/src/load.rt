@@ -10,7 +10,7 @@ use sequential_signer::{
 use sign_base::{CallId, Timestamp};
 
 impl<K: SigningCredential, D: DeadlineRule<Credential = K>> State<K, D> {
-    ghost use Rattle.sequential_signer.specs.Policy.{policy_of};
+    ghost use Rattle.sequential_signer.specs.Policy.{policy_for};
     ghost use Rattle.sequential_signer.specs.declared.event.Answer.TheVariants.{Found};
     ghost use Rattle.sequential_signer.specs.declared.grant_event.GrantEvent.TheVariants.{Provided};
     ghost use Rattle.sequential_signer.specs.declared.grant_event.GrantReply.TheVariants.{OutOfMemory};
@@ -20,12 +20,12 @@ impl<K: SigningCredential, D: DeadlineRule<Credential = K>> State<K, D> {
     ghost use Rattle.desk_parts.specs.Tables.{find_call};
     ghost use Rattle.desk_parts.specs.declared.call_record.Stage.TheVariants.{Loading};
     ghost use Rattle.grant_desk.specs.GrantPlaces.{GrantPrecondition, IsGrantPlaced};
-    ghost use Rattle.grant_desk.specs.GrantAction.{GrantPerforms, GrantTransition, grant_load_action, progress_action};
+    ghost use Rattle.grant_desk.specs.GrantAction.{GrantPerforms, GrantTransition};
+    ghost use Rattle.grant_desk.specs.GrantAction.{grant_load_action, progress_action};
 
-    /// A provider's answer.
     pub fn provided(&mut self, call: CallId, now: Timestamp, answer: &Answer<K>) -> GrantReply<K>
         requires { GrantPrecondition self.old }
-        ensures done { GrantTransition (policy_of K.valid K.valid_at D.deadline)
+        ensures done { GrantTransition (policy_for K.SigningCredential D.DeadlineRule)
             (Provided call now answer.now) self.old result self.new }
         ensures memory { ClonesAreFree K.clones_freely → result ≢ OutOfMemory }
     {
@@ -38,20 +38,19 @@ impl<K: SigningCredential, D: DeadlineRule<Credential = K>> State<K, D> {
         }
     }
 
-    /// A provider's answer to a call that loads.
     fn load(&mut self, view: LiveCallView, now: Timestamp, answer: &Answer<K>) -> GrantReply<K>
         requires placed { IsGrantPlaced self.old view }
         requires loading { view.stage ≡ Loading }
         ensures done { GrantPerforms
-            (grant_load_action (policy_of K.valid K.valid_at D.deadline) self.old now answer.now view)
+            (grant_load_action (policy_for K.SigningCredential D.DeadlineRule) self.old now answer.now view)
             view.call self.old result self.new }
         ensures memory { ClonesAreFree K.clones_freely → result ≢ OutOfMemory }
     {
         let view = self.tables.with_answer(view);
         match answer {
             Answer::Found(found) => self.found(view, now, found),
-            Answer::Missing => self.load_on(view, Why::Missing),
-            Answer::Failed(e) => self.load_on(view, Why::Loader(*e)),
+            Answer::Missing => self.ask_next_or_refuse(view, Why::Missing),
+            Answer::Failed(e) => self.ask_next_or_refuse(view, Why::Loader(*e)),
         }
     }
 
@@ -62,7 +61,7 @@ impl<K: SigningCredential, D: DeadlineRule<Credential = K>> State<K, D> {
         requires cached { view.cache < length self.old.caches }
         requires rule { view.rule < length self.old.rules }
         ensures done { GrantPerforms (progress_action (λ c. with_cached c view self.old) self.old view
-            (desk_load (policy_of K.valid K.valid_at D.deadline) self.old now view (Found found.now)))
+            (desk_load (policy_for K.SigningCredential D.DeadlineRule) self.old now view (Found found.now)))
             view.call self.old result self.new }
         ensures memory { ClonesAreFree K.clones_freely → result ≢ OutOfMemory }
     {
@@ -80,7 +79,7 @@ impl<K: SigningCredential, D: DeadlineRule<Credential = K>> State<K, D> {
     }
 
     /// An answer without a source: the next provider of a chain is asked, or the call is refused.
-    fn load_on(&mut self, view: LiveCallView, single: Why) -> GrantReply<K>
+    fn ask_next_or_refuse(&mut self, view: LiveCallView, single: Why) -> GrantReply<K>
         requires live { IsSome (find_call view.call self.old.calls) }
         requires loader { view.cache < length self.old.loaders }
         ensures done { GrantPerforms (progress_action (λ c. with_cached c view self.old) self.old view

@@ -8,17 +8,16 @@ use sequential_signer::{DeadlineRule, GrantReply, SigningCredential};
 use sign_base::{CallId, Timestamp};
 
 impl<K: SigningCredential, D: DeadlineRule<Credential = K>> State<K, D> {
-    ghost use Rattle.sequential_signer.specs.Policy.{policy_of};
+    ghost use Rattle.sequential_signer.specs.Policy.{policy_for};
     ghost use Rattle.sequential_signer.specs.declared.grant_event.GrantEvent.TheVariants.{Poll};
     ghost use Rattle.sequential_signer.specs.declared.grant_event.GrantReply.TheVariants.{OutOfMemory};
     ghost use Rattle.desk_parts.specs.Memory.{ClonesAreFree};
     ghost use Rattle.grant_desk.specs.GrantPlaces.{GrantPrecondition, IsGrantPlaced};
     ghost use Rattle.grant_desk.specs.GrantAction.{GrantPerforms, GrantTransition, look_action};
 
-    /// A poll.
     pub fn poll(&mut self, call: CallId, now: Timestamp) -> GrantReply<K>
         requires { GrantPrecondition self.old }
-        ensures done { GrantTransition (policy_of K.valid K.valid_at D.deadline)
+        ensures done { GrantTransition (policy_for K.SigningCredential D.DeadlineRule)
             (Poll call now) self.old result self.new }
         ensures memory { ClonesAreFree K.clones_freely → result ≢ OutOfMemory }
     {
@@ -34,7 +33,7 @@ impl<K: SigningCredential, D: DeadlineRule<Credential = K>> State<K, D> {
     /// The look of a call at its cache: the cached source is handed to the granter, or the call loads.
     fn look(&mut self, view: LiveCallView, now: Timestamp) -> GrantReply<K>
         requires { IsGrantPlaced self.old view }
-        ensures done { GrantPerforms (look_action (policy_of K.valid K.valid_at D.deadline) self.old now view)
+        ensures done { GrantPerforms (look_action (policy_for K.SigningCredential D.DeadlineRule) self.old now view)
             view.call self.old result self.new }
         ensures memory { ClonesAreFree K.clones_freely → result ≢ OutOfMemory }
     {

@@ -8,7 +8,8 @@ use sequential_signer::{DeadlineRule, GrantReply, GrantWhy, SigningCredential, W
 use sign_base::CallId;
 
 impl<K: SigningCredential, D: DeadlineRule<Credential = K>> State<K, D> {
-    ghost use Rattle.sequential_signer.specs.declared.grant_event.GrantReply.TheVariants.{Ask, Grant, Refused};
+    ghost use Rattle.sequential_signer.specs.declared.grant_event.GrantReply.TheVariants.{Ask, Grant};
+    ghost use Rattle.sequential_signer.specs.declared.grant_event.GrantReply.TheVariants.{Refused};
     ghost use Rattle.desk_parts.specs.Tables.{find_call};
     ghost use Rattle.desk_parts.specs.Action.{TakesEffect, live_effect, end_effect};
     ghost use Rattle.desk_parts.specs.declared.call_record.Stage.TheVariants.{Loading, Signing};

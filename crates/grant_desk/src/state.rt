@@ -7,7 +7,6 @@ use sequential_signer::{DeadlineRule, SigningCredential};
 use sign_base::CallId;
 use std::marker::Model;
 
-/// What a granter's desk keeps.
 #[derive(Drop)]
 pub struct State<K, D> {
     pub(crate) tables: Tables<K, D, (), ()>,
@@ -25,7 +24,7 @@ impl<K: SigningCredential, D: DeadlineRule<Credential = K>> State<K, D> {
     ghost use Rattle.desk_parts.specs.LiveCallView.{find_view};
     ghost use Rattle.grant_desk.specs.GrantPlaces.{GrantPrecondition, IsGrantPlaced};
 
-    /// The live call of this name.
+    /// The live call of this name, with its places.
     pub fn find(&self, call: CallId) -> Option<LiveCallView>
         requires { GrantPrecondition self.now }
         ensures view { result ≡ find_view self.now call }

@@ -9,7 +9,7 @@ use sign_base::CallId;
 use std::time::Duration;
 
 impl<K: SigningCredential, D: DeadlineRule<Credential = K>> State<K, D> {
-    ghost use Rattle.sequential_signer.specs.Policy.{policy_of};
+    ghost use Rattle.sequential_signer.specs.Policy.{policy_for};
     ghost use Rattle.sequential_signer.specs.declared.grant_event.GrantEvent.TheVariants.{Begin, Cancel};
     ghost use Rattle.sequential_signer.specs.declared.grant_event.GrantReply.TheVariants.{OutOfMemory};
     ghost use Rattle.desk_parts.specs.Memory.{ClonesAreFree};
@@ -17,10 +17,9 @@ impl<K: SigningCredential, D: DeadlineRule<Credential = K>> State<K, D> {
     ghost use Rattle.grant_desk.specs.GrantAction.{GrantTransition};
     ghost use Rattle.grant_desk.specs.GrantSteps.{RunsOutAtBegins};
 
-    /// One event.
     pub fn step(&mut self, event: &GrantEvent<K>) -> GrantReply<K>
         requires { GrantPrecondition self.old }
-        ensures done { GrantTransition (policy_of K.valid K.valid_at D.deadline)
+        ensures done { GrantTransition (policy_for K.SigningCredential D.DeadlineRule)
             event.now self.old result self.new }
         ensures memory { ClonesAreFree K.clones_freely → RunsOutAtBegins event.now result }
     {
@@ -35,7 +34,7 @@ impl<K: SigningCredential, D: DeadlineRule<Credential = K>> State<K, D> {
 
     /// A begin: the call's record is taken, or nothing is.
     fn begin(&mut self, call: CallId, expires_in: Option<Duration>) -> GrantReply<K>
-        ensures { GrantTransition (policy_of K.valid K.valid_at D.deadline)
+        ensures { GrantTransition (policy_for K.SigningCredential D.DeadlineRule)
             (Begin call expires_in) self.old result self.new }
     {
         if !self.tables.begin_fits(call) {
@@ -56,7 +55,7 @@ impl<K: SigningCredential, D: DeadlineRule<Credential = K>> State<K, D> {
     /// A cancel, which ends any live call.
     fn cancel(&mut self, call: CallId) -> GrantReply<K>
         requires { GrantPrecondition self.old }
-        ensures done { GrantTransition (policy_of K.valid K.valid_at D.deadline)
+        ensures done { GrantTransition (policy_for K.SigningCredential D.DeadlineRule)
             (Cancel call) self.old result self.new }
         ensures memory { result ≢ OutOfMemory }
     {

@@ -1,5 +1,7 @@
 -- Calls that are kept by their numbers stay those of their granter, whatever is done with one of them.
-use Rattle.std.proofs.Common.{◌≡◌, ◌+◌, ℕ, List, [], ◌∷◌, ◌++◌, Option, Some, None, slice_get, slice_set, ap, subst}
+use Rattle.std.proofs.Common.{◌≡◌, ◌+◌, ℕ, List, [], ◌∷◌, ◌++◌, Option, Some, None, IfSome, slice_get}
+use Rattle.std.proofs.Common.{slice_set, ap}
+use Rattle.std.proofs.Common.{subst}
 use Rattle.sign_base.specs.declared.call_id.CallId.{CallId}
 use Rattle.sequential_signer.specs.Policy.{Policy}
 use Rattle.desk_driver.proofs.NumberedCalls.{numbered-none, numbered-begun, numbered-without, numbered-set}
@@ -10,7 +12,6 @@ use Rattle.granter.specs.GranterInvariant.{GranterState}
 use Rattle.granter.specs.GranterObjects.{Meanings}
 use Rattle.granter.specs.declared.grant.Grant.{Grant}
 use Rattle.granter.specs.declared.grant_poll.GrantPoll.{GrantPoll}
-use Rattle.granter.specs.declared.grant_poll.GrantPoll.TheVariants as answer
 
 module _ {P G K C L W : Type 0} (m : Meanings P G K C L W) where
   -- the call of a state
@@ -40,18 +41,6 @@ module _ {P G K C L W : Type 0} (m : Meanings P G K C L W) where
   calls-cancelled old new calls n grant all is same keeps =
       numbered-set call_of calls grant all keeps n is (ap (λ (s : GranterState P G K C). s.begun) same) None (λ left none. absurd (cc))
 
-  handed_back : (granter : GranterState P G K C) (call : CallId) (a : GrantPoll P G K C L C W K)
-      → IsAnswerIssuedBy m granter call a → (grant : Grant P G K C L C W K) → state_back a ≡ Some grant
-      → (grant.begun.id ≡ call) × IsGrantIssuedBy m granter grant
-  handed_back granter call (answer.Pending back) issued grant is =
-      let same : back ≡ grant = cc in
-      subst (λ (x : Grant P G K C L C W K). (x.begun.id ≡ call) × IsGrantIssuedBy m granter x) same issued
-  handed_back granter call (answer.OutOfMemory back) issued grant is =
-      let same : back ≡ grant = cc in
-      subst (λ (x : Grant P G K C L C W K). (x.begun.id ≡ call) × IsGrantIssuedBy m granter x) same issued
-  handed_back granter call (answer.Given credential) issued grant is = absurd (cc)
-  handed_back granter call (answer.Refused why) issued grant is = absurd (cc)
-
   -- `poll` of one of them leaves the state that it hands back
   pub calls-polled : (old new : GranterState P G K C) (calls : List (Option (Grant P G K C L C W K))) (n : ℕ)
       (grant : Grant P G K C L C W K) (a : GrantPoll P G K C L C W K) → AreCallsOf m old calls
@@ -59,4 +48,4 @@ module _ {P G K C L W : Type 0} (m : Meanings P G K C L W) where
       → KeepsOthers m grant.begun.id (record { old = old; new = new })
       → IsAnswerIssuedBy m new grant.begun.id a → AreCallsOf m new (slice_set calls n (state_back a))
   calls-polled old new calls n grant a all is same keeps issued =
-      numbered-set call_of calls grant all keeps n is (ap (λ (s : GranterState P G K C). s.begun) same) (state_back a) (λ left back. handed_back new grant.begun.id a issued left back)
+      numbered-set call_of calls grant all keeps n is (ap (λ (s : GranterState P G K C). s.begun) same) (state_back a) (λ left back. subst (λ o. IfSome o (λ (x : Grant P G K C L C W K). (x.begun.id ≡ grant.begun.id) × IsGrantIssuedBy m new x)) back issued)

@@ -9,7 +9,8 @@ use Rattle.grant_desk.specs.GrantDeskState.{GrantState, GrantRepresents}
 use Rattle.desk_parts.specs.Memory.{ClonesAreFree}
 use Rattle.grant_desk.specs.GrantSteps.{IsGrantStep, RunsOutAtBegins}
 use Rattle.desk_driver.proofs.CallSteps.{leaves-same, leaves-trans}
-use Rattle.granter.specs.Course.{PollEnd, PollRun, PolledCall, IsGiven, IsCourse, stops, ends, goes_on, StopsAt, EndsBy}
+use Rattle.granter.specs.PollEvents.{PollEnd, PollRun, PolledCall, IsGiven, IsEventSequence, stops, ends, goes_on}
+use Rattle.granter.specs.PollEvents.{StopsAt, EndsBy}
 use Rattle.granter.specs.IssuedBy.{IsStateIssued}
 use Rattle.granter.specs.StepOutcome.{StepChange, IsStepEnd, IsEndIssued, GoesOn, Ends}
 use Rattle.granter.specs.declared.grant.CallState.{CallState}
@@ -18,7 +19,7 @@ use Rattle.granter.specs.declared.step_outcome.StepEnd.{StepEnd}
 module _ {K D L W : Type 0} (v : PolledCall K D L W) where
   -- a desk that represents a transcript represents it with the events of the course after it
   pub course-represents : (state : CallState K L W) (old new : GrantState K D) (run : PollRun K L W)
-      → IsCourse v state old run new → (entries : List (GrantEntry K)) → GrantRepresents v.policy old entries
+      → IsEventSequence v state old run new → (entries : List (GrantEntry K)) → GrantRepresents v.policy old entries
       → GrantRepresents v.policy new (entries ++ run.entries)
   course-represents state old new run (stops s desk end stop) entries stood = subst (GrantRepresents v.policy desk) (sym (append-nil entries)) stood
   course-represents state old new run (ends s o n event answered end given step memory by) entries stood = step.represents entries stood
@@ -33,7 +34,7 @@ module _ {K D L W : Type 0} (v : PolledCall K D L W) where
       → StopsAt v.meaning state by → IsStepEnd end by → IsEndIssued v desk end → Ends v state change end
   ends-without state desk change end by was is stop ended issued = record {
     run = record { entries = []; end = by };
-    course = subst (λ d. IsCourse v state d (record { entries = []; end = by }) change.new) (sym was) (subst (λ d. IsCourse v state desk (record { entries = []; end = by }) d) (sym is) (stops state desk by stop));
+    course = subst (λ d. IsEventSequence v state d (record { entries = []; end = by }) change.new) (sym was) (subst (λ d. IsEventSequence v state desk (record { entries = []; end = by }) d) (sym is) (stops state desk by stop));
     ended = ended;
     issued = subst (λ d. IsEndIssued v d end) (sym is) issued;
     others = subst (λ d. LeavesOthers v.begun.id d change.new) (sym was) (subst (λ d. LeavesOthers v.begun.id desk d) (sym is) (leaves-same refl));
@@ -61,10 +62,11 @@ pub record PollPlace (K D L W : Type 0) : Type 0 where
 
 module _ {K D L W : Type 0} (v : PolledCall K D L W) where
   -- a poll that began in this state, with this desk, has come to this place
-  pub record Reached (start : CallState K L W) (old : GrantState K D) (place : PollPlace K D L W) : Type 0 where
+  pub record Reached (start : CallState K L W) (old : GrantState K D)
+      (place : PollPlace K D L W) : Type 0 where
     pub entries : List (GrantEntry K)
-    pub leads : (run : PollRun K L W) (new : GrantState K D) → IsCourse v place.state place.desk run new
-        → IsCourse v start old (record { entries = entries ++ run.entries; end = run.end }) new
+    pub leads : (run : PollRun K L W) (new : GrantState K D) → IsEventSequence v place.state place.desk run new
+        → IsEventSequence v start old (record { entries = entries ++ run.entries; end = run.end }) new
     pub others : LeavesOthers v.begun.id old place.desk
     pub issued : IsStateIssued v.meaning v.begun place.desk place.state
 
@@ -88,16 +90,17 @@ module _ {K D L W : Type 0} (v : PolledCall K D L W) where
       record {
         entries = r.entries ++ e ∷ [];
         leads = λ run new course.
-            subst (λ l. IsCourse v start old (record { entries = l; end = run.end }) new) (sym (append_assoc r.entries (e ∷ []) run.entries))
+            subst (λ l. IsEventSequence v start old (record { entries = l; end = run.end }) new) (sym (append_assoc r.entries (e ∷ []) run.entries))
             (r.leads (record { entries = e ∷ run.entries; end = run.end }) new (goes_on place.state next place.desk change.new new g.event g.answered run g.given step g.after course));
         others = leaves-trans r.others others;
         issued = g.issued;
       }
 
   -- a poll that has come to its last step
-  pub record CourseEnds (start : CallState K L W) (change : StepChange K D) (end : StepEnd K L W) : Type 0 where
+  pub record CourseEnds (start : CallState K L W) (change : StepChange K D)
+      (end : StepEnd K L W) : Type 0 where
     pub run : PollRun K L W
-    pub course : IsCourse v start change.old run change.new
+    pub course : IsEventSequence v start change.old run change.new
     pub ended : IsStepEnd end run.end
     pub issued : IsEndIssued v change.new end
     pub others : LeavesOthers v.begun.id change.old change.new
@@ -107,7 +110,7 @@ module _ {K D L W : Type 0} (v : PolledCall K D L W) where
       → Ends v place.state change end → CourseEnds start (record { old = old; new = change.new }) end
   reached-end start old place r change from end e = record {
     run = record { entries = r.entries ++ e.run.entries; end = e.run.end };
-    course = r.leads e.run change.new (subst (λ d. IsCourse v place.state d e.run change.new) from e.course);
+    course = r.leads e.run change.new (subst (λ d. IsEventSequence v place.state d e.run change.new) from e.course);
     ended = e.ended;
     issued = e.issued;
     others = leaves-trans r.others (subst (λ d. LeavesOthers v.begun.id d change.new) from e.others);

@@ -1,6 +1,8 @@
 -- What the steps of a call that a granter drives do to the call, and that they leave the others.
 use Rattle.std.specs.Duration.{as_nanos}
-use Rattle.std.proofs.Common.{◌≡◌, ◌⊎◌, inl, inr, ℕ, ℤ, ◌<◌, ◌+◌, true, false, Bool, cond, Option, Some, None, IsSome, is_some, IfSome, IsTrue, option_map, slice_get, refl, sym, ◌∙◌, ap, subst}
+use Rattle.std.proofs.Common.{◌≡◌, ◌⊎◌, inl, inr, ℕ, ℤ, ◌<◌, ◌+◌, true, false, Bool, cond, Option, Some, None}
+use Rattle.std.proofs.Common.{IsSome, is_some, IfSome, IsTrue, option_map, slice_get, refl, sym, ◌∙◌, ap}
+use Rattle.std.proofs.Common.{subst}
 use Rattle.sequential_signer.specs.Policy.{Policy}
 use Rattle.sequential_signer.specs.Setup.{Handle}
 use Rattle.sequential_signer.specs.Lookup.{HandOut, Refuse, check_refreshed}
@@ -10,7 +12,8 @@ use Rattle.sequential_signer.specs.declared.event.Answer.TheVariants.{Found, Mis
 use Rattle.sequential_signer.specs.declared.event.Loader.{Loader}
 use Rattle.sequential_signer.specs.declared.event.Why.{Why}
 use Rattle.sequential_signer.specs.declared.event.Why.TheVariants as why
-use Rattle.sequential_signer.specs.declared.grant_event.GrantEvent.TheVariants.{Poll, Provided, Granted, Cancel}
+use Rattle.sequential_signer.specs.declared.grant_event.GrantEvent.TheVariants.{Poll, Provided, Granted}
+use Rattle.sequential_signer.specs.declared.grant_event.GrantEvent.TheVariants.{Cancel}
 use Rattle.sequential_signer.specs.declared.grant_event.GrantReply.{GrantReply}
 use Rattle.sequential_signer.specs.declared.grant_event.GrantReply.TheVariants.{Refused, Given, Cancelled}
 use Rattle.sequential_signer.specs.declared.grant_event.GrantWhy.TheVariants as cause
@@ -26,12 +29,17 @@ use Rattle.desk_parts.specs.declared.call_record.Stage.TheVariants as stage
 use Rattle.desk_parts.specs.declared.tables.LiveCallView.{LiveCallView}
 use Rattle.desk_parts.proofs.Views.{find_view-is}
 use Rattle.desk_driver.specs.Causes.{is_of_look as by_look, is_of_check as by_check}
-use Rattle.desk_driver.proofs.CallSteps.{SameCalls, same-self, DeskStep, leaves, leaves-same, at, asks, for-places}
-use Rattle.desk_driver.proofs.Looks.{IsLook, IsFoundLoad, IsOtherLoad, look-is, check-found, next-other, some_load}
-use Rattle.grant_desk.specs.GrantAction.{GrantAction, GrantPerforms, GrantTransition, progress_action, look_action, grant_poll_action, grant_load_action, grant_provided_action, granted_action, live_grant_action}
+use Rattle.desk_driver.proofs.CallSteps.{SameCalls, same-self, DeskStep, leaves, leaves-same, at, asks}
+use Rattle.desk_driver.proofs.CallSteps.{for-places}
+use Rattle.desk_driver.proofs.Looks.{IsLook, IsFoundLoad, IsOtherLoad, look-is, check-found, next-other}
+use Rattle.desk_driver.proofs.Looks.{some_load}
+use Rattle.grant_desk.specs.GrantAction.{GrantAction, GrantPerforms, GrantTransition, progress_action}
+use Rattle.grant_desk.specs.GrantAction.{look_action, grant_poll_action, grant_load_action}
+use Rattle.grant_desk.specs.GrantAction.{grant_provided_action, granted_action, live_grant_action}
 use Rattle.grant_desk.specs.GrantDeskState.{GrantState}
 use Rattle.grant_desk.specs.GrantPlaces.{IsGrantPlaced, GrantPrecondition}
-use Rattle.granter.specs.DeskReplies.{IsUnpolled, AfterPoll, AfterFound, AfterNone, AfterMade, is_of_look, is_of_check}
+use Rattle.granter.specs.DeskReplies.{IsUnpolled, AfterPoll, AfterFound, AfterNone, AfterMade, is_of_look}
+use Rattle.granter.specs.DeskReplies.{is_of_check}
 use Rattle.granter.specs.ObjectPoll.{BegunCall}
 
 -- what a look and a check refuse for, in a granter's words
@@ -63,7 +71,8 @@ module _ {K D : Type 0} (old new : GrantState K D) (reply : GrantReply K) (begun
   refuses-none provider refused (why.Service n) (inl e) = absurd (cc)
   refuses-none provider refused (why.Service n) (inr e) = ap grant_why e
 
-  module _ (h : Handle) (under : slice_get old.handles begun.id.handle ≡ Some h) (loader : Loader) (loads : slice_get old.loaders h.cache ≡ Some loader)
+  module _ (h : Handle) (under : slice_get old.handles begun.id.handle ≡ Some h) (loader : Loader)
+      (loads : slice_get old.loaders h.cache ≡ Some loader)
       (handed : K → GrantState K D) (same : (c : K) → SameCalls old (handed c)) (v : LiveCallView) (named : v.call ≡ begun.id) where
     looked : IsUnpolled begun old → v.answers ≡ 0 → (p : Progress K) → IsLook loader p
         → GrantPerforms (progress_action handed old v (Some p)) begun.id old reply new
@@ -125,7 +134,9 @@ module _ {K D : Type 0} (old new : GrantState K D) (reply : GrantReply K) (begun
       others = leaves (same-self old) m.1;
     }
 
-module _ {K D : Type 0} (policy : Policy K D) (old new : GrantState K D) (reply : GrantReply K) (begun : BegunCall) (sound : GrantPrecondition old) (there : IsSome (slice_get old.handles begun.id.handle)) where
+module _ {K D : Type 0} (policy : Policy K D) (old new : GrantState K D) (reply : GrantReply K)
+    (begun : BegunCall) (sound : GrantPrecondition old)
+    (there : IsSome (slice_get old.handles begun.id.handle)) where
   -- what a transition does at the live call
   at_live : (action : LiveCallView → GrantAction K D) (h : Handle)
       → slice_get old.handles begun.id.handle ≡ Some h → (s : Stage) (n : ℕ) → IsAt begun s n old
@@ -136,7 +147,8 @@ module _ {K D : Type 0} (policy : Policy K D) (old new : GrantState K D) (reply 
   same-cached : (c : K) (v : LiveCallView) → SameCalls old (with_cached c v old)
   same-cached c v = record { loaders = refl; rules = refl; handles = refl; greatest = refl; calls = refl }
 
-  module _ (now : ℤ) (h : Handle) (under : slice_get old.handles begun.id.handle ≡ Some h) (loader : Loader) (loads : slice_get old.loaders h.cache ≡ Some loader)
+  module _ (now : ℤ) (h : Handle) (under : slice_get old.handles begun.id.handle ≡ Some h) (loader : Loader)
+      (loads : slice_get old.loaders h.cache ≡ Some loader)
       (cached : Option K) (caches : slice_get old.caches h.cache ≡ Some cached) (rule : D) (ruled : slice_get old.rules h.rule ≡ Some rule) where
     abbrev view : Stage → ℕ → LiveCallView
     view s n = stored_view begun.id h (record_of begun s n)

@@ -10,7 +10,8 @@ use Rattle.granter.specs.DeskReplies.{IsBegun}
 use Rattle.granter.specs.IssuedBy.{IsStateIssued, IsGrantIssuedBy}
 use Rattle.granter.specs.GranterCalls.{Begins}
 use Rattle.granter.specs.GranterInvariant.{GranterState, IsGranter}
-use Rattle.granter.specs.GranterObjects.{Meanings, call_meaning, objects_of}
+use Rattle.granter.specs.GranterObjects.{Meanings, objects_of}
+use Rattle.desk_driver.specs.Meanings.{call_meaning}
 use Rattle.desk_driver.specs.Objects.{Objects}
 use Rattle.granter.specs.ObjectPoll.{BegunCall}
 use Rattle.granter.specs.declared.grant.Grant.{Grant}
@@ -20,7 +21,8 @@ use Rattle.desk_driver.proofs.KeptCalls.{KeepsCall, differs}
 use Rattle.granter.proofs.GranterOthers.{keeps-issued}
 use Rattle.granter.proofs.GranterSetup.{granter-desk, has-objects-at}
 
-module _ {P G K C L W : Type 0} (m : Meanings P G K C L W) (old : GranterState P G K C) (s : IsGranter old) (begun : BegunCall) (desk : GrantState K G) (b : IsBegun begun old.desk desk) where
+module _ {P G K C L W : Type 0} (m : Meanings P G K C L W) (old : GranterState P G K C) (s : IsGranter old)
+    (begun : BegunCall) (desk : GrantState K G) (b : IsBegun begun old.desk desk) where
   keeps-apart : (other : CallId) → (other ≡ begun.id → ⊥) → KeepsCall other old.desk desk
   keeps-apart other apart = record {
     loaders = b.loaders;

@@ -1,5 +1,6 @@
 -- The objects of a handle, by the lists of a granter that hold them.
-use Rattle.std.proofs.Common.{◌≡◌, ℕ, Option, Some, None, option_map, option_and_then, slice_get, refl, ◌∙◌, ap}
+use Rattle.std.proofs.Common.{◌≡◌, ℕ, Option, Some, None, option_map, option_and_then, slice_get, refl, ◌∙◌}
+use Rattle.std.proofs.Common.{ap}
 use Rattle.credentials.specs.declared.providers.Providers.{Providers}
 use Rattle.sequential_signer.specs.Setup.{Handle}
 use Rattle.desk_driver.specs.CallAt.{loader_of, service_of}

@@ -6,10 +6,11 @@ use Rattle.desk_driver.specs.CallAt.{IsLive, LeavesOthers}
 use Rattle.desk_driver.proofs.KeptCalls.{KeepsCall, keeps-other, keeps-provider}
 use Rattle.granter.specs.IssuedBy.{IsStateIssued, IsGrantIssuedBy}
 use Rattle.granter.specs.GranterInvariant.{GranterState}
-use Rattle.granter.specs.GranterObjects.{Meanings, CallMeaning, call_meaning, objects_of}
+use Rattle.granter.specs.GranterObjects.{Meanings, CallMeaning, objects_of}
+use Rattle.desk_driver.specs.Meanings.{call_meaning}
 use Rattle.desk_driver.specs.Objects.{Objects}
 use Rattle.granter.specs.GranterCalls.{KeepsOthers, IsAnswerIssuedBy}
-use Rattle.granter.specs.Course.{IsAnswerIssued}
+use Rattle.granter.specs.PollEvents.{IsAnswerIssued}
 use Rattle.granter.specs.declared.grant_poll.GrantPoll.{GrantPoll}
 use Rattle.granter.specs.declared.grant_poll.GrantPoll.TheVariants as answer
 use Rattle.desk_parts.specs.declared.call_record.Stage.TheVariants as stage

@@ -1,6 +1,8 @@
 -- What holds of every granter holds of a new one, of one with a handle more, and of one that has begun a
 -- call.
-use Rattle.std.proofs.Common.{◌≡◌, ℕ, zero, suc, ◌+◌, ◌<◌, true, List, [], ◌∷◌, ◌++◌, length, option_map, option_and_then, Option, Some, None, IfSome, slice_get, refl, sym, ◌∙◌, ap, subst, arith}
+use Rattle.std.proofs.Common.{◌≡◌, ℕ, zero, suc, ◌+◌, ◌<◌, true, List, [], ◌∷◌, ◌++◌, length, option_map}
+use Rattle.std.proofs.Common.{option_and_then, Option, Some, None, IfSome, slice_get, refl, sym, ◌∙◌, ap}
+use Rattle.std.proofs.Common.{subst, arith}
 use Rattle.std.specs.List.{slice_index_or}
 use Rattle.std.proofs.lemmas.List.{length-append}
 use Rattle.credentials.specs.declared.providers.Providers.{Providers}
@@ -10,14 +12,17 @@ use Rattle.sequential_signer.specs.declared.event.Loader.{Loader}
 use Rattle.grant_desk.specs.GrantDeskState.{GrantState, GrantRepresents, with_source}
 use Rattle.desk_parts.specs.Tables.{setup_of}
 use Rattle.desk_parts.specs.Adding.{with_rule, with_handle}
-use Rattle.granter.specs.GranterInvariant.{GranterState, IsGranter, with_context_handle, with_service_handle, with_cache_handle}
+use Rattle.granter.specs.GranterInvariant.{GranterState, IsGranter, with_context_handle, with_service_handle}
+use Rattle.granter.specs.GranterInvariant.{with_cache_handle}
 use Rattle.desk_driver.specs.ProviderList.{loader_for, AreFew}
 use Rattle.granter.specs.GranterObjects.{objects_of}
 use Rattle.desk_driver.specs.Objects.{Objects}
 use Rattle.desk_driver.specs.CallNumbers.{is_above_all}
 use Rattle.desk_driver.proofs.CallNumbers.{above-none-more}
-use Rattle.desk_driver.proofs.Rows.{both-longer, both-few, still-few, of-there, there-at, none-there, index-is, first-place, first-handle}
-use Rattle.desk_parts.proofs.IsWellFormedSetup.{longer, each-more, each-by, set_up-cache, set_up-rule, set_up-handle}
+use Rattle.desk_driver.proofs.Rows.{both-longer, both-few, still-few, of-there, there-at, none-there}
+use Rattle.desk_driver.proofs.Rows.{index-is, first-place, first-handle}
+use Rattle.desk_parts.proofs.IsWellFormedSetup.{longer, each-more, each-by, set_up-cache, set_up-rule}
+use Rattle.desk_parts.proofs.IsWellFormedSetup.{set_up-handle}
 
 -- what holds of an item that is there
 pub if-some : {A : Type 0} (o : Option A) (x : A) (Q : A → Type 0) → o ≡ Some x → Q x → IfSome o Q
@@ -57,7 +62,8 @@ pub read-at : {X : Type 0} (xs : List X) (i : ℕ) (d got : X) → i < length xs
     → slice_get xs i ≡ Some got
 read-at xs i d got h read = there-at xs i h (slice_get xs i ≡ Some got) (λ x is. is ∙ ap Some (sym (index-is xs i i x d got is refl read)))
 
-module _ {P G K C : Type 0} (old : GranterState P G K C) (s : IsGranter old) (handle : ℕ) (like : Handle) (there : slice_get old.desk.handles handle ≡ Some like) where
+module _ {P G K C : Type 0} (old : GranterState P G K C) (s : IsGranter old) (handle : ℕ) (like : Handle)
+    (there : slice_get old.desk.handles handle ≡ Some like) where
   pub its-cache : like.cache < length old.desk.loaders
   its-cache = (of-there (λ (x : Handle). (x.cache < length old.desk.loaders) × (x.rule < length old.desk.rules)) (slice_get old.desk.handles handle) like there (s.set_up.handles handle)).0
 
@@ -196,7 +202,8 @@ first-few : {P : Type 0} (loader : Providers P) → AreFew loader → (i : ℕ)
 first-few loader h zero = h
 first-few loader h (suc i) = tt
 
-module _ {P G K C : Type 0} (policy : Policy K G) (desk : GrantState K G) (loader : Providers P) (ctx : C) (service : G) where
+module _ {P G K C : Type 0} (policy : Policy K G) (desk : GrantState K G) (loader : Providers P) (ctx : C)
+    (service : G) where
   -- a desk with one cache and no calls, with its first handle, has a granter round it
   pub granter-new : AreFew loader
       → setup_of desk ≡ record { loaders = loader_for loader ∷ []; rules = []; handles = [] }

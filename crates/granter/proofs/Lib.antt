@@ -2,7 +2,6 @@ pub mod DeskSteps
 pub mod CourseOfSteps
 pub mod StepOutcomes
 pub mod PollEnds
-pub mod ObjectMeanings
 pub mod PollInvariant
 pub mod GranterObjectsAt
 pub mod GranterOthers

@@ -4,7 +4,8 @@ use Rattle.sequential_signer.specs.declared.event.Loader.{Loader}
 use Rattle.desk_driver.specs.CallAt.{HasProvider, loader_of}
 use Rattle.desk_parts.specs.Places.{provider_count}
 use Rattle.grant_desk.specs.GrantDeskState.{GrantState}
-use Rattle.granter.specs.Course.{PollEnd, Pends, Gives, Refuses, RunsOut, PolledCall, IsDriven, IsEnd, IsAnswerIssued}
+use Rattle.granter.specs.PollEvents.{PollEnd, Pends, Gives, Refuses, RunsOut, PolledCall, IsDriven, IsEnd}
+use Rattle.granter.specs.PollEvents.{IsAnswerIssued}
 use Rattle.granter.specs.IssuedBy.{IsStateIssued}
 use Rattle.granter.specs.ObjectPoll.{BegunCall}
 use Rattle.granter.specs.StepOutcome.{StepChange, ComesLater, IsStepEnd, IsEndIssued, answer_by}
@@ -59,7 +60,8 @@ steps_left loader Waiting = suc (suc (provider_count loader))
 steps_left loader (Loading provider l) = suc (provider_count loader - provider)
 steps_left loader (Granting source w) = 0
 
-module _ {K D L W : Type 0} (v : PolledCall K D L W) (desk : GrantState K D) (loader : Loader) (loads : loader_of desk v.begun.id.handle ≡ Some loader) where
+module _ {K D L W : Type 0} (v : PolledCall K D L W) (desk : GrantState K D) (loader : Loader)
+    (loads : loader_of desk v.begun.id.handle ≡ Some loader) where
   few : (provider : ℕ) → HasProvider desk v.begun.id.handle provider → provider < provider_count loader
   few provider h = subst (λ o. IsSomeAnd o (λ (l : Loader). provider < provider_count l)) loads h
 

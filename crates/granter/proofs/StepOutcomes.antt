@@ -17,12 +17,15 @@ use Rattle.desk_driver.specs.declared.load_state.LoadState.{LoadState}
 use Rattle.desk_driver.specs.declared.load_state.LoadState.TheVariants as load
 use Rattle.desk_parts.specs.Memory.{ClonesAreFree}
 use Rattle.grant_desk.specs.GrantSteps.{IsGrantStep, RunsOutAtBegins}
-use Rattle.granter.specs.DeskReplies.{IsUnpolled, AfterPoll, AfterFound, AfterNone, AfterMade, is_of_look, is_of_check}
-use Rattle.granter.specs.Course.{PolledCall, Pends, Gives, Refuses, RunsOut, IsMadeGiven, IsRefusal}
-use Rattle.granter.specs.IssuedBy.{IsLoadMade, IsWorkMade}
+use Rattle.granter.specs.DeskReplies.{IsUnpolled, AfterPoll, AfterFound, AfterNone, AfterMade, is_of_look}
+use Rattle.granter.specs.DeskReplies.{is_of_check}
+use Rattle.granter.specs.PollEvents.{PolledCall, Pends, Gives, Refuses, RunsOut, IsMadeGiven, IsRefusal}
+use Rattle.granter.specs.IssuedBy.{IsWorkMade}
+use Rattle.desk_driver.specs.Meanings.{IsLoadMade}
 use Rattle.granter.specs.ObjectAnswer.{IsWorkPending, KeepsWork, IsWorkOpen, WorkRunsOut}
 use Rattle.granter.specs.StepOutcome.{StepChange, IsStepOutcome, Ends}
-use Rattle.granter.specs.OutcomeByReply.{plain_refusal, flow_after_poll, flow_after_found, flow_after_none, flow_after_made}
+use Rattle.granter.specs.OutcomeByReply.{plain_refusal, flow_after_poll, flow_after_found, flow_after_none}
+use Rattle.granter.specs.OutcomeByReply.{flow_after_made}
 use Rattle.granter.specs.declared.grant.CallState.TheVariants.{Waiting, Loading, Granting}
 use Rattle.granter.specs.declared.grant.WorkState.{WorkState}
 use Rattle.granter.specs.declared.grant.WorkState.TheVariants as work

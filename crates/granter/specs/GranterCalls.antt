@@ -1,5 +1,5 @@
 -- What the calls of a granter do.
-use Rattle.std.specs.Prelude.{◌≡◌, ◌⊎◌, ℕ, [], ◌+◌}
+use Rattle.std.specs.Prelude.{◌≡◌, ◌⊎◌, ℕ, [], ◌+◌, IfSome}
 use Rattle.sign_base.specs.Error.{ErrorParts, new_error}
 use Rattle.sign_base.specs.declared.error_kind.ErrorKind.TheVariants.{RequestInvalid, OutOfMemory}
 use Rattle.sign_base.specs.declared.call_id.CallId.{CallId}
@@ -7,12 +7,12 @@ use Rattle.sequential_signer.specs.Policy.{Policy}
 use Rattle.sequential_signer.specs.declared.grant_event.GrantEvent.TheVariants.{Begin}
 use Rattle.sequential_signer.specs.declared.grant_event.GrantReply.TheVariants.{Begun}
 use Rattle.grant_desk.specs.GrantSteps.{IsGrantStep}
+use Rattle.granter.specs.PollEvents.{state_back}
 use Rattle.granter.specs.GranterInvariant.{GranterState}
 use Rattle.granter.specs.GranterObjects.{Meanings}
 use Rattle.granter.specs.IssuedBy.{IsGrantIssuedBy}
 use Rattle.granter.specs.declared.grant.Grant.{Grant}
 use Rattle.granter.specs.declared.grant_poll.GrantPoll.{GrantPoll}
-use Rattle.granter.specs.declared.grant_poll.GrantPoll.TheVariants as answer
 use Rattle.desk_driver.specs.CallNumbers.{used_up}
 
 -- why no call is begun: an allocation failed, or there is no further number
@@ -34,12 +34,8 @@ module _ {P G K C L W : Type 0} (m : Meanings P G K C L W) where
 
   -- a state that a poll hands back is of the same call, and one that the granter issued
   abbrev pub IsAnswerIssuedBy : GranterState P G K C → CallId → GrantPoll P G K C L C W K → Type 0
-  IsAnswerIssuedBy granter call (answer.Pending grant) =
-      (grant.begun.id ≡ call) × IsGrantIssuedBy m granter grant
-  IsAnswerIssuedBy granter call (answer.OutOfMemory grant) =
-      (grant.begun.id ≡ call) × IsGrantIssuedBy m granter grant
-  IsAnswerIssuedBy granter call (answer.Given credential) = Unit {0}
-  IsAnswerIssuedBy granter call (answer.Refused refused) = Unit {0}
+  IsAnswerIssuedBy granter call given =
+      IfSome (state_back given) (λ grant. (grant.begun.id ≡ call) × IsGrantIssuedBy m granter grant)
 
   -- a call that was begun: the next number, and the event of the desk
   pub record Begins (policy : Policy K G) (change : GranterChange P G K C)

@@ -1,5 +1,6 @@
 -- What a granter keeps, and what holds of every granter.
-use Rattle.std.specs.Prelude.{◌≡◌, ℕ, ◌<◌, ◌≤◌, ◌++◌, List, [], ◌∷◌, Option, true, length, option_map, option_and_then, slice_get, IfSome}
+use Rattle.std.specs.Prelude.{◌≡◌, ℕ, ◌<◌, ◌≤◌, ◌++◌, List, [], ◌∷◌, Option, true, length, option_map}
+use Rattle.std.specs.Prelude.{option_and_then, slice_get, IfSome}
 use Rattle.credentials.specs.declared.providers.Providers.{Providers}
 use Rattle.sequential_signer.specs.Setup.{Handle}
 use Rattle.sequential_signer.specs.declared.event.Loader.{Loader}
@@ -47,7 +48,11 @@ module _ {P G K C : Type 0} where
   -- a granter with one handle: an empty cache with these providers, this context and this service
   pub record IsNewGranter (policy : Policy K G) (ctx : C) (loader : Providers P) (service : G)
       (granter : GranterState P G K C) : Type 0 where
-    pub setup : setup_of granter.desk ≡ record { loaders = loader_for loader ∷ []; rules = service ∷ []; handles = record { cache = 0; rule = 0 } ∷ [] }
+    pub setup : setup_of granter.desk ≡ record {
+      loaders = loader_for loader ∷ [];
+      rules = service ∷ [];
+      handles = record { cache = 0; rule = 0 } ∷ [];
+    }
     pub represents : GrantRepresents policy granter.desk []
     pub providers_are : granter.providers ≡ loader ∷ []
     pub provider_places_are : granter.provider_places ≡ 0 ∷ []

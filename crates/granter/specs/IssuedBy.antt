@@ -1,12 +1,11 @@
 -- The states of calls that a granter issued.
-use Rattle.std.specs.Prelude.{ℕ, IsSomeAnd}
+use Rattle.std.specs.Prelude.{IsSomeAnd}
 use Rattle.desk_driver.specs.CallAt.{IsAsking, IsSigning}
-use Rattle.desk_driver.specs.LoadAnswer.{IsLoadKept}
-use Rattle.desk_driver.specs.declared.load_state.LoadState.{LoadState}
+use Rattle.desk_driver.specs.Meanings.{call_meaning, IsLoadMade}
 use Rattle.grant_desk.specs.GrantDeskState.{GrantState}
 use Rattle.granter.specs.DeskReplies.{IsUnpolled}
 use Rattle.granter.specs.GranterInvariant.{GranterState}
-use Rattle.granter.specs.GranterObjects.{Meanings, CallMeaning, call_meaning, objects_of}
+use Rattle.granter.specs.GranterObjects.{Meanings, CallMeaning, objects_of}
 use Rattle.granter.specs.ObjectAnswer.{IsWorkKept}
 use Rattle.granter.specs.ObjectPoll.{BegunCall}
 use Rattle.granter.specs.declared.grant.CallState.{CallState}
@@ -15,10 +14,6 @@ use Rattle.granter.specs.declared.grant.Grant.{Grant}
 use Rattle.granter.specs.declared.grant.WorkState.{WorkState}
 
 module _ {K L W : Type 0} (m : CallMeaning K L W) where
-  -- the load was started by the provider last asked, and an answer that is kept is one that it gives
-  abbrev pub IsLoadMade : ℕ → LoadState K L → Type 0
-  IsLoadMade provider l = IsLoadKept (m.load_started provider) (m.load_gives provider) l
-
   -- the work was started with the source, and an answer that is kept is one that the service gives
   abbrev pub IsWorkMade : K → WorkState K W → Type 0
   IsWorkMade source w = IsWorkKept (m.work_started source) (m.work_gives source) w
@@ -26,7 +21,7 @@ module _ {K L W : Type 0} (m : CallMeaning K L W) where
   -- the desk has the call's record with the same state, and load or work were started for the call
   abbrev pub IsStateIssued : {D : Type 0} → BegunCall → GrantState K D → CallState K L W → Type 0
   IsStateIssued begun desk Waiting = IsUnpolled begun desk
-  IsStateIssued begun desk (Loading provider l) = IsAsking begun provider desk × IsLoadMade provider l
+  IsStateIssued begun desk (Loading provider l) = IsAsking begun provider desk × IsLoadMade m provider l
   IsStateIssued begun desk (Granting source w) = IsSigning begun desk × IsWorkMade source w
 
 -- this granter issued this state

@@ -1,18 +1,12 @@
 -- What a granting service means, in a context.
-use Rattle.std.specs.Prelude.{option_map}
-use Rattle.std.specs.Duration.{as_nanos}
 use Rattle.credentials.specs.declared.grant.GrantCredential as GrantCredential
-use Rattle.credentials.specs.Operation.{Operation}
+use Rattle.desk_driver.specs.Meanings.{operation_of}
 use Rattle.desk_driver.specs.declared.begun_call.BegunCall.{BegunCall as Begun}
 use Rattle.granter.specs.ObjectAnswer.{ServiceMeaning}
 
 -- a call that a granter began, which names no head
 abbrev pub BegunCall : Type 0
 BegunCall = Begun (Unit {0})
-
--- what a granting service is asked for with this source
-abbrev pub operation_of : {K : Type 0} → BegunCall → K → Operation K
-operation_of begun source = record { credential = source; expires_in = option_map as_nanos begun.expires_in }
 
 -- what a granting service means in a context, for a call with this source
 abbrev pub service_meaning : {G C W K : Type 0} → GrantCredential.Ghosts G C W K → G → C → BegunCall → K

@@ -4,7 +4,8 @@ use Rattle.sign_base.specs.Error.{ErrorParts}
 use Rattle.desk_driver.specs.RefusalText.{range_error}
 use Rattle.granter.specs.RefusalText.{missing_error, short_error, stale_error}
 use Rattle.granter.specs.declared.refusal.GrantRefusal.{GrantRefusal}
-use Rattle.granter.specs.declared.refusal.GrantRefusal.TheVariants.{Missing, Short, Range, Loader, Service, Stale}
+use Rattle.granter.specs.declared.refusal.GrantRefusal.TheVariants.{Missing, Short, Range, Loader, Service}
+use Rattle.granter.specs.declared.refusal.GrantRefusal.TheVariants.{Stale}
 
 -- the error of a refusal, of credentials of this type
 abbrev pub error_of : List ℕ → GrantRefusal → ErrorParts

@@ -5,7 +5,8 @@ use Rattle.sequential_signer.specs.declared.grant_event.GrantReply.{GrantReply}
 use Rattle.desk_driver.specs.CallAt.{LeavesOthers}
 use Rattle.grant_desk.specs.GrantDeskState.{GrantState}
 use Rattle.grant_desk.specs.GrantSteps.{IsGrantStep}
-use Rattle.granter.specs.Course.{PollEnd, Pends, Gives, Refuses, RunsOut, PollRun, PolledCall, IsGiven, IsCourse, state_after}
+use Rattle.granter.specs.PollEvents.{PollEnd, Pends, Gives, Refuses, RunsOut, PollRun, PolledCall, IsGiven}
+use Rattle.granter.specs.PollEvents.{IsEventSequence, state_after}
 use Rattle.granter.specs.IssuedBy.{IsStateIssued}
 use Rattle.granter.specs.ObjectPoll.{BegunCall}
 use Rattle.granter.specs.declared.grant.CallState.{CallState}
@@ -15,7 +16,7 @@ use Rattle.granter.specs.declared.grant_poll.GrantPoll.TheVariants as answer
 use Rattle.granter.specs.declared.step_outcome.StepEnd.{StepEnd}
 use Rattle.granter.specs.declared.step_outcome.StepEnd.TheVariants.{Pending, Given, Refused, OutOfMemory}
 use Rattle.granter.specs.declared.step_outcome.StepFlow.{StepFlow}
-use Rattle.granter.specs.declared.step_outcome.StepFlow.TheVariants.{On, Over}
+use Rattle.granter.specs.declared.step_outcome.StepFlow.TheVariants.{Continue, Stop}
 
 -- the desk before and after a step
 pub record StepChange (K D : Type 0) : Type 0 where
@@ -69,12 +70,12 @@ module _ {K D L W : Type 0} (v : PolledCall K D L W) where
   -- the step is the last of the poll
   pub record Ends (state : CallState K L W) (change : StepChange K D) (end : StepEnd K L W) : Type 0 where
     pub run : PollRun K L W
-    pub course : IsCourse v state change.old run change.new
+    pub course : IsEventSequence v state change.old run change.new
     pub ended : IsStepEnd end run.end
     pub issued : IsEndIssued change.new end
     pub others : LeavesOthers v.begun.id change.old change.new
 
   -- what the step of a call in this state came to
   abbrev pub IsStepOutcome : CallState K L W → StepChange K D → StepFlow K L W → Type 0
-  IsStepOutcome state change (On next) = GoesOn state change next
-  IsStepOutcome state change (Over end) = Ends state change end
+  IsStepOutcome state change (Continue next) = GoesOn state change next
+  IsStepOutcome state change (Stop end) = Ends state change end

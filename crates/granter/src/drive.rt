@@ -3,14 +3,17 @@ ghost use Rattle.std.specs.Prelude.{◌≡◌, IsSome, IfSome, OnOk, OnErr, true
 ghost use Rattle.sequential_signer.specs.Policy.{policy_of};
 ghost use Rattle.sequential_signer.specs.LiveCall.{is_above};
 ghost use Rattle.sequential_signer.specs.declared.event.Answer.TheVariants as answer;
-ghost use Rattle.sequential_signer.specs.declared.grant_event.GrantEvent.TheVariants.{Begin, Cancel, Poll, Provided, Granted};
-ghost use Rattle.sequential_signer.specs.declared.grant_event.GrantReply.TheVariants.{Begun, Cancelled, Refused};
+ghost use Rattle.sequential_signer.specs.declared.grant_event.GrantEvent.TheVariants.{Begin, Cancel, Poll};
+ghost use Rattle.sequential_signer.specs.declared.grant_event.GrantEvent.TheVariants.{Provided, Granted};
+ghost use Rattle.sequential_signer.specs.declared.grant_event.GrantReply.TheVariants.{Begun, Cancelled};
+ghost use Rattle.sequential_signer.specs.declared.grant_event.GrantReply.TheVariants.{Refused};
 ghost use Rattle.sequential_signer.specs.declared.grant_event.GrantWhy.TheVariants as why;
 ghost use Rattle.sequential_signer.specs.declared.grant_event.Made.TheVariants as made;
 ghost use Rattle.desk_parts.specs.Memory.{ClonesAreFree};
 ghost use Rattle.grant_desk.specs.GrantSteps.{IsGrantStep, RunsOutAtBegins};
 ghost use Rattle.desk_driver.specs.CallAt.{IsLive, IsAsking, IsSigning, LeavesOthers};
-ghost use Rattle.granter.specs.DeskReplies.{IsUnpolled, IsBegun, AfterPoll, AfterFound, AfterNone, AfterMade, found_in_event, made_in_event};
+ghost use Rattle.granter.specs.DeskReplies.{IsUnpolled, IsBegun, AfterPoll, AfterFound, AfterNone, AfterMade};
+ghost use Rattle.granter.specs.DeskReplies.{found_in_event, made_in_event};
 
 use desk_driver::BegunCall;
 use grant_desk::GrantDesk;
@@ -85,7 +88,7 @@ pub(crate) fn poll_call<K: SigningCredential, D: DeadlineRule<Credential = K>>(
 }
 
 /// A source that the asked provider found, which is handed back beside the reply.
-pub(crate) fn give_found<K: SigningCredential, D: DeadlineRule<Credential = K>>(
+pub(crate) fn report_found<K: SigningCredential, D: DeadlineRule<Credential = K>>(
     desk: &mut GrantDesk<K, D>,
     begun: &BegunCall<()>,
     provider: u32,
@@ -113,7 +116,7 @@ pub(crate) fn give_found<K: SigningCredential, D: DeadlineRule<Credential = K>>(
 }
 
 /// The asked provider has no source.
-pub(crate) fn give_missing<K: SigningCredential, D: DeadlineRule<Credential = K>>(
+pub(crate) fn report_missing<K: SigningCredential, D: DeadlineRule<Credential = K>>(
     desk: &mut GrantDesk<K, D>,
     begun: &BegunCall<()>,
     provider: u32,
@@ -137,7 +140,7 @@ pub(crate) fn give_missing<K: SigningCredential, D: DeadlineRule<Credential = K>
 }
 
 /// The asked provider failed.
-pub(crate) fn give_failed<K: SigningCredential, D: DeadlineRule<Credential = K>>(
+pub(crate) fn report_failed_load<K: SigningCredential, D: DeadlineRule<Credential = K>>(
     desk: &mut GrantDesk<K, D>,
     begun: &BegunCall<()>,
     provider: u32,
@@ -161,7 +164,7 @@ pub(crate) fn give_failed<K: SigningCredential, D: DeadlineRule<Credential = K>>
 }
 
 /// The service made this credential, which is handed back beside the reply.
-pub(crate) fn give_made<K: SigningCredential, D: DeadlineRule<Credential = K>>(
+pub(crate) fn report_made<K: SigningCredential, D: DeadlineRule<Credential = K>>(
     desk: &mut GrantDesk<K, D>,
     begun: &BegunCall<()>,
     now: Timestamp,
@@ -188,7 +191,7 @@ pub(crate) fn give_made<K: SigningCredential, D: DeadlineRule<Credential = K>>(
 }
 
 /// The service failed.
-pub(crate) fn give_unmade<K: SigningCredential, D: DeadlineRule<Credential = K>>(
+pub(crate) fn report_failed_grant<K: SigningCredential, D: DeadlineRule<Credential = K>>(
     desk: &mut GrantDesk<K, D>,
     begun: &BegunCall<()>,
     now: Timestamp,

@@ -32,13 +32,14 @@ where
     requires issued { IsIssuedFor (poll_context P.Credential.SigningCredential P.ProvideCredential
         G.DeadlineRule G.GrantCredential.own objects.now grant.begun now) desk.old grant.state }
     ensures { IsDrivenFrom (poll_context P.Credential.SigningCredential P.ProvideCredential
-        G.DeadlineRule G.GrantCredential.own objects.now grant.begun now) grant.state desk.old desk.new result }
+        G.DeadlineRule G.GrantCredential.own objects.now grant.begun now) grant.state desk.old
+        desk.new result }
 {
     let Grant { begun, mut state } = grant;
     loop {
         match step(desk, objects, &begun, now, state) {
-            StepFlow::On(next) => state = next,
-            StepFlow::Over(end) => return answer_of(begun, end),
+            StepFlow::Continue(next) => state = next,
+            StepFlow::Stop(end) => return answer_of(begun, end),
         }
     }
 }

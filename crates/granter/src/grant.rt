@@ -1,4 +1,6 @@
 //! What a granter keeps of a call between its polls. Its caller holds it, and hands it in at each poll.
+ghost use Rattle.std.specs.Prelude.{Some, codes};
+ghost use Rattle.std.specs.Fmt.{DisplaysOnOk, WritesStyledOnOk};
 
 use credentials::{GrantCredential, ProvideCredential};
 use desk_driver::{BegunCall, LoadState};
@@ -33,11 +35,14 @@ pub struct Grant<P: ProvideCredential, G: GrantCredential> {
     pub(crate) state: CallState<P::Credential, P::Load, G::Work>,
 }
 
-/// Shows which call it is, and no credential.
+/// Shows no credential, whatever the formatter.
 impl<P: ProvideCredential, G: GrantCredential> fmt::Debug for Grant<P, G> {
-    fn fmt<W: fmt::Write>(&self, f: &mut fmt::Formatter<W>) -> fmt::Result {
-        let mut parts = f.debug_struct("Grant");
-        parts.field("call", &self.begun.id);
-        parts.finish()
+    ghost debug_output = { λ _. Some (codes "Grant(***)") };
+
+    fn fmt<W: fmt::Write>(&self, f: &mut fmt::Formatter<W>) -> fmt::Result
+        ensures writes { DisplaysOnOk W.write_str_gives f.old result (Some (codes "Grant(***)")) f.new }
+        ensures styled { WritesStyledOnOk W.write_str_gives f.old result (codes "Grant(***)") f.new }
+    {
+        f.write_str("Grant(***)")
     }
 }

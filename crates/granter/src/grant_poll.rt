@@ -1,4 +1,6 @@
 //! What a poll of a granter answers.
+ghost use Rattle.std.specs.Fmt.{DisplaysOnOk, DisplaysStyledOnOk};
+ghost use Rattle.granter.specs.DebugText.{answer_text};
 
 use crate::grant::Grant;
 use crate::refusal::GrantRefusal;
@@ -18,14 +20,19 @@ pub enum GrantPoll<P: ProvideCredential, G: GrantCredential> {
     OutOfMemory(Grant<P, G>),
 }
 
-/// Shows which call it is, and no credential.
+/// Shows no credential, whatever the formatter.
 impl<P: ProvideCredential, G: GrantCredential> fmt::Debug for GrantPoll<P, G> {
-    fn fmt<W: fmt::Write>(&self, f: &mut fmt::Formatter<W>) -> fmt::Result {
+    ghost debug_output = { answer_text };
+
+    fn fmt<W: fmt::Write>(&self, f: &mut fmt::Formatter<W>) -> fmt::Result
+        ensures writes { DisplaysOnOk W.write_str_gives f.old result (answer_text self.now) f.new }
+        ensures styled { DisplaysStyledOnOk W.write_str_gives f.old result (answer_text self.now) f.new }
+    {
         match self {
-            GrantPoll::Pending(grant) => f.debug_tuple("Pending").field(grant).finish(),
-            GrantPoll::Given(_) => f.write_str("Given"),
+            GrantPoll::Pending(_) => f.write_str("Pending(***)"),
+            GrantPoll::Given(_) => f.write_str("Given(***)"),
             GrantPoll::Refused(why) => f.debug_tuple("Refused").field(why).finish(),
-            GrantPoll::OutOfMemory(grant) => f.debug_tuple("OutOfMemory").field(grant).finish(),
+            GrantPoll::OutOfMemory(_) => f.write_str("OutOfMemory(***)"),
         }
     }
 }

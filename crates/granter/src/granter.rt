@@ -2,7 +2,8 @@
 //!
 //! Contracts see a granter as the record `GranterState`. A call's state is in its caller's hands between
 //! polls; `IsGrantIssuedBy` says that this granter issued it.
-ghost use Rattle.std.specs.Prelude.{◌≡◌, ◌<◌, Some, [], length, OnOk, OnErr, IfOk, IfErr, IfSome, slice_get, slice_index};
+ghost use Rattle.std.specs.Prelude.{◌≡◌, ◌<◌, Some, [], length, OnOk, OnErr, IfOk, IfErr, IfSome, slice_get};
+ghost use Rattle.std.specs.Prelude.{slice_index};
 ghost use Rattle.sequential_signer.specs.Policy.{policy_of};
 ghost use Rattle.sequential_signer.specs.declared.grant_event.GrantEvent.TheVariants.{Cancel};
 ghost use Rattle.sequential_signer.specs.declared.grant_event.GrantReply.TheVariants.{Cancelled};
@@ -10,10 +11,11 @@ ghost use Rattle.desk_parts.specs.Adding.{late_refusal, AddAnswerBack};
 ghost use Rattle.desk_driver.specs.ProviderList.{AreFew};
 ghost use Rattle.grant_desk.specs.GrantDeskState.{GrantRepresents};
 ghost use Rattle.grant_desk.specs.GrantSteps.{IsGrantStep};
-ghost use Rattle.granter.specs.Course.{IsGrantPoll, polled_call};
+ghost use Rattle.granter.specs.PollEvents.{IsGrantPoll, polled_call};
 ghost use Rattle.granter.specs.IssuedBy.{IsGrantIssuedBy};
 ghost use Rattle.granter.specs.GranterCalls.{Begins, RefusesToBegin, KeepsOthers, IsAnswerIssuedBy};
-ghost use Rattle.granter.specs.GranterInvariant.{IsNewGranter, with_context_handle, with_service_handle, with_cache_handle};
+ghost use Rattle.granter.specs.GranterInvariant.{IsNewGranter, with_context_handle, with_service_handle};
+ghost use Rattle.granter.specs.GranterInvariant.{with_cache_handle};
 ghost use Rattle.granter.specs.GranterObjects.{meanings_of, objects_of};
 ghost use Rattle.desk_driver.specs.Objects.{Objects};
 
@@ -81,8 +83,6 @@ where
     /// A granter with handle 0: an empty cache with these providers, this context and this granting service.
     ///
     /// Where there is no memory, all three come back.
-    ///
-    /// Requires a chain of at most 4,294,967,295 providers.
     pub fn new(
         alloc: Global,
         ctx: P::Ctx,
@@ -107,7 +107,7 @@ where
             mut contexts,
             mut context_places,
         } = room;
-        match desk.add_handle_with_rule(0, granter) {
+        match desk.add_rule_and_handle(0, granter) {
             Ok(_) => {
                 providers.push_reserved(loader);
                 provider_places.push_reserved(0);
@@ -134,8 +134,6 @@ where
     ///
     /// Errors: `Late` where a call was begun, `OutOfMemory`. An error changes nothing, and hands the
     /// context back.
-    ///
-    /// Requires a handle that is there, and fewer than 4,294,967,295 handles.
     pub fn with_context(&mut self, handle: u32, ctx: P::Ctx) -> Result<u32, AddRefused<P::Ctx>>
         requires handle { handle < length self.old.desk.handles }
         requires room { length self.old.desk.handles < 4294967295 }
@@ -160,7 +158,7 @@ where
             return Err(AddRefused { why, back: ctx });
         }
         let loads = loader_of(&self.providers[place]);
-        match self.desk.add_handle_with_cache(loads, like.rule) {
+        match self.desk.add_cache_and_handle(loads, like.rule) {
             Ok(number) => {
                 self.provider_places.push_reserved(place);
                 self.context_places.push_reserved(self.contexts.len());
@@ -176,9 +174,6 @@ where
     ///
     /// Errors: `Late` where a call was begun, `OutOfMemory`. An error changes nothing, and hands the
     /// providers back.
-    ///
-    /// Requires a handle that is there, fewer than 4,294,967,295 handles, and a chain of at most as
-    /// many providers.
     pub fn with_credential_provider(
         &mut self,
         handle: u32,
@@ -206,7 +201,7 @@ where
             return Err(AddRefused { why, back: loader });
         }
         let loads = loader_of(&loader);
-        match self.desk.add_handle_with_cache(loads, like.rule) {
+        match self.desk.add_cache_and_handle(loads, like.rule) {
             Ok(number) => {
                 self.provider_places.push_reserved(self.providers.len());
                 self.providers.push_reserved(loader);
@@ -222,8 +217,6 @@ where
     ///
     /// Errors: `Late` where a call was begun, `OutOfMemory`. An error changes nothing, and hands the
     /// service back.
-    ///
-    /// Requires a handle that is there, and fewer than 4,294,967,295 handles.
     pub fn with_credential_granter(&mut self, handle: u32, granter: G) -> Result<u32, AddRefused<G>>
         requires handle { handle < length self.old.desk.handles }
         requires room { length self.old.desk.handles < 4294967295 }
@@ -246,17 +239,19 @@ where
         ) {
             return Err(AddRefused { why, back: granter });
         }
-        let number = self.desk.add_handle_with_rule(like.cache, granter)?;
+        let number = self.desk.add_rule_and_handle(like.cache, granter)?;
         self.context_places.push_reserved(place);
         Ok(number)
     }
 
-    /// Begins a call under this handle, to be granted a credential for so long.
+    /// Begins a call under this handle, and hands out its state for `poll`. Nothing is loaded or granted yet.
+    /// `expires_in` is for the service and its deadline: how long the credential is to hold, where the
+    /// service asks for that.
     ///
-    /// `RequestInvalid` where 18,446,744,073,709,551,615 calls were begun. `OutOfMemory` where an
+    /// The caller polls the state until the call is over, or hands it to `cancel`.
+    ///
+    /// Errors: `RequestInvalid` where 18,446,744,073,709,551,615 calls were begun; `OutOfMemory` where an
     /// allocation failed. An error begins nothing.
-    ///
-    /// Requires a handle that is there.
     pub fn grant(&mut self, handle: u32, expires_in: Option<Duration>) -> Result<Grant<P, G>, Error>
         requires { handle < length self.old.desk.handles }
         ensures ok { IfOk result
@@ -287,10 +282,26 @@ where
         })
     }
 
-    /// Goes on with a call, as far as its objects answer now. `now` is the moment of all that happens
-    /// in this poll.
+    /// Goes on with a call, as far as its objects answer now: it looks at the cache, polls the provider that
+    /// is asked, and then the service. It does not block. `now` is the moment of the poll, by which it is
+    /// judged what a source and a granted credential are good for.
     ///
-    /// Requires a state that this granter made.
+    /// - `Pending`: poll again when its provider or its service may have answered. An earlier poll does no
+    ///   harm.
+    /// - `Given`: the credential that the service made. The granter keeps none of it.
+    /// - `Refused`: the call is over; `into_error` makes an error of the cause.
+    /// - `OutOfMemory`: poll again when there may be memory. What was answered before is kept.
+    ///
+    /// ```text
+    /// let grant = granter.grant(0, None)?;
+    /// match granter.poll(grant, now) {
+    ///     GrantPoll::Given(credential) => hand_out(credential),
+    ///     GrantPoll::Refused(why) => return Err(why.into_error(alloc, Key::NAME)?),
+    ///     GrantPoll::Pending(grant) | GrantPoll::OutOfMemory(grant) => later.push(grant)?,
+    /// }
+    /// ```
+    ///
+    /// `poll_thrice` of `signer_tests` drives a call so.
     pub fn poll(&mut self, grant: Grant<P, G>, now: Timestamp) -> GrantPoll<P, G>
         requires { IsGrantIssuedBy (meanings_of P.ProvideCredential G.GrantCredential.own) self.old grant }
         ensures poll { (o : Objects P G P.Ctx) → objects_of self.old grant.begun.id.handle ≡ Some o
@@ -318,8 +329,6 @@ where
     }
 
     /// Gives a call up. It takes no memory.
-    ///
-    /// Requires a state that this granter made.
     pub fn cancel(&mut self, grant: Grant<P, G>)
         requires { IsGrantIssuedBy (meanings_of P.ProvideCredential G.GrantCredential.own) self.old grant }
         ensures step { IsGrantStep (policy_of P.Credential.valid P.Credential.valid_at G.deadline)

@@ -6,7 +6,9 @@ ghost use Rattle.granter.specs.PollContext.{poll_context, IsIssuedFor, IsOutcome
 ghost use Rattle.granter.specs.declared.grant.CallState.TheVariants.{Loading, Granting};
 
 use crate::call_objects::CallObjects;
-use crate::drive::{give_failed, give_found, give_made, give_missing, give_unmade, poll_call};
+use crate::drive::{
+    poll_call, report_failed_grant, report_failed_load, report_found, report_made, report_missing,
+};
 use crate::grant::{CallState, WorkState};
 use crate::granter_objects::poll_service;
 use crate::object_answer::WorkAnswer;
@@ -75,25 +77,25 @@ where
     match poll_provider(objects.alloc, asked, objects.ctx, load) {
         LoadAnswer::Pending(load) => {
             let state = CallState::Loading(provider, LoadState::Started(load));
-            StepFlow::Over(StepEnd::Pending(state))
+            StepFlow::Stop(StepEnd::Pending(state))
         }
         LoadAnswer::OutOfMemory(load) => {
-            StepFlow::Over(StepEnd::OutOfMemory(CallState::Loading(provider, load)))
+            StepFlow::Stop(StepEnd::OutOfMemory(CallState::Loading(provider, load)))
         }
         LoadAnswer::Found(source) => {
-            let (reply, found) = give_found(desk, begun, provider, now, source);
+            let (reply, found) = report_found(desk, begun, provider, now, source);
             after_found(provider, found, reply)
         }
         LoadAnswer::Missing => {
             after_none(
                 GrantRefusal::Missing,
-                give_missing(desk, begun, provider, now),
+                report_missing(desk, begun, provider, now),
             )
         }
         LoadAnswer::Failed(e) => {
             after_none(
                 GrantRefusal::Loader(e),
-                give_failed(desk, begun, provider, now),
+                report_failed_load(desk, begun, provider, now),
             )
         }
     }
@@ -123,18 +125,18 @@ where
     match poll_service(objects.alloc, service, objects.ctx, begun, &source, work) {
         WorkAnswer::Pending(work) => {
             let state = CallState::Granting(source, WorkState::Started(work));
-            StepFlow::Over(StepEnd::Pending(state))
+            StepFlow::Stop(StepEnd::Pending(state))
         }
         WorkAnswer::OutOfMemory(work) => {
-            StepFlow::Over(StepEnd::OutOfMemory(CallState::Granting(source, work)))
+            StepFlow::Stop(StepEnd::OutOfMemory(CallState::Granting(source, work)))
         }
         WorkAnswer::Made(credential) => {
-            let (reply, made) = give_made(desk, begun, now, credential);
+            let (reply, made) = report_made(desk, begun, now, credential);
             after_made(source, made, reply)
         }
         WorkAnswer::Failed(e) => {
-            give_unmade(desk, begun, now);
-            StepFlow::Over(StepEnd::Refused(GrantRefusal::Service(e)))
+            report_failed_grant(desk, begun, now);
+            StepFlow::Stop(StepEnd::Refused(GrantRefusal::Service(e)))
         }
     }
 }

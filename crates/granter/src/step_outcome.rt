@@ -16,6 +16,6 @@ pub(crate) enum StepEnd<K, L, W> {
 #[derive(Drop)]
 pub(crate) enum StepFlow<K, L, W> {
     /// The poll goes on from here.
-    On(CallState<K, L, W>),
-    Over(StepEnd<K, L, W>),
+    Continue(CallState<K, L, W>),
+    Stop(StepEnd<K, L, W>),
 }

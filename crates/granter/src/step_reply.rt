@@ -1,6 +1,7 @@
 //! How a poll goes on by a reply of its desk.
 ghost use Rattle.std.specs.Prelude.{◌≡◌};
-ghost use Rattle.granter.specs.OutcomeByReply.{plain_refusal, flow_after_poll, flow_after_found, flow_after_none, flow_after_made};
+ghost use Rattle.granter.specs.OutcomeByReply.{plain_refusal, flow_after_poll, flow_after_found};
+ghost use Rattle.granter.specs.OutcomeByReply.{flow_after_none, flow_after_made};
 
 use crate::grant::{CallState, WorkState};
 use crate::refusal::GrantRefusal;
@@ -15,14 +16,14 @@ pub(crate) fn after_poll<K: Drop, L, W>(reply: GrantReply<K>) -> StepFlow<K, L, 
 {
     match reply {
         GrantReply::Ask { provider } => {
-            StepFlow::On(CallState::Loading(provider, LoadState::Unstarted))
+            StepFlow::Continue(CallState::Loading(provider, LoadState::Unstarted))
         }
-        GrantReply::Grant { source } => StepFlow::On(CallState::Granting(
+        GrantReply::Grant { source } => StepFlow::Continue(CallState::Granting(
             source,
             WorkState::Unstarted,
         )),
-        GrantReply::Refused { why } => StepFlow::Over(StepEnd::Refused(refusal_of(why))),
-        _ => StepFlow::Over(StepEnd::OutOfMemory(CallState::Waiting)),
+        GrantReply::Refused { why } => StepFlow::Stop(StepEnd::Refused(refusal_of(why))),
+        _ => StepFlow::Stop(StepEnd::OutOfMemory(CallState::Waiting)),
     }
 }
 
@@ -35,14 +36,14 @@ pub(crate) fn after_found<K: Drop, L, W>(
     ensures { result ≡ flow_after_found provider found reply }
 {
     match reply {
-        GrantReply::Grant { source } => StepFlow::On(CallState::Granting(
+        GrantReply::Grant { source } => StepFlow::Continue(CallState::Granting(
             source,
             WorkState::Unstarted,
         )),
-        GrantReply::Refused { why } => StepFlow::Over(StepEnd::Refused(refusal_of(why))),
+        GrantReply::Refused { why } => StepFlow::Stop(StepEnd::Refused(refusal_of(why))),
         _ => {
             let kept = CallState::Loading(provider, LoadState::Found(found));
-            StepFlow::Over(StepEnd::OutOfMemory(kept))
+            StepFlow::Stop(StepEnd::OutOfMemory(kept))
         }
     }
 }
@@ -57,12 +58,12 @@ pub(crate) fn after_none<K: Drop, L, W>(
 {
     match reply {
         GrantReply::Ask { provider } => {
-            StepFlow::On(CallState::Loading(provider, LoadState::Unstarted))
+            StepFlow::Continue(CallState::Loading(provider, LoadState::Unstarted))
         }
         GrantReply::Refused {
             why: GrantWhy::Missing,
-        } => StepFlow::Over(StepEnd::Refused(GrantRefusal::Missing)),
-        _ => StepFlow::Over(StepEnd::Refused(failure)),
+        } => StepFlow::Stop(StepEnd::Refused(GrantRefusal::Missing)),
+        _ => StepFlow::Stop(StepEnd::Refused(failure)),
     }
 }
 
@@ -75,11 +76,11 @@ pub(crate) fn after_made<K: Drop, L, W>(
     ensures { result ≡ flow_after_made source made reply }
 {
     match reply {
-        GrantReply::Given { credential } => StepFlow::Over(StepEnd::Given(credential)),
-        GrantReply::Refused { why } => StepFlow::Over(StepEnd::Refused(refusal_of(why))),
+        GrantReply::Given { credential } => StepFlow::Stop(StepEnd::Given(credential)),
+        GrantReply::Refused { why } => StepFlow::Stop(StepEnd::Refused(refusal_of(why))),
         _ => {
             let kept = CallState::Granting(source, WorkState::Made(made));
-            StepFlow::Over(StepEnd::OutOfMemory(kept))
+            StepFlow::Stop(StepEnd::OutOfMemory(kept))
         }
     }
 }

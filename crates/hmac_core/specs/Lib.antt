@@ -1,2 +1,9 @@
 pub mod Hmac
 pub mod Law
+pub use Rattle.base64.specs.Engines
+pub use Rattle.base64.specs.GeneralPurpose
+pub use Rattle.hex.specs.Hex
+pub use Rattle.sha1.specs.Sha1
+pub use Rattle.sha2.specs.Sha256
+pub use Rattle.sign_base.specs.Error
+pub use Rattle.sign_base.specs.Refusal

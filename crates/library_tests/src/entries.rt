@@ -54,13 +54,12 @@ fn done(head: Head) -> Reply<Key> {
 }
 
 const BEGUN: &str =
-    r#"Begin { call: CallId { handle: 0, number: 1 }, head: Head { method: "GET", uri: "https://e.x/a"?***, version: V11, headers: ["authorization": ope***ave] }, expires_in: None }"#;
+    r#"Begin { call: CallId { handle: 0, number: 1 }, head: Head(***), expires_in: None }"#;
 
 const ACCEPTED: &str =
-    r#"Signed { call: CallId { handle: 0, number: 1 }, answer: Accepted(Head { method: "GET", uri: "https://e.x/a"?***, version: V11, headers: ["authorization": ope***ave] }) }"#;
+    r#"Signed { call: CallId { handle: 0, number: 1 }, answer: Accepted(Head(***)) }"#;
 
-const DONE: &str =
-    r#"Done { head: Head { method: "GET", uri: "https://e.x/a"?***, version: V11, headers: ["authorization": ope***ave] } }"#;
+const DONE: &str = r#"Done { head: Head(***) }"#;
 
 #[test]
 fn heads_of_events_and_replies_show_no_secret(rt: HostRuntime) {

@@ -1,6 +1,6 @@
 //! How the tests compare: what a call told, as a text, with the text that is wanted.
 use std::alloc::Global;
-use std::fmt;
+use std::fmt::{self, Write};
 use std::process::Abort;
 
 /// Whether this was told. None says that memory was lacking.
@@ -22,11 +22,47 @@ pub(crate) fn shown<T: fmt::Debug>(alloc: Global, value: &T) -> Option<String> {
 /// What no debug text of a test's value may have: words, their first byte as a number, and numbers.
 const SECRETS: [&str; 4] = ["sesame", "115", "5551234", "736573"];
 
-/// Whether neither debug text of a value, in one line and in several, has a secret, and the first is this.
+/// A writer that takes so many texts, and then fails.
+#[derive(Drop)]
+struct Few {
+    left: usize,
+    taken: String,
+}
+
+impl Write for Few {
+    fn write_str(&mut self, text: &str) -> fmt::Result {
+        if self.left == 0 {
+            return Err(fmt::Error);
+        }
+        self.left -= 1;
+        match self.taken.push_str(text) {
+            Ok(()) => Ok(()),
+            Err(_) => Err(fmt::Error),
+        }
+    }
+}
+
+/// Whether no debug text of a value has a secret, in one line, in several, under other options, or cut off by a
+/// writer that fails, and the first is this.
 pub(crate) fn hides_as<T: fmt::Debug>(rt: &impl Abort, alloc: Global, value: &T, wanted: &str) {
-    let text = format!(in alloc; "{value:?} {value:#?}").expect(rt, "memory");
-    is_hidden(rt, text.as_str());
+    let text = format!(in alloc;
+        "{value:?} {value:#?} {value:4?} {value:<64?} {value:.2?} {value:+09?}"
+    );
+    is_hidden(rt, text.expect(rt, "memory").as_str());
+    for left in 0..8 {
+        is_hidden(rt, cut_off(alloc, value, left).as_str());
+    }
     is_told(rt, shown(alloc, value), wanted);
+}
+
+/// What a writer has that takes so many texts of a value.
+fn cut_off<T: fmt::Debug>(alloc: Global, value: &T, left: usize) -> String {
+    let mut few = Few {
+        left,
+        taken: String::new(alloc),
+    };
+    let _ = write!(few, "{value:?}");
+    few.taken
 }
 
 fn is_hidden(rt: &impl Abort, text: &str) {

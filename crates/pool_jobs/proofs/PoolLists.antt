@@ -17,8 +17,8 @@ use Rattle.signer_shared.specs.declared.job.Job.{Job}
 use Rattle.pool_jobs.specs.Meaning.{pool_credential, pool_meaning, accepted_head}
 use Rattle.pool_jobs.specs.Setup.{pool_setup}
 use Rattle.pool_jobs.specs.Work.{pool_job, jobs_of_worker, pool_work}
-use Rattle.pool_jobs.proofs.Dealt.{is_of, is_from, count_of, counts_all, all_from}
-use Rattle.pool_jobs.specs.PromptGates.{AnswersAtOnce, IsWorkerJob, AreWorkerJobs, AreWorkerLists, jobs_in}
+use Rattle.prompt_law.proofs.Dealt.{is_of, is_from, count_of, counts_all, all_from}
+use Rattle.prompt_law.specs.PromptGates.{AnswersAtOnce, IsWorkerJob, AreWorkerJobs, AreWorkerLists, jobs_in}
 
 -- the handle of each worker
 abbrev pool_handle : Handle

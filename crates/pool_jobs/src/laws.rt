@@ -1,18 +1,7 @@
-//! Laws of pools whose gate answers at once, over the definitions alone: each function's contract is the
-//! law.
-ghost use Rattle.sequential_signer.specs.Policy.{policy_of};
-ghost use Rattle.pool_jobs.specs.Laws.{PromptCallsAreSigned, EveryPoolCallIsSigned};
+//! The law of the program's pool, over the definitions alone: the function's contract is the law.
+ghost use Rattle.pool_jobs.specs.Laws.{EveryPoolCallIsSigned};
 
-use sequential_signer::{DeadlineRule, SigningCredential};
-use signer_shared::Gate;
-
-/// Workers that have handles of their own, all on one cache with one provider, sign all their jobs where
-/// the gate answers at once and none of them ran out of memory: no event misfits, no call is refused or
-/// given up, and the provider is asked once, or not at all where there is no job. So it is in every order
-/// in which the workers' steps may come.
-pub fn prompt_calls_are_signed<K: SigningCredential, D: DeadlineRule<Credential = K>, G: Gate<K>>()
-    ensures { (gate : G) → PromptCallsAreSigned (policy_of K.valid K.valid_at D.deadline) (G.meaning gate) }
-{}
+pub use prompt_law::prompt_calls_are_signed;
 
 /// In a run of a pool with at least one worker, in which no worker ran out of memory, each job is signed,
 /// and the provider is asked once, or not at all where there is no job.

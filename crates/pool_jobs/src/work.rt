@@ -10,8 +10,6 @@ use std::alloc::Global;
 /// The lists of so many jobs, one for each worker: job after job goes to the next worker.
 ///
 /// Errors: an allocation failed.
-///
-/// Requires a worker.
 pub fn pool_work(alloc: Global, workers: u32, jobs: u64) -> Result<Vec<Vec<Job>>, NoMemory<()>>
     requires { 0 < workers }
     ensures { IfOk result (λ work. map (λ l. l.items) work.items ≡ pool_work workers jobs) }
@@ -26,7 +24,6 @@ pub fn pool_work(alloc: Global, workers: u32, jobs: u64) -> Result<Vec<Vec<Job>>
     Ok(work)
 }
 
-/// So many empty lists.
 fn empty_lists(alloc: Global, workers: u32) -> Result<Vec<Vec<Job>>, NoMemory<()>>
     ensures { IfOk result (λ work. map (λ l. l.items) work.items ≡ pool_work workers 0) }
 {
@@ -37,7 +34,6 @@ fn empty_lists(alloc: Global, workers: u32) -> Result<Vec<Vec<Job>>, NoMemory<()
     Ok(work)
 }
 
-/// A worker's job with this number.
 fn pool_job(alloc: Global, worker: u32, number: u64) -> Result<Job, NoMemory<()>>
     ensures { IfOk result (λ job. job ≡ pool_job worker number) }
 {

@@ -2,7 +2,7 @@
 //! each byte; and what a sink holds at each read.
 use crate::driver::watched::{CountingSink, WatchedSource};
 use crate::ran::{NONE, Run, bytes, ends_as, words_of};
-use signctl_core::{HeaderKeys, Status, run};
+use signctl_core::{HeaderSeeds, Status, run};
 use std::alloc::Global;
 use std::process::Abort;
 use std::sync::atomic::{AtomicU64, Ordering};
@@ -279,7 +279,7 @@ fn is_in_time(rt: &impl Abort, alloc: Global, piece: usize) {
     let mut source = WatchedSource::new(script, piece, NONE, allowed.as_slice(), &written);
     let mut sink = CountingSink::new(&written, NONE);
     let words = words_of(rt, alloc, "script");
-    let keys = HeaderKeys::default();
+    let keys = HeaderSeeds::default();
     let status = run(alloc, words.as_slice(), &mut source, &mut sink, keys);
     assert!(rt; source.late() == 0 && status == Status::Done);
     assert!(rt; written.load(Ordering::SeqCst) == WAITING_OUTPUT.len() as u64);

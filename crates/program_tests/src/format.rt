@@ -1,6 +1,6 @@
-//! Debug forms of the items of a script and of `grant`, which show nothing of a header's value and nothing of a
-//! query; and moments that no script has, as they are written. That lines are read so is proved, and whole
-//! scripts are rows of `command_rows`.
+//! Debug forms of the items of a script and of `grant`, which show nothing of a head; and moments that no
+//! script has, as they are written. That lines are read so is proved, and whole scripts are rows of
+//! `command_rows`.
 use sign_base::Timestamp;
 use signctl_format::{ScriptCredential, ScriptVersion, push_final, read_line};
 use signctl_grant::read_grant_line;
@@ -15,7 +15,7 @@ static SCRIPT: [(&str, &str); 12] = [
     ("handle 0 now", "Handle { cache: 0, rule: Now }"),
     (
         "begin 0 1 5.5 GET https://e.x/a 1.1 x-original:v",
-        r#"Event(ScriptEvent { event: Begin { call: CallId { handle: 0, number: 1 }, head: Head { method: "GET", uri: "https://e.x/a", version: V11, headers: ["x-original": ***] }, expires_in: Some(5.5s) } })"#,
+        r#"Event(ScriptEvent { event: Begin { call: CallId { handle: 0, number: 1 }, head: Head(***), expires_in: Some(5.5s) } })"#,
     ),
     (
         "poll 0 1 253402207200.999999999",
@@ -35,11 +35,11 @@ static SCRIPT: [(&str, &str); 12] = [
     ),
     (
         "accept 0 1 GET https://bucket.s3.amazonaws.com/key?x=%2F 1.1 date:Tue,%2001%20Mar%202022%2008:12:34%20GMT x-empty:",
-        r#"Event(ScriptEvent { event: Signed { call: CallId { handle: 0, number: 1 }, answer: Accepted(Head { method: "GET", uri: "https://bucket.s3.amazonaws.com/key"?***, version: V11, headers: ["date": Tue***GMT, "x-empty": EMPTY] }) } })"#,
+        r#"Event(ScriptEvent { event: Signed { call: CallId { handle: 0, number: 1 }, answer: Accepted(Head(***)) } })"#,
     ),
     (
         "accept 0 1 GET / 3 percent:%25 all:%00%0A%7F%80%FF a:::",
-        r#"Event(ScriptEvent { event: Signed { call: CallId { handle: 0, number: 1 }, answer: Accepted(Head { method: "GET", uri: "/", version: V3, headers: ["percent": ***, "all": ***, "a": ***] }) } })"#,
+        r#"Event(ScriptEvent { event: Signed { call: CallId { handle: 0, number: 1 }, answer: Accepted(Head(***)) } })"#,
     ),
     (
         "reject 0 1 9",

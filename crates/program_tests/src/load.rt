@@ -120,7 +120,7 @@ impl Tally {
 fn desk_of_one_handle(alloc: Global) -> Option<Desk<ScriptCredential, ScriptRule>> {
     let mut desk = Desk::new(alloc);
     desk.add_cache(Loader::Single).ok()?;
-    desk.add_handle_with_rule(0, ScriptRule::Now).ok()?;
+    desk.add_rule_and_handle(0, ScriptRule::Now).ok()?;
     Some(desk)
 }
 

@@ -1,6 +1,6 @@
 //! One run of a command over a source and a sink in memory.
 use sign_io::{FaultySink, FaultySource};
-use signctl_core::{HeaderKeys, Status, run};
+use signctl_core::{HeaderSeeds, Status, run};
 use std::alloc::Global;
 use std::process::Abort;
 
@@ -55,7 +55,7 @@ pub(crate) fn ends_as(
     let words = words_of(rt, alloc, of.words);
     let mut source = source_of(rt, alloc, of, input);
     let mut sink = sink_of(rt, alloc, of);
-    let keys = HeaderKeys::default();
+    let keys = HeaderSeeds::default();
     let status = run(alloc, words.as_slice(), &mut source, &mut sink, keys);
     assert!(rt;
         sink.written() == wanted.0 && status == wanted.1,

@@ -92,7 +92,8 @@ module _ {K D : Type 0} (setup : Setup D) where
   unfolding poll_order
   order_once entries i = first_of_each-once (map (λ (e : Entry K). call_of e.event) (filter (is_poll_at setup i) entries))
 
-module _ {K D : Type 0} (policy : Policy K D) (setup : Setup D) (entries : List (Entry K)) (run : IsRun policy setup entries) (e : Entry K) where
+module _ {K D : Type 0} (policy : Policy K D) (setup : Setup D) (entries : List (Entry K))
+    (run : IsRun policy setup entries) (e : Entry K) where
   -- an entry about a served call keeps the call's answers
   abbrev pub KeepsAnswers : Type 0
   KeepsAnswers = is_served entries (call_of e.event) ≡ true → answers_of (entries ++ e ∷ []) (call_of e.event) ≡ answers_of entries (call_of e.event)
@@ -157,7 +158,9 @@ module _ {K D : Type 0} (policy : Policy K D) (setup : Setup D) (entries : List 
           ∙ filter-same (is_served (entries ++ e ∷ [])) (is_served entries) same (poll_order setup entries i)
 
   -- an entry that serves its call anew runs that call's hold on the cache
-  module _ (i : ℕ) (at : cache_of setup (call_of e.event) ≡ Some i) (unserved : is_served entries (call_of e.event) ≡ false) (unfinished : hold_is_finished entries (call_of e.event) ≡ false) (now : serves e.reply ≡ true) where
+  module _ (i : ℕ) (at : cache_of setup (call_of e.event) ≡ Some i)
+      (unserved : is_served entries (call_of e.event) ≡ false)
+      (unfinished : hold_is_finished entries (call_of e.event) ≡ false) (now : serves e.reply ≡ true) where
     others_same : (b : CallId) → same_call (call_of e.event) b ≡ false
         → is_served (entries ++ e ∷ []) b ≡ is_served entries b
     others_same b s = is_served-other setup entries e b (same_call-comm b (call_of e.event) ∙ s)

@@ -5,7 +5,7 @@ use Rattle.sign_base.specs.declared.call_id.CallId.{CallId}
 use Rattle.sequential_signer.specs.Setup.{Setup, is_of_cache}
 use Rattle.sign_base.specs.Calls.{same_call}
 use Rattle.sequential_signer.specs.Transcript.{call_of, is_about, entries_of}
-use Rattle.sequential_signer.specs.Phase.{Phase, Unknown, Unpolled, Queued, Loading, Signing, Ended, is_mark, is_poll, is_begun, is_waiting_poll, is_loading, phase_by, phase_in, phase_of}
+use Rattle.sequential_signer.specs.Phase.{Phase, Unknown, Unpolled, Queued, Loading, Signing, Ended, moves_call, is_poll, is_begun, is_waiting_poll, is_loading, phase_by, phase_in, phase_of}
 use Rattle.sequential_signer.specs.Turn.{is_fitting_poll, is_poll_at, ends_hold, serves, hold_is_finished, is_served, has_turn}
 use Rattle.sequential_signer.specs.Hold.{BeginInput, begin_in, begin_of, answer_in, answers_in, answers_of, turn_moment, is_poll_at_turn}
 use Rattle.sequential_signer.specs.Replies.{is_ask}
@@ -85,7 +85,8 @@ module _ {K D : Type 0} (setup : Setup D) where
       at = turn_moment-found setup entries i e call h.moment h.at;
     }
 
-  module _ (entries : List (Entry K)) (i : ℕ) (e : Entry K) (call : CallId) (other : same_call call (call_of e.event) ≡ false) where
+  module _ (entries : List (Entry K)) (i : ℕ) (e : Entry K) (call : CallId)
+      (other : same_call call (call_of e.event) ≡ false) where
     -- an entry about another call leaves what the call was begun with, the answers to it, its phase, and
     -- whether it waited
     pub begin-other : begin_of (entries ++ e ∷ []) call ≡ begin_of entries call
@@ -150,7 +151,8 @@ module _ {K D : Type 0} (setup : Setup D) where
       unserved = is_served-other setup entries e call other ∙ c.unserved;
     })
 
-  module _ (entries : List (Entry K)) (i : ℕ) (e : Entry K) (call : CallId) (own : same_call call (call_of e.event) ≡ true) where
+  module _ (entries : List (Entry K)) (i : ℕ) (e : Entry K) (call : CallId)
+      (own : same_call call (call_of e.event) ≡ true) where
     -- an entry of the call itself that accepts no begin leaves what it was begun with
     pub begin-own : is_begun e.reply ≡ false → begin_of (entries ++ e ∷ []) call ≡ begin_of entries call
     begin-own h = ap begin_in (entries_of-own entries call e own) ∙ begin_in-no (entries_of entries call) e h
@@ -190,17 +192,17 @@ module _ {K D : Type 0} (setup : Setup D) where
     phase-own = ap phase_in (entries_of-own entries call e own)
 
     -- after a mark the phase is that of the mark
-    pub phase-own_mark : is_mark e.reply ≡ true
+    pub phase-own_mark : moves_call e.reply ≡ true
         → phase_of (entries ++ e ∷ []) call
         ≡ phase_by (list_any is_waiting_poll (entries_of entries call) || is_waiting_poll e) e.reply
     phase-own_mark h = phase-own ∙ phase_in-mark (entries_of entries call) e h
 
     -- after a mark the call loads exactly where the mark asks; any other entry leaves whether it loads
-    pub loads-own_mark : is_mark e.reply ≡ true
+    pub loads-own_mark : moves_call e.reply ≡ true
         → is_loading (phase_of (entries ++ e ∷ []) call) ≡ is_ask e.reply
     loads-own_mark h = ap is_loading (phase-own_mark h) ∙ phase_by-loading (list_any is_waiting_poll (entries_of entries call) || is_waiting_poll e) e.reply
 
-    pub loads-own_unmarked : is_mark e.reply ≡ false
+    pub loads-own_unmarked : moves_call e.reply ≡ false
         → is_loading (phase_of (entries ++ e ∷ []) call) ≡ is_loading (phase_of entries call)
     unfolding phase_of
     loads-own_unmarked h =
@@ -281,7 +283,8 @@ module _ {K D : Type 0} (setup : Setup D) where
     })
 
   -- an entry of the call itself that is answered `NotNow`
-  module _ (entries : List (Entry K)) (i : ℕ) (event : Event K) (call : CallId) (own : same_call call (call_of event) ≡ true) where
+  module _ (entries : List (Entry K)) (i : ℕ) (event : Event K) (call : CallId)
+      (own : same_call call (call_of event) ≡ true) where
     -- it leaves the answers, the phase, and how the call stands
     abbrev pub refused_entry : Entry K
     refused_entry = record { event = event; reply = NotNow }

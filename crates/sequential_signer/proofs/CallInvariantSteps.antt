@@ -289,7 +289,8 @@ module _ {K D : Type 0} (policy : Policy K D) (setup : Setup D) where
   stands _ start call i at = blank_start i call
   stands _ (more entries event reply run step) call i at = step_stands entries event reply step call i at (stands entries run call i at) _ refl
 
-  module _ (entries : List (Entry K)) (run : IsRun policy setup entries) (call : CallId) (i : ℕ) (at : cache_of setup call ≡ Some i) where
+  module _ (entries : List (Entry K)) (run : IsRun policy setup entries) (call : CallId) (i : ℕ)
+      (at : cache_of setup call ≡ Some i) where
     -- so a call that waits, loads or signs stands as one that does
     pub run_waits : is_waiting (phase_of entries call) ≡ true → Waits setup entries i call
     run_waits w = waiting_waits entries i call (phase_of entries call) w (stands entries run call i at)

@@ -165,7 +165,8 @@ module _ {K D : Type 0} (policy : Policy K D) (setup : Setup D) (call : CallId) 
       unserved_step entries event reply step u (unserved_run entries run (unserved_before entries (record { event = event; reply = reply }) u)) (is_left_in call (record { event = event; reply = reply })) refl
 
 -- the expected reply to an event that is left in is the same in both
-module _ {K D : Type 0} (policy : Policy K D) (setup : Setup D) (call : CallId) (entries : List (Entry K)) (u : IsUnserved policy setup call entries) (unserved : is_served entries call ≡ false) where
+module _ {K D : Type 0} (policy : Policy K D) (setup : Setup D) (call : CallId) (entries : List (Entry K))
+    (u : IsUnserved policy setup call entries) (unserved : is_served entries call ≡ false) where
   module _ (i : ℕ) (e : Entry K) (s : is_left_in call e ≡ true) where
     gets_alike : (b : CallId)
         → gets_turn setup (without_answers call entries) i e b ≡ gets_turn setup entries i e b

@@ -46,7 +46,8 @@ list_all-map q f (x ∷ xs) h =
     rw here (list_all-map q f xs (and_right _ _ h))
 
 -- a test that one more call passes, whose hold is open, while those that passed it before had their turn
-module _ (p q fin : CallId → Bool) (c : CallId) (was : p c ≡ false) (now : q c ≡ true) (open_still : fin c ≡ false) (others : (b : CallId) → same_call c b ≡ false → q b ≡ p b) where
+module _ (p q fin : CallId → Bool) (c : CallId) (was : p c ≡ false) (now : q c ≡ true)
+    (open_still : fin c ≡ false) (others : (b : CallId) → same_call c b ≡ false → q b ≡ p b) where
   -- where the call does not stand, nothing changes
   filter-absent : (xs : List CallId) → list_any (same_call c) xs ≡ false → filter q xs ≡ filter p xs
   filter-absent [] h = refl

@@ -127,7 +127,8 @@ abbrev pub is_refresh : {K : Type 0} → Event K → Reply K → Bool
 is_refresh event (Sign c wake) = is_answer event
 is_refresh event _ = false
 
-module _ {K D : Type 0} (policy : Policy K D) (setup : Setup D) (entries : List (Entry K)) (run : IsRun policy setup entries) where
+module _ {K D : Type 0} (policy : Policy K D) (setup : Setup D) (entries : List (Entry K))
+    (run : IsRun policy setup entries) where
   answer_found : (call : CallId) (now : ℤ) (answer : Answer K) (j : ℕ) (k : K) (left : Option K)
       → is_loading (phase_of entries call) ≡ true
       → HoldReaches policy setup entries (at_answer setup entries j call (answer, now))

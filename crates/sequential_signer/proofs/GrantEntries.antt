@@ -8,7 +8,7 @@ use Rattle.std.proofs.lemmas.List.{map-append}
 use Rattle.sign_base.specs.declared.call_id.CallId.{CallId}
 use Rattle.sign_base.specs.Calls.{same_call}
 use Rattle.sequential_signer.specs.Transcript.{entries_of}
-use Rattle.sequential_signer.specs.Phase.{Phase, Unknown, Unpolled, Queued, Loading, Signing, Ended, is_mark, is_begun, is_not_now, is_poll, is_waiting_poll, is_begin_under, is_new_number, phase_by, phase_in, phase_of}
+use Rattle.sequential_signer.specs.Phase.{Phase, Unknown, Unpolled, Queued, Loading, Signing, Ended, moves_call, is_begun, is_not_now, is_poll, is_waiting_poll, is_begin_under, is_new_number, phase_by, phase_in, phase_of}
 use Rattle.sequential_signer.specs.Hold.{BeginInput, begin_in, begin_of, answer_in, answers_in, answers_of}
 use Rattle.sequential_signer.specs.LiveCall.{live_call, live_by, live_in, greatest_begun, greater}
 use Rattle.sequential_signer.specs.GrantTranscript.{no_head, as_event, as_reply, as_entry, as_signer, grant_call_of, grant_phase_of}
@@ -62,7 +62,8 @@ module _ {K : Type 0} where
   unbegun_grant-not_live entries call h = ap (live_by (grant_phase_of entries call) (length (answers_of (as_signer entries) call))) h
 
   -- an entry about another call leaves all that the transcript says of this one
-  module _ (entries : List (GrantEntry K)) (e : GrantEntry K) (call : CallId) (other : same_call call (grant_call_of e.event) ≡ false) where
+  module _ (entries : List (GrantEntry K)) (e : GrantEntry K) (call : CallId)
+      (other : same_call call (grant_call_of e.event) ≡ false) where
     pub grant_entries-other : entries_of (as_signer (entries ++ e ∷ [])) call
         ≡ entries_of (as_signer entries) call
     grant_entries-other = ap (λ es. entries_of es call) (as_signer-more entries e) ∙ entries_of-other (as_signer entries) call (as_entry e) other
@@ -82,14 +83,15 @@ module _ {K : Type 0} where
     live_grant-other = rw (grant_phase-other, grant_answers-other, grant_begin-other) refl
 
   -- an entry about this call
-  module _ (entries : List (GrantEntry K)) (e : GrantEntry K) (call : CallId) (own : same_call call (grant_call_of e.event) ≡ true) where
+  module _ (entries : List (GrantEntry K)) (e : GrantEntry K) (call : CallId)
+      (own : same_call call (grant_call_of e.event) ≡ true) where
     -- it is the last of the call's entries
     pub grant_entries-own : entries_of (as_signer (entries ++ e ∷ [])) call
         ≡ entries_of (as_signer entries) call ++ as_entry e ∷ []
     grant_entries-own = ap (λ es. entries_of es call) (as_signer-more entries e) ∙ entries_of-own (as_signer entries) call (as_entry e) own
 
     -- after a mark the phase is that of the mark
-    pub grant_phase-mark : is_mark (as_reply e.reply) ≡ true
+    pub grant_phase-mark : moves_call (as_reply e.reply) ≡ true
         → grant_phase_of (entries ++ e ∷ []) call
         ≡ phase_by
         (list_any is_waiting_poll (entries_of (as_signer entries) call) || is_waiting_poll (as_entry e))
@@ -98,7 +100,7 @@ module _ {K : Type 0} where
     grant_phase-mark h = ap phase_in grant_entries-own ∙ phase_in-mark (entries_of (as_signer entries) call) (as_entry e) h
 
     -- a reply that is no mark leaves the phase, but for a poll that is answered `Pending`
-    pub grant_phase-unmarked : is_mark (as_reply e.reply) ≡ false
+    pub grant_phase-unmarked : moves_call (as_reply e.reply) ≡ false
         → grant_phase_of (entries ++ e ∷ []) call
         ≡ cond (is_waiting_poll (as_entry e)) (to_queued (grant_phase_of entries call))
         (grant_phase_of entries call)
@@ -127,7 +129,8 @@ module _ {K : Type 0} where
     grant_answers-own_more a n h = ap answers_in grant_entries-own ∙ answers_in-more (entries_of (as_signer entries) call) (as_entry e) a n h
 
   -- the phase after each reply that is a mark
-  module _ (entries : List (GrantEntry K)) (event : GrantEvent K) (call : CallId) (own : same_call call (grant_call_of event) ≡ true) where
+  module _ (entries : List (GrantEntry K)) (event : GrantEvent K) (call : CallId)
+      (own : same_call call (grant_call_of event) ≡ true) where
     pub phase_after-ask : (provider : ℕ)
         → grant_phase_of (entries ++ grant_entry event (Ask provider) ∷ []) call ≡ Loading
     phase_after-ask provider = grant_phase-mark entries (grant_entry event (Ask provider)) call own refl

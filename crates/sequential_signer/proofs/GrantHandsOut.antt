@@ -71,7 +71,8 @@ module _ {K D : Type 0} (policy : Policy K D) (source : K) (left : Option K) whe
       load_hands_out policy loader rule begin.duration None left count answer now source
       (gets ∙ ap (λ (o : Option (Answer K × ℤ)). load_progress (check_refreshed policy rule begin.duration) loader None count o) (last_of-more answers (answer, now)))
 
-module _ {K D : Type 0} (policy : Policy K D) (setup : Setup D) (entries : List (GrantEntry K)) (i : ℕ) (source : K) where
+module _ {K D : Type 0} (policy : Policy K D) (setup : Setup D) (entries : List (GrantEntry K)) (i : ℕ)
+    (source : K) where
   -- the cache holds this after the event
   abbrev Holds : GrantEvent K → Type 0
   Holds event = grant_source setup (entries ++ grant_entry event (Grant source) ∷ []) i ≡ Some source
@@ -120,7 +121,8 @@ granter_is_handed_the_source K D policy setup entries event source i at h =
     by_fit policy setup entries i source event at (grant_event_fits setup entries event)
     (ap (λ (o : Option ℕ). grant_reply_at policy setup entries event o) (sym at) ∙ h)
 
-module _ {K D : Type 0} (policy : Policy K D) (setup : Setup D) (entries : List (GrantEntry K)) (call : CallId) (now : ℤ) (answer : Answer K) (source : K) where
+module _ {K D : Type 0} (policy : Policy K D) (setup : Setup D) (entries : List (GrantEntry K))
+    (call : CallId) (now : ℤ) (answer : Answer K) (source : K) where
   found_by_fit : (i : ℕ) (v : Bool)
       → cond v (fitting_grant_reply policy setup entries i (Provided call now answer)) NotNow ≡ Grant source
       → answer ≡ Found source

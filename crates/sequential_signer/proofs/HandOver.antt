@@ -58,7 +58,8 @@ pub record IsInQueue {K D : Type 0} (setup : Setup D) (entries : List (Entry K))
   pub polled : is_polled setup entries i call ≡ true
   pub unfinished : hold_is_finished entries call ≡ false
 
-module _ {K D : Type 0} (policy : Policy K D) (setup : Setup D) (entries : List (Entry K)) (run : IsRun policy setup entries) where
+module _ {K D : Type 0} (policy : Policy K D) (setup : Setup D) (entries : List (Entry K))
+    (run : IsRun policy setup entries) where
   -- two calls that load are one
   loads_alone : (a b : CallId) (i : ℕ) → Loads setup entries i a → Loads setup entries i b → (s : Bool)
       → same_call a b ≡ s → a ≡ b

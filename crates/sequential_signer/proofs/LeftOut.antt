@@ -27,8 +27,10 @@ use Rattle.sequential_signer.proofs.Distinct.{list_all-filter_of}
 -- the moment of a call's turn stays where what is left out is no poll of the call at its turn, and changes no
 -- turn
 module _ {K D : Type 0} (setup : Setup D) (keep ok : Entry K → Bool) (i : ℕ) (b : CallId)
-    (turns : (before : List (Entry K)) → list_all ok before ≡ true → has_turn setup (filter keep before) i b ≡ has_turn setup before i b)
-    (no_polls : (before : List (Entry K)) (x : Entry K) → keep x ≡ false → is_poll_at_turn setup i b (before, x) ≡ false) where
+    (turns : (before : List (Entry K)) → list_all ok before ≡ true
+    → has_turn setup (filter keep before) i b ≡ has_turn setup before i b)
+    (no_polls : (before : List (Entry K)) (x : Entry K) → keep x ≡ false
+    → is_poll_at_turn setup i b (before, x) ≡ false) where
   -- the moment of the first poll at the turn among `xs`, which come after `before`
   abbrev moment_in : List (Entry K) → List (Entry K) → Option ℤ
   moment_in before xs = option_and_then (λ (p : List (Entry K) × Entry K). poll_moment p.1.event) (find (is_poll_at_turn setup i b) (each_after before xs))

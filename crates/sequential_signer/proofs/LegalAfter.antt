@@ -22,7 +22,9 @@ module _ {E : Type 0} (committed : List E → List E) (legal : List E → E → 
       ((l.0, parts.0), subst (λ v. AreLegalAfter committed legal v ys) (append_assoc before (x ∷ []) xs) parts.1)
 
   -- what stays with each legal entry stays with all of them
-  module _ (P : List E → Type 0) (keeps : (before : List E) (e : E) → P (committed before) → legal (committed before) e → P (committed (before ++ e ∷ []))) where
+  module _ (P : List E → Type 0)
+      (keeps : (before : List E) (e : E) → P (committed before) → legal (committed before) e
+      → P (committed (before ++ e ∷ []))) where
     pub legal_after-keeps : (before entries : List E) → P (committed before)
         → AreLegalAfter committed legal before entries → P (committed (before ++ entries))
     legal_after-keeps before [] p l = rw (append-nil before) p

@@ -76,7 +76,8 @@ module _ {K D : Type 0} (policy : Policy K D) where
         | false ↦ λ k. (k, refl)
       ]) (no_provider n)
 
-  module _ (cache : Option K) (loader : Loader) (rule : D) (duration : Option ℕ) (now : ℤ) (wake : Option CallId) where
+  module _ (cache : Option K) (loader : Loader) (rule : D) (duration : Option ℕ) (now : ℤ)
+      (wake : Option CallId) where
     -- the reply at a look
     abbrev pub look_reply : Option (Outcome K) → Reply K
     look_reply o = with_wake (progress_reply (after_lookup o cache (load_progress (check_refreshed policy rule duration) loader cache 0 None))) wake
@@ -90,7 +91,8 @@ module _ {K D : Type 0} (policy : Policy K D) where
     signs_by (Some outcome) s = refl
     signs_by None s = let n = (load_reply loader rule duration cache wake).1 in absurd (cc)
 
-module _ {K D : Type 0} (policy : Policy K D) (setup : Setup D) (entries : List (Entry K)) (call : CallId) (now : ℤ) (i : ℕ) (loader : Loader) (rule : D) (begin : BeginInput) where
+module _ {K D : Type 0} (policy : Policy K D) (setup : Setup D) (entries : List (Entry K)) (call : CallId)
+    (now : ℤ) (i : ℕ) (loader : Loader) (rule : D) (begin : BeginInput) where
   -- the expected reply to a poll at the call's turn is the step of its look
   expected_look : cache_of setup call ≡ Some i → slice_get setup.loaders i ≡ Some loader
       → rule_of setup call ≡ Some rule → begin_of entries call ≡ Some begin
@@ -100,7 +102,8 @@ module _ {K D : Type 0} (policy : Policy K D) (setup : Setup D) (entries : List 
   unfolding expected_reply
   expected_look at loads ruled begun w t = rw (at, waiting_is_live (phase_of entries call) w, w, t, loads, ruled, begun) refl
 
-  module _ (at : cache_of setup call ≡ Some i) (loads : slice_get setup.loaders i ≡ Some loader) (ruled : rule_of setup call ≡ Some rule) (begun : begin_of entries call ≡ Some begin)
+  module _ (at : cache_of setup call ≡ Some i) (loads : slice_get setup.loaders i ≡ Some loader)
+      (ruled : rule_of setup call ≡ Some rule) (begun : begin_of entries call ≡ Some begin)
       (w : is_waiting (phase_of entries call) ≡ true) (t : has_turn setup entries i call ≡ true) where
     expected_begins : begins_load loader (expected_reply policy setup entries (Poll call now))
         ≡ is_none (cache_lookup policy (sequential_cache policy setup entries i) rule begin.duration now)

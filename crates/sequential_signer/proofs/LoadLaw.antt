@@ -7,7 +7,7 @@ use Rattle.sequential_signer.specs.SequentialCall.{HoldInput, Asking, Over, sequ
 use Rattle.sequential_signer.specs.Setup.{Setup, cache_of}
 use Rattle.sign_base.specs.Calls.{same_call}
 use Rattle.sequential_signer.specs.Transcript.{call_of, entries_of, last_of}
-use Rattle.sequential_signer.specs.Phase.{phase_of, phase_in, is_mark, is_loading}
+use Rattle.sequential_signer.specs.Phase.{phase_of, phase_in, moves_call, is_loading}
 use Rattle.sequential_signer.specs.Turn.{serves, hold_is_finished, is_served, has_turn}
 use Rattle.sequential_signer.specs.Hold.{answers_of, hold_input}
 use Rattle.sequential_signer.specs.SequentialCache.{sequential_cache}
@@ -88,7 +88,7 @@ module _ {K D : Type 0} (policy : Policy K D) (setup : Setup D) where
 
     module _ (i : ℕ) where
       -- an entry of the call itself that leaves no mark, and gives no answer
-      idle_entry : (e : Entry K) → cache_of setup (call_of e.event) ≡ Some i → is_mark e.reply ≡ false
+      idle_entry : (e : Entry K) → cache_of setup (call_of e.event) ≡ Some i → moves_call e.reply ≡ false
           → answers_of (entries ++ e ∷ []) (call_of e.event) ≡ answers_of entries (call_of e.event)
           → sequential_cache policy setup (entries ++ e ∷ []) i ≡ sequential_cache policy setup entries i
           → (is_loading (phase_of entries (call_of e.event)) ≡ true → LoadsOn entries i (call_of e.event))
@@ -101,7 +101,7 @@ module _ {K D : Type 0} (policy : Policy K D) (setup : Setup D) where
           carry e i (call_of e.event) (before was) (hold_input-own setup entries i e (call_of e.event) own l.begun l.had answers) cache
 
       -- one that leaves a mark other than `Ask`
-      ends_load : (e : Entry K) → is_mark e.reply ≡ true → is_ask e.reply ≡ false
+      ends_load : (e : Entry K) → moves_call e.reply ≡ true → is_ask e.reply ≡ false
           → is_loading (phase_of (entries ++ e ∷ []) (call_of e.event)) ≡ true → ⊥
       ends_load e m a now =
           let none : is_loading (phase_of (entries ++ e ∷ []) (call_of e.event)) ≡ false = loads-own_mark setup entries i e (call_of e.event) (same_call-refl (call_of e.event)) m ∙ a in

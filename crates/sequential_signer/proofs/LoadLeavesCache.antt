@@ -170,7 +170,8 @@ module _ {K D : Type 0} (policy : Policy K D) (setup : Setup D) (call : CallId) 
   look_is_past entries i at run event reply (fails c x j atj s) poll ask same cache = absurd (cc)
   look_is_past entries i at run event reply (cancels c wake l) poll ask same cache = absurd (cc)
 
-module _ {K D : Type 0} (policy : Policy K D) (setup : Setup D) (before between : List (Entry K)) (call : CallId) (now : ℤ) (i : ℕ) (at : cache_of setup call ≡ Some i) where
+module _ {K D : Type 0} (policy : Policy K D) (setup : Setup D) (before between : List (Entry K))
+    (call : CallId) (now : ℤ) (i : ℕ) (at : cache_of setup call ≡ Some i) where
   past_look : IsLegalAfter policy setup [] before
       → IsLegalEntry policy setup (committed_entries before) (look_entry call now)
       → IsPastLook policy setup call (sequential_cache policy setup (committed_entries before) i)

@@ -9,7 +9,7 @@ use Rattle.sequential_signer.specs.SequentialCall.{HoldInput, Progress, Over, se
 use Rattle.sequential_signer.specs.Setup.{Setup, cache_of, rule_of, is_of_cache, is_number}
 use Rattle.sign_base.specs.Calls.{same_call}
 use Rattle.sequential_signer.specs.Transcript.{call_of, committed_entries, is_out_of_memory}
-use Rattle.sequential_signer.specs.Phase.{phase_of, is_waiting, is_loading, is_mark}
+use Rattle.sequential_signer.specs.Phase.{phase_of, is_waiting, is_loading, moves_call}
 use Rattle.sequential_signer.specs.Turn.{has_turn}
 use Rattle.sequential_signer.specs.Hold.{BeginInput, begin_of, input_by}
 use Rattle.sequential_signer.specs.SequentialCache.{sequential_cache}
@@ -109,9 +109,9 @@ module _ {K D : Type 0} (policy : Policy K D) (setup : Setup D) (i : ℕ) (c : K
         → cache_of setup b ≡ Some i → (s : Bool) → same_call b (call_of event) ≡ s
         → is_loading (phase_of (entries ++ record { event = event; reply = reply } ∷ []) b) ≡ false
     idle_after event reply unasked b at false s = ap is_loading (phase-other setup entries i (record { event = event; reply = reply }) b s) ∙ loaded.idle b at
-    idle_after event reply unasked b at true s = by_mark (is_mark reply) refl
+    idle_after event reply unasked b at true s = by_mark (moves_call reply) refl
       where
-        by_mark : (m : Bool) → is_mark reply ≡ m
+        by_mark : (m : Bool) → moves_call reply ≡ m
             → is_loading (phase_of (entries ++ record { event = event; reply = reply } ∷ []) b) ≡ false
         by_mark true m = loads-own_mark setup entries i (record { event = event; reply = reply }) b s m ∙ unasked
         by_mark false m = loads-own_unmarked setup entries i (record { event = event; reply = reply }) b s m ∙ loaded.idle b at

@@ -7,7 +7,7 @@ use Rattle.sequential_signer.specs.declared.event.Entry.{Entry}
 use Rattle.std.specs.List.{list_any}
 use Rattle.std.proofs.lemmas.List.{append-nil}
 use Rattle.std.proofs.lemmas.List.Elements.{filter_map-append}
-use Rattle.sequential_signer.specs.Phase.{Phase, Unknown, Unpolled, Queued, Loading, Signing, Ended, is_loading, is_mark, is_poll, is_begun, is_not_now, is_waiting_poll, phase_by, phase_at, phase_in}
+use Rattle.sequential_signer.specs.Phase.{Phase, Unknown, Unpolled, Queued, Loading, Signing, Ended, is_loading, moves_call, is_poll, is_begun, is_not_now, is_waiting_poll, phase_by, phase_at, phase_in}
 use Rattle.sequential_signer.specs.Hold.{BeginInput, begun_with, begin_in, answer_in, answers_in}
 use Rattle.sequential_signer.specs.Replies.{is_ask}
 use Rattle.sequential_signer.specs.declared.event.Answer.{Answer}
@@ -70,26 +70,26 @@ phase_by_waited w (Cancelled _) = refl
 
 module _ {K : Type 0} where
   -- after a mark the phase is that of the mark
-  pub phase_in-mark : (entries : List (Entry K)) (e : Entry K) → is_mark e.reply ≡ true
+  pub phase_in-mark : (entries : List (Entry K)) (e : Entry K) → moves_call e.reply ≡ true
       → phase_in (entries ++ e ∷ [])
       ≡ phase_by (list_any is_waiting_poll entries || is_waiting_poll e) e.reply
   unfolding phase_in
   phase_in-mark entries e h =
-      rw (list_any-more is_waiting_poll entries e, filter-more_yes (λ (x : Entry K). is_mark x.reply) entries e h, last_of-more (filter (λ (x : Entry K). is_mark x.reply) entries) e) refl
+      rw (list_any-more is_waiting_poll entries e, filter-more_yes (λ (x : Entry K). moves_call x.reply) entries e h, last_of-more (filter (λ (x : Entry K). moves_call x.reply) entries) e) refl
 
   phase_at_waited : (w : Bool) (m : Option (Entry K)) → phase_at true m ≡ to_queued (phase_at w m)
   phase_at_waited w None = refl
   phase_at_waited w (Some e) = phase_by_waited w e.reply
 
   -- a reply that is no mark leaves the phase, but for a poll that is answered `Pending`
-  pub phase_in-unmarked : (entries : List (Entry K)) (e : Entry K) → is_mark e.reply ≡ false
+  pub phase_in-unmarked : (entries : List (Entry K)) (e : Entry K) → moves_call e.reply ≡ false
       → phase_in (entries ++ e ∷ [])
       ≡ cond (is_waiting_poll e) (to_queued (phase_in entries)) (phase_in entries)
   unfolding phase_in
   phase_in-unmarked entries e h =
-      rw (list_any-more is_waiting_poll entries e, filter-more_no (λ (x : Entry K). is_mark x.reply) entries e h)
-      (elim (is_waiting_poll e) as (λ v. phase_at (list_any is_waiting_poll entries || v) (last_of (filter (λ (x : Entry K). is_mark x.reply) entries)) ≡ cond v (to_queued (phase_at (list_any is_waiting_poll entries) (last_of (filter (λ (x : Entry K). is_mark x.reply) entries)))) (phase_at (list_any is_waiting_poll entries) (last_of (filter (λ (x : Entry K). is_mark x.reply) entries)))) [
-        | true ↦ rw (or_true (list_any is_waiting_poll entries)) (phase_at_waited (list_any is_waiting_poll entries) (last_of (filter (λ (x : Entry K). is_mark x.reply) entries)))
+      rw (list_any-more is_waiting_poll entries e, filter-more_no (λ (x : Entry K). moves_call x.reply) entries e h)
+      (elim (is_waiting_poll e) as (λ v. phase_at (list_any is_waiting_poll entries || v) (last_of (filter (λ (x : Entry K). moves_call x.reply) entries)) ≡ cond v (to_queued (phase_at (list_any is_waiting_poll entries) (last_of (filter (λ (x : Entry K). moves_call x.reply) entries)))) (phase_at (list_any is_waiting_poll entries) (last_of (filter (λ (x : Entry K). moves_call x.reply) entries)))) [
+        | true ↦ rw (or_true (list_any is_waiting_poll entries)) (phase_at_waited (list_any is_waiting_poll entries) (last_of (filter (λ (x : Entry K). moves_call x.reply) entries)))
         | false ↦ rw (or_false (list_any is_waiting_poll entries)) refl
       ])
 
@@ -111,9 +111,9 @@ module _ {K : Type 0} where
   pub phase_in-alike : (xs ys : List (Entry K)) (e : Entry K) → phase_in xs ≡ phase_in ys
       → list_any is_waiting_poll xs ≡ list_any is_waiting_poll ys
       → phase_in (xs ++ e ∷ []) ≡ phase_in (ys ++ e ∷ [])
-  phase_in-alike xs ys e p w = by_mark (is_mark e.reply) refl
+  phase_in-alike xs ys e p w = by_mark (moves_call e.reply) refl
     where
-      by_mark : (m : Bool) → is_mark e.reply ≡ m → phase_in (xs ++ e ∷ []) ≡ phase_in (ys ++ e ∷ [])
+      by_mark : (m : Bool) → moves_call e.reply ≡ m → phase_in (xs ++ e ∷ []) ≡ phase_in (ys ++ e ∷ [])
       by_mark true m = phase_in-mark xs e m ∙ ap (λ v. phase_by (v || is_waiting_poll e) e.reply) w ∙ sym (phase_in-mark ys e m)
       by_mark false m = phase_in-unmarked xs e m ∙ ap (λ v. cond (is_waiting_poll e) (to_queued v) v) p ∙ sym (phase_in-unmarked ys e m)
 

@@ -77,7 +77,8 @@ module _ {K D : Type 0} (setup : Setup D) where
       ∙ all-finished (hold_is_finished entries) (poll_order setup entries i)
 
 -- where no hold ends
-module _ {K D : Type 0} (setup : Setup D) (entries : List (Entry K)) (i : ℕ) (e : Entry K) (stays_open : ends_hold e.reply ≡ false) where
+module _ {K D : Type 0} (setup : Setup D) (entries : List (Entry K)) (i : ℕ) (e : Entry K)
+    (stays_open : ends_hold e.reply ≡ false) where
   -- a hold is finished exactly where it was before
   pub finished_same : (b : CallId) → hold_is_finished (entries ++ e ∷ []) b ≡ hold_is_finished entries b
   finished_same b = same_by (same_call b (call_of e.event)) refl
@@ -88,7 +89,8 @@ module _ {K D : Type 0} (setup : Setup D) (entries : List (Entry K)) (i : ℕ) (
       same_by false s = hold_is_finished-other setup entries e b s
 
 -- an entry that ends its call's hold takes the call out of the open ones
-module _ {K D : Type 0} (setup : Setup D) (entries : List (Entry K)) (i : ℕ) (e : Entry K) (ends : ends_hold e.reply ≡ true) where
+module _ {K D : Type 0} (setup : Setup D) (entries : List (Entry K)) (i : ℕ) (e : Entry K)
+    (ends : ends_hold e.reply ≡ true) where
   finished_after : (b : CallId)
       → hold_is_finished (entries ++ e ∷ []) b ≡ (hold_is_finished entries b || same_call b (call_of e.event))
   finished_after b = after_by (same_call b (call_of e.event)) refl

@@ -84,7 +84,9 @@ module _ {K D : Type 0} (policy : Policy K D) (setup : Setup D) where
   legal_entry_step entries e m (inl expected) = subst (λ (r : Reply K). LegalStep policy setup entries e.event r) (sym expected) (expected_step policy setup entries e.event)
   legal_entry_step entries e m (inr lost) = let bad : is_out_of_memory e.reply ≡ true = ap is_out_of_memory lost.0 in absurd (cc)
 
-  module _ (P : List (Entry K) → Type 0) (step : (entries : List (Entry K)) (event : Event K) → P entries → P (entries ++ record { event = event; reply = expected_reply policy setup entries event } ∷ [])) where
+  module _ (P : List (Entry K) → Type 0)
+      (step : (entries : List (Entry K)) (event : Event K) → P entries
+      → P (entries ++ record { event = event; reply = expected_reply policy setup entries event } ∷ [])) where
     entry_keeps : (before : List (Entry K)) (e : Entry K) → P (committed_entries before)
         → IsLegalEntry policy setup (committed_entries before) e → P (committed_entries (before ++ e ∷ []))
     entry_keeps before e p (inl due) =

@@ -45,7 +45,8 @@ module _ {K D : Type 0} (policy : Policy K D) (setup : Setup D) (a b : List (Ent
   event_fits-same (Signed c answer) s = ap is_signing s.phase
   event_fits-same (Cancel c) s = ap is_live s.phase
 
-  module _ (event : Event K) (s : ReadsSame event) (i : ℕ) (at : cache_of setup (call_of event) ≡ Some i) where
+  module _ (event : Event K) (s : ReadsSame event) (i : ℕ)
+      (at : cache_of setup (call_of event) ≡ Some i) where
     waking-same : (r : Reply K) → waking setup a i event r ≡ waking setup b i event r
     waking-same r = ap (with_wake r) (s.wake i at r)
 

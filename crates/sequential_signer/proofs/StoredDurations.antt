@@ -13,7 +13,7 @@ use Rattle.sequential_signer.specs.Policy.{Policy}
 use Rattle.sequential_signer.specs.SequentialCall.{HoldInput}
 use Rattle.sequential_signer.specs.Setup.{Setup}
 use Rattle.sequential_signer.specs.Transcript.{call_of, last_of, is_about, entries_of}
-use Rattle.sequential_signer.specs.Phase.{is_poll, is_mark, is_begun, is_not_now, is_waiting_poll, is_begin_under, is_new_number, phase_at, phase_by, phase_in, phase_of}
+use Rattle.sequential_signer.specs.Phase.{is_poll, moves_call, is_begun, is_not_now, is_waiting_poll, is_begin_under, is_new_number, phase_at, phase_by, phase_in, phase_of}
 use Rattle.sequential_signer.specs.Turn.{first_of_each, before_call, is_fitting_poll, is_poll_at, poll_order, calls_ahead, ends_hold, serves, hold_is_finished, is_served, has_turn}
 use Rattle.sequential_signer.specs.Hold.{BeginInput, begun_with, begin_in, begin_of, poll_moment, is_poll_at_turn, turn_moment, answer_in, answers_in, answers_of, hold_input}
 use Rattle.sequential_signer.specs.SequentialCache.{cache_after, served_calls, sequential_cache}
@@ -104,10 +104,10 @@ module _ {K : Type 0} {a b : List (Entry K)} (alike : AlikeTranscripts a b) (cal
   pub phase_of-alike : phase_of a call ≡ phase_of b call
   unfolding phase_of phase_in
   phase_of-alike =
-      ap (λ waited. phase_at waited (last_of (filter (λ (e : Entry K). is_mark e.reply) (entries_of a call))))
+      ap (λ waited. phase_at waited (last_of (filter (λ (e : Entry K). moves_call e.reply) (entries_of a call))))
       (list_any-pairwise is_waiting_poll is_waiting_poll-alike entries_of-alike)
       ∙ last_of-pairwise (phase_at (list_any is_waiting_poll (entries_of b call))) (of_reply (phase_by (list_any is_waiting_poll (entries_of b call))))
-      (filter-pairwise (λ (e : Entry K). is_mark e.reply) (of_reply is_mark) entries_of-alike)
+      (filter-pairwise (λ (e : Entry K). moves_call e.reply) (of_reply moves_call) entries_of-alike)
 
   pub is_new_number-alike : is_new_number a call ≡ is_new_number b call
   unfolding is_new_number
@@ -215,7 +215,8 @@ module _ {K D : Type 0} (policy : Policy K D) (setup : Setup D) where
   expected_reply-alike {a = a} {y = y} alike h = expected_reply-to a h ∙ expected_reply-after alike y
 
 -- where each event is changed into one that is alike
-module _ {K D : Type 0} (policy : Policy K D) (setup : Setup D) (f : Event K → Event K) (alike : (event : Event K) → AreAlike (f event) event) where
+module _ {K D : Type 0} (policy : Policy K D) (setup : Setup D) (f : Event K → Event K)
+    (alike : (event : Event K) → AreAlike (f event) event) where
   -- the changed transcript is alike
   with_events-alike : (entries : List (Entry K)) → AlikeTranscripts (with_events f entries) entries
   with_events-alike [] = none

@@ -98,7 +98,8 @@ module _ {K D : Type 0} (policy : Policy K D) (setup : Setup D) where
   reply_after-alike alike event = reply_at-alike alike event (cache_of setup (grant_call_of event))
 
 -- where each event is changed into one that is alike
-module _ {K D : Type 0} (policy : Policy K D) (setup : Setup D) (f : GrantEvent K → GrantEvent K) (alike : (event : GrantEvent K) → AreAlikeGrants (f event) event) where
+module _ {K D : Type 0} (policy : Policy K D) (setup : Setup D) (f : GrantEvent K → GrantEvent K)
+    (alike : (event : GrantEvent K) → AreAlikeGrants (f event) event) where
   -- the changed transcript is alike
   with_events-alike : (entries : List (GrantEntry K)) → AlikeGrants (with_grant_events f entries) entries
   with_events-alike [] = none

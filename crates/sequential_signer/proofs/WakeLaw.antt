@@ -83,7 +83,8 @@ later_member a b (x ∷ xs) h =
     (elim (same_call a x) as (λ v. list_any (same_call b) (cond v xs []) ≡ true → (same_call b x || list_any (same_call b) xs) ≡ true)
     [ true ↦ λ k. ap (λ v. same_call b x || v) k ∙ or_true _ | false ↦ λ k. (cc) ]) h
 
-module _ {K D : Type 0} (policy : Policy K D) (setup : Setup D) (entries : List (Entry K)) (run : IsRun policy setup entries) (i : ℕ) where
+module _ {K D : Type 0} (policy : Policy K D) (setup : Setup D) (entries : List (Entry K))
+    (run : IsRun policy setup entries) (i : ℕ) where
   -- a call that was polled at the cache stands as its phase says
   polled_stands : (b : CallId) → is_polled setup entries i b ≡ true
       → CallInvariant setup entries i b (phase_of entries b)
@@ -105,8 +106,10 @@ module _ {K D : Type 0} (policy : Policy K D) (setup : Setup D) (entries : List 
       let unqueued : is_queued (phase_of entries b) ≡ false = finished_unqueued b (phase_of entries b) f (polled_stands b m) in
       rw unqueued (and_false_and (not (same_call (call_of e.event) b)) (has_turn setup (entries ++ e ∷ []) i b && not (has_turn setup entries i b)))
 
-module _ {K D : Type 0} (policy : Policy K D) (setup : Setup D) (entries : List (Entry K)) (run : IsRun policy setup entries) (i : ℕ) (e : Entry K)
-    (ends : ends_hold e.reply ≡ true) (order : poll_order setup (entries ++ e ∷ []) i ≡ poll_order setup entries i) where
+module _ {K D : Type 0} (policy : Policy K D) (setup : Setup D) (entries : List (Entry K))
+    (run : IsRun policy setup entries) (i : ℕ) (e : Entry K)
+    (ends : ends_hold e.reply ≡ true)
+    (order : poll_order setup (entries ++ e ∷ []) i ≡ poll_order setup entries i) where
   -- an open hold of a call that was polled and does not hold is queued
   open_is_queued : (b : CallId) (p : Phase) → phase_of entries b ≡ p → is_polled setup entries i b ≡ true
       → hold_is_finished entries b ≡ false → has_turn setup entries i b ≡ false
@@ -190,7 +193,8 @@ module _ {K D : Type 0} (policy : Policy K D) (setup : Setup D) (entries : List 
       ∙ find_first (after_first (call_of e.event) (open_calls setup entries i)) (poll_order setup entries i)
       (λ h k. (member-filter (λ x. not (hold_is_finished entries x)) h (poll_order setup entries i) (later_member (call_of e.event) h (open_calls setup entries i) (first_member h (after_first (call_of e.event) (open_calls setup entries i)) k))).0)
 
-module _ {K D : Type 0} (policy : Policy K D) (setup : Setup D) (entries : List (Entry K)) (run : IsRun policy setup entries) (i : ℕ) (e : Entry K) where
+module _ {K D : Type 0} (policy : Policy K D) (setup : Setup D) (entries : List (Entry K))
+    (run : IsRun policy setup entries) (i : ℕ) (e : Entry K) where
   -- where nobody holds, nobody is woken, as by a first poll that ends its hold at once
   pub wakes-nobody : has_nobody (open_calls setup entries i) ≡ true → call_to_wake setup entries i e ≡ None
   unfolding call_to_wake

@@ -93,13 +93,16 @@ pub record GetsTurn {K D : Type 0} (setup : Setup D) (entries : List (Entry K)) 
   pub queued : is_queued (phase_of entries call) ≡ true
   pub turn : has_turn setup (entries ++ e ∷ []) i call ≡ true
 
-module _ {K D : Type 0} (policy : Policy K D) (setup : Setup D) (entries : List (Entry K)) (run : IsRun policy setup entries) (i : ℕ) where
+module _ {K D : Type 0} (policy : Policy K D) (setup : Setup D) (entries : List (Entry K))
+    (run : IsRun policy setup entries) (i : ℕ) where
   -- a call of the cache that is not queued gets no turn
   unqueued : (e : Entry K) (call : CallId) → is_queued (phase_of entries call) ≡ false
       → gets_turn setup entries i e call ≡ false
   unqueued e call q = rw q (and_false_and (not (same_call (call_of e.event) call)) (has_turn setup (entries ++ e ∷ []) i call && not (has_turn setup entries i call)))
 
-  module _ (e : Entry K) (same : (x : CallId) → is_of_cache setup i x ≡ true → hold_is_finished (entries ++ e ∷ []) x ≡ hold_is_finished entries x) where
+  module _ (e : Entry K)
+      (same : (x : CallId) → is_of_cache setup i x ≡ true
+      → hold_is_finished (entries ++ e ∷ []) x ≡ hold_is_finished entries x) where
     turn_same : (call : CallId) → is_polled setup entries i call ≡ true
         → has_turn setup (entries ++ e ∷ []) i call ≡ has_turn setup entries i call
     unfolding has_turn
@@ -174,7 +177,8 @@ module _ {K D : Type 0} (policy : Policy K D) (setup : Setup D) (entries : List 
       (of_cache call f.there, gets_turn-is e call f.passes)
 
 -- two replies to one event give the same turns where they agree on whether it fits and whether it ends a hold
-module _ {K D : Type 0} (setup : Setup D) (entries : List (Entry K)) (i : ℕ) (event : Event K) (r s : Reply K) (fits : is_not_now r ≡ is_not_now s) (ends : ends_hold r ≡ ends_hold s) where
+module _ {K D : Type 0} (setup : Setup D) (entries : List (Entry K)) (i : ℕ) (event : Event K) (r s : Reply K)
+    (fits : is_not_now r ≡ is_not_now s) (ends : ends_hold r ≡ ends_hold s) where
   order_alike : poll_order setup (entries ++ record { event = event; reply = r } ∷ []) i
       ≡ poll_order setup (entries ++ record { event = event; reply = s } ∷ []) i
   order_alike = by_poll (is_poll_at setup i (record { event = event; reply = s })) refl
@@ -248,7 +252,8 @@ pub data Names {K D : Type 0} (setup : Setup D) (entries : List (Entry K)) (even
       → Names setup entries event
       (with_wake r (call_to_wake setup entries j (record { event = event; reply = r })))
 
-module _ {K D : Type 0} (policy : Policy K D) (setup : Setup D) (entries : List (Entry K)) (run : IsRun policy setup entries) (event : Event K) where
+module _ {K D : Type 0} (policy : Policy K D) (setup : Setup D) (entries : List (Entry K))
+    (run : IsRun policy setup entries) (event : Event K) where
   unending : (reply : Reply K) → wake_of reply ≡ None → ends_hold reply ≡ false
       → Names setup entries event reply
   unending reply n f = names_nobody reply n (λ x. finished_same setup entries 0 (record { event = event; reply = reply }) f x)
@@ -268,7 +273,8 @@ module _ {K D : Type 0} (policy : Policy K D) (setup : Setup D) (entries : List 
   hold_names j at (Some loader) None = unending NotNow refl refl
   hold_names j at (Some loader) (Some input) = progress_names j at (sequential_call policy (sequential_cache policy setup entries j) loader input)
 
-module _ {K D : Type 0} (policy : Policy K D) (setup : Setup D) (entries : List (Entry K)) (run : IsRun policy setup entries) where
+module _ {K D : Type 0} (policy : Policy K D) (setup : Setup D) (entries : List (Entry K))
+    (run : IsRun policy setup entries) where
   poll_names : (call : CallId) (now : ℤ) (j : ℕ) → cache_of setup call ≡ Some j → (b : Bool)
       → Names setup entries (Poll call now)
       (if b then hold_reply setup entries j (Poll call now)

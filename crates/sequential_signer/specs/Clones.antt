@@ -7,18 +7,18 @@ use Rattle.sequential_signer.specs.declared.event.Verdict.{Verdict}
 use Rattle.sequential_signer.specs.declared.event.Verdict.TheVariants.{Accepted}
 
 -- the answer carries no credential
-abbrev pub IsBareAnswer : {K : Type 0} → Answer K → Type 0
-IsBareAnswer (Found c) = ⊥
-IsBareAnswer _ = Unit {0}
+abbrev pub AnswerNeedsNoMemory : {K : Type 0} → Answer K → Type 0
+AnswerNeedsNoMemory (Found c) = ⊥
+AnswerNeedsNoMemory _ = Unit {0}
 
 -- the answer carries no head
-abbrev pub IsBareVerdict : Verdict → Type 0
-IsBareVerdict (Accepted candidate) = ⊥
-IsBareVerdict _ = Unit {0}
+abbrev pub VerdictNeedsNoMemory : Verdict → Type 0
+VerdictNeedsNoMemory (Accepted candidate) = ⊥
+VerdictNeedsNoMemory _ = Unit {0}
 
 -- the event carries neither a head nor a credential
-abbrev pub IsBare : {K : Type 0} → Event K → Type 0
-IsBare (Begin call head expires_in) = ⊥
-IsBare (Provided call now answer) = IsBareAnswer answer
-IsBare (Signed call answer) = IsBareVerdict answer
-IsBare _ = Unit {0}
+abbrev pub NeedsNoMemory : {K : Type 0} → Event K → Type 0
+NeedsNoMemory (Begin call head expires_in) = ⊥
+NeedsNoMemory (Provided call now answer) = AnswerNeedsNoMemory answer
+NeedsNoMemory (Signed call answer) = VerdictNeedsNoMemory answer
+NeedsNoMemory _ = Unit {0}

@@ -8,7 +8,8 @@ use Rattle.sequential_signer.specs.Setup.{Setup, cache_of, rule_of}
 use Rattle.sequential_signer.specs.Phase.{is_waiting}
 use Rattle.sequential_signer.specs.Hold.{BeginInput, begin_of, answers_of, look_input}
 use Rattle.sequential_signer.specs.ExpectedReply.{hold_progress}
-use Rattle.sequential_signer.specs.GrantTranscript.{as_signer, grant_call_of, grant_phase_of, grant_event_fits}
+use Rattle.sequential_signer.specs.GrantTranscript.{as_signer, grant_call_of}
+use Rattle.sequential_signer.specs.GrantTranscript.{grant_phase_of, grant_event_fits}
 use Rattle.sequential_signer.specs.GrantSource.{grant_source}
 use Rattle.sequential_signer.specs.declared.event.Answer.{Answer}
 use Rattle.sequential_signer.specs.declared.event.Loader.{Loader}
@@ -16,9 +17,12 @@ use Rattle.sequential_signer.specs.declared.event.Why.{Why}
 use Rattle.sequential_signer.specs.declared.event.Why.TheVariants as why
 use Rattle.sequential_signer.specs.declared.grant_event.GrantEntry.{GrantEntry}
 use Rattle.sequential_signer.specs.declared.grant_event.GrantEvent.{GrantEvent}
-use Rattle.sequential_signer.specs.declared.grant_event.GrantEvent.TheVariants.{Begin, Poll, Provided, Granted, Cancel}
+use Rattle.sequential_signer.specs.declared.grant_event.GrantEvent.TheVariants.{Begin, Poll, Provided}
+use Rattle.sequential_signer.specs.declared.grant_event.GrantEvent.TheVariants.{Granted, Cancel}
 use Rattle.sequential_signer.specs.declared.grant_event.GrantReply.{GrantReply}
-use Rattle.sequential_signer.specs.declared.grant_event.GrantReply.TheVariants.{Begun, Pending, NotNow, Ask, Grant, Refused, Given, Cancelled}
+use Rattle.sequential_signer.specs.declared.grant_event.GrantReply.TheVariants.{Begun, Pending, NotNow}
+use Rattle.sequential_signer.specs.declared.grant_event.GrantReply.TheVariants.{Ask, Grant, Refused}
+use Rattle.sequential_signer.specs.declared.grant_event.GrantReply.TheVariants.{Given, Cancelled}
 use Rattle.sequential_signer.specs.declared.grant_event.GrantWhy.{GrantWhy}
 use Rattle.sequential_signer.specs.declared.grant_event.GrantWhy.TheVariants as cause
 use Rattle.sequential_signer.specs.declared.grant_event.Made.TheVariants.{Made, Failed}

@@ -20,11 +20,15 @@ use Rattle.sequential_signer.specs.declared.event.Why.{Why}
 use Rattle.sequential_signer.specs.declared.event.Why.TheVariants as why
 use Rattle.sequential_signer.specs.declared.grant_event.GrantEntry.{GrantEntry}
 use Rattle.sequential_signer.specs.declared.grant_event.GrantEvent.{GrantEvent}
-use Rattle.sequential_signer.specs.declared.grant_event.GrantEvent.TheVariants.{Begin, Poll, Provided, Granted, Cancel}
+use Rattle.sequential_signer.specs.declared.grant_event.GrantEvent.TheVariants.{Begin, Poll, Provided}
+use Rattle.sequential_signer.specs.declared.grant_event.GrantEvent.TheVariants.{Granted, Cancel}
 use Rattle.sequential_signer.specs.declared.grant_event.GrantReply.{GrantReply}
-use Rattle.sequential_signer.specs.declared.grant_event.GrantReply.TheVariants.{Begun, Pending, NotNow, OutOfMemory, Ask, Grant, Refused, Given, Cancelled}
+use Rattle.sequential_signer.specs.declared.grant_event.GrantReply.TheVariants.{Begun, Pending, NotNow}
+use Rattle.sequential_signer.specs.declared.grant_event.GrantReply.TheVariants.{OutOfMemory, Ask, Grant}
+use Rattle.sequential_signer.specs.declared.grant_event.GrantReply.TheVariants.{Refused, Given, Cancelled}
 use Rattle.sequential_signer.specs.declared.grant_event.GrantWhy.{GrantWhy}
-use Rattle.sequential_signer.specs.declared.grant_event.GrantWhy.TheVariants.{Missing, Short, Range, Loader, Service, Stale}
+use Rattle.sequential_signer.specs.declared.grant_event.GrantWhy.TheVariants.{Missing, Short, Range}
+use Rattle.sequential_signer.specs.declared.grant_event.GrantWhy.TheVariants.{Loader, Service, Stale}
 use Rattle.sequential_signer.specs.declared.grant_event.Made.{Made}
 use Rattle.sequential_signer.specs.declared.grant_event.Made.TheVariants as made
 

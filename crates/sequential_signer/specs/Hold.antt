@@ -1,5 +1,6 @@
 -- What a call's hold of its cache works with, read from a transcript.
-use Rattle.std.specs.Prelude.{ℕ, ℤ, Bool, ◌&&◌, not, List, [], ◌∷◌, ◌++◌, Option, Some, None, find, filter, filter_map, option_map, option_and_then}
+use Rattle.std.specs.Prelude.{ℕ, ℤ, Bool, ◌&&◌, not, List, [], ◌∷◌, ◌++◌, Option, Some}
+use Rattle.std.specs.Prelude.{None, find, filter, filter_map, option_map, option_and_then}
 use Rattle.std.specs.Duration.{as_nanos}
 use Rattle.sign_base.specs.declared.head.Head.{Head}
 use Rattle.sign_base.specs.declared.call_id.CallId.{CallId}

@@ -1,6 +1,7 @@
 -- Laws of legal transcripts: caches stand apart, a credential that lasts is loaded once, and a cache
 -- holds what was last handed out.
-use Rattle.std.specs.Prelude.{◌≡◌, ℕ, ℤ, Bool, false, not, ◌&&◌, List, [], ◌∷◌, ◌++◌, Option, Some, None, IsTrue, filter, filter_map}
+use Rattle.std.specs.Prelude.{◌≡◌, ℕ, ℤ, Bool, false, not, ◌&&◌, List, [], ◌∷◌}
+use Rattle.std.specs.Prelude.{◌++◌, Option, Some, None, IsTrue, filter, filter_map}
 use Rattle.std.specs.List.{list_all}
 use Rattle.sign_base.specs.declared.call_id.CallId.{CallId}
 use Rattle.sequential_signer.specs.Policy.{Policy}

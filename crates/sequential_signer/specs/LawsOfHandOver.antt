@@ -1,5 +1,6 @@
 -- Laws of legal transcripts: the refresh lock of a cache is handed over exactly.
-use Rattle.std.specs.Prelude.{◌≡◌, ℕ, ℤ, Bool, false, not, ◌&&◌, ◌==◌, List, [], ◌∷◌, ◌++◌, Option, Some, None, IsTrue, filter, length, is_none, slice_get}
+use Rattle.std.specs.Prelude.{◌≡◌, ℕ, ℤ, Bool, false, not, ◌&&◌, ◌==◌, List, [], ◌∷◌, ◌++◌}
+use Rattle.std.specs.Prelude.{Option, Some, None, IsTrue, filter, length, is_none, slice_get}
 use Rattle.sign_base.specs.declared.call_id.CallId.{CallId}
 use Rattle.sequential_signer.specs.Policy.{Policy}
 use Rattle.sequential_signer.specs.Lookup.{cache_lookup}

@@ -1,5 +1,6 @@
 -- What a transcript says of the calls that are live, and of the numbers that were begun.
-use Rattle.std.specs.Prelude.{ℕ, List, [], ◌∷◌, Option, Some, None, if◌then◌else◌, length, max, Bool, true, nat_lt, filter, map}
+use Rattle.std.specs.Prelude.{ℕ, List, [], ◌∷◌, Option, Some, None, if◌then◌else◌}
+use Rattle.std.specs.Prelude.{length, max, Bool, true, nat_lt, filter, map}
 use Rattle.sign_base.specs.declared.call_id.CallId.{CallId}
 use Rattle.sequential_signer.specs.Transcript.{call_of}
 use Rattle.sequential_signer.specs.Phase.{Phase, Unknown, Ended, phase_of, is_begun, is_begin_under, is_live}

@@ -1,5 +1,6 @@
 -- How far a call is, and which events fit, read from a transcript.
-use Rattle.std.specs.Prelude.{ℕ, Bool, true, false, not, ◌&&◌, ◌||◌, ◌==◌, nat_lt, List, Option, Some, None, filter, is_some, if◌then◌else◌}
+use Rattle.std.specs.Prelude.{ℕ, Bool, true, false, not, ◌&&◌, ◌||◌, ◌==◌, nat_lt}
+use Rattle.std.specs.Prelude.{List, Option, Some, None, filter, is_some, if◌then◌else◌}
 use Rattle.std.specs.List.{list_any, list_all}
 use Rattle.sign_base.specs.declared.call_id.CallId.{CallId}
 use Rattle.sequential_signer.specs.Transcript.{last_of, call_of, entries_of}
@@ -8,7 +9,8 @@ use Rattle.sequential_signer.specs.declared.event.Entry.{Entry}
 use Rattle.sequential_signer.specs.declared.event.Event.{Event}
 use Rattle.sequential_signer.specs.declared.event.Event.TheVariants.{Begin, Poll, Provided, Signed, Cancel}
 use Rattle.sequential_signer.specs.declared.event.Reply.{Reply}
-use Rattle.sequential_signer.specs.declared.event.Reply.TheVariants.{Begun, Pending, NotNow, OutOfMemory, Ask, Sign, Refused, Done, Cancelled}
+use Rattle.sequential_signer.specs.declared.event.Reply.TheVariants.{Begun, Pending, NotNow, OutOfMemory}
+use Rattle.sequential_signer.specs.declared.event.Reply.TheVariants.{Ask, Sign, Refused, Done, Cancelled}
 
 -- not begun; begun and not polled; polled and waiting; asking a provider; handed to the service; over
 pub data Phase : Type 0 where
@@ -20,10 +22,10 @@ pub data Phase : Type 0 where
   Ended : Phase
 
 -- whether a reply is a mark, which tells how far its call is: any but `Pending` and `NotNow`
-abbrev pub is_mark : {K : Type 0} → Reply K → Bool
-is_mark Pending = false
-is_mark NotNow = false
-is_mark _ = true
+abbrev pub moves_call : {K : Type 0} → Reply K → Bool
+moves_call Pending = false
+moves_call NotNow = false
+moves_call _ = true
 
 -- whether the reply is to wait
 abbrev pub is_pending : {K : Type 0} → Reply K → Bool
@@ -69,7 +71,7 @@ phase_at waited (Some mark) = phase_by waited mark.reply
 -- how far a call with these entries is
 unfoldable pub phase_in : {K : Type 0} → List (Entry K) → Phase
 phase_in entries =
-    phase_at (list_any is_waiting_poll entries) (last_of (filter (λ e. is_mark e.reply) entries))
+    phase_at (list_any is_waiting_poll entries) (last_of (filter (λ e. moves_call e.reply) entries))
 
 -- how far the call is
 unfoldable pub phase_of : {K : Type 0} → List (Entry K) → CallId → Phase

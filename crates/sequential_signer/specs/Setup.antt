@@ -1,5 +1,6 @@
 -- What a signer is set up with.
-use Rattle.std.specs.Prelude.{ℕ, List, Option, Some, None, slice_get, option_map, option_and_then, Bool, ◌==◌, false}
+use Rattle.std.specs.Prelude.{ℕ, List, Option, Some, None, slice_get}
+use Rattle.std.specs.Prelude.{option_map, option_and_then, Bool, ◌==◌, false}
 use Rattle.sign_base.specs.declared.call_id.CallId.{CallId}
 use Rattle.sequential_signer.specs.declared.event.Loader.{Loader}
 

@@ -1,6 +1,6 @@
 //! Copies of events.
 ghost use Rattle.std.specs.Prelude.{◌≡◌, IfOk, IsOk};
-ghost use Rattle.sequential_signer.specs.Clones.{IsBare, IsBareAnswer, IsBareVerdict};
+ghost use Rattle.sequential_signer.specs.Clones.{NeedsNoMemory, AnswerNeedsNoMemory, VerdictNeedsNoMemory};
 
 use crate::SigningCredential;
 use crate::event::{Answer, Event, Verdict};
@@ -11,7 +11,7 @@ impl<K: SigningCredential> Answer<K> {
     /// An equal answer. One without a credential takes no memory.
     pub fn try_clone(&self, alloc: Global) -> Result<Answer<K>, NoMemory<()>>
         ensures equal { IfOk result (λ a. a ≡ self.now) }
-        ensures bare { IsBareAnswer self.now → IsOk result }
+        ensures bare { AnswerNeedsNoMemory self.now → IsOk result }
     {
         match self {
             Answer::Found(credential) => {
@@ -28,7 +28,7 @@ impl Verdict {
     /// An equal answer. A failure takes no memory.
     pub fn try_clone(&self, alloc: Global) -> Result<Verdict, NoMemory<()>>
         ensures equal { IfOk result (λ v. v ≡ self.now) }
-        ensures bare { IsBareVerdict self.now → IsOk result }
+        ensures bare { VerdictNeedsNoMemory self.now → IsOk result }
     {
         match self {
             Verdict::Accepted(candidate) => {
@@ -44,7 +44,7 @@ impl<K: SigningCredential> Event<K> {
     /// An equal event. One that carries no head and no credential takes no memory.
     pub fn try_clone(&self, alloc: Global) -> Result<Event<K>, NoMemory<()>>
         ensures equal { IfOk result (λ e. e ≡ self.now) }
-        ensures bare { IsBare self.now → IsOk result }
+        ensures bare { NeedsNoMemory self.now → IsOk result }
     {
         match self {
             Event::Begin {

@@ -1,6 +1,10 @@
 //! Laws of a granter's transcripts, over the definitions alone: each function's contract is the law, for
 //! every type of credentials and of rules, every setup and every transcript.
-ghost use Rattle.sequential_signer.specs.LawsOfGrants.{SourceWasProvided, GrantedIsNotCached, RefusedSourceIsNotCached, LastStoreStays, SourcesStandApart, GranterIsHandedTheSource, NobodyWaitsForAnother, OneLegalGrantTranscript, ExpectedGrantRepliesAreLegal};
+ghost use Rattle.sequential_signer.specs.LawsOfGrants.{SourceWasProvided, GrantedIsNotCached};
+ghost use Rattle.sequential_signer.specs.LawsOfGrants.{RefusedSourceIsNotCached, LastStoreStays};
+ghost use Rattle.sequential_signer.specs.LawsOfGrants.{SourcesStandApart, GranterIsHandedTheSource};
+ghost use Rattle.sequential_signer.specs.LawsOfGrants.{NobodyWaitsForAnother, OneLegalGrantTranscript};
+ghost use Rattle.sequential_signer.specs.LawsOfGrants.{ExpectedGrantRepliesAreLegal};
 
 /// What a cache holds was found by a provider for one of its calls, and handed to the granter.
 pub fn source_was_provided<K, D>()

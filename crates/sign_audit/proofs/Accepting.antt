@@ -1,5 +1,5 @@
 -- What a step does to an auditor.
-use Rattle.std.proofs.Common.{◌≡◌, ℕ, zero, suc, ◌<◌, ◌&&◌, true, false, List, [], ◌∷◌, ◌++◌, Option, Some, None, IfSome, Result, Ok, Err, OnOk, OnErr, is_err, option_map, is_some, length, slice_get, slice_index_or, refl, sym, ◌∙◌, ap, subst, inl, inr}
+use Rattle.std.proofs.Common.{◌≡◌, ℕ, zero, suc, ◌<◌, ◌&&◌, true, false, List, [], ◌∷◌, ◌++◌, Option, Some, None, IfSome, Result, Ok, Err, OnOk, OnErr, is_err, option_map, length, slice_get, slice_index_or, refl, sym, ◌∙◌, ap, subst, inl, inr}
 use Rattle.sign_base.specs.declared.call_id.CallId.{CallId}
 use Rattle.sign_base.specs.Calls.{is_among}
 use Rattle.sequential_signer.specs.ExpectedReply.{expected_reply}
@@ -12,19 +12,17 @@ use Rattle.sequential_signer.specs.Transcript.{call_of, committed_entries, is_ou
 use Rattle.sequential_signer.specs.declared.event.Entry.{Entry}
 use Rattle.sequential_signer.specs.declared.event.Event.{Event}
 use Rattle.sequential_signer.specs.declared.event.Event.TheVariants.{Begin, Poll, Provided, Signed, Cancel}
-use Rattle.sequential_signer.specs.declared.event.Loader.{Loader}
 use Rattle.sequential_signer.specs.declared.event.Reply.{Reply}
 use Rattle.sequential_signer.specs.declared.event.Reply.TheVariants.{Begun, Pending, NotNow, OutOfMemory, Ask, Sign, Refused, Done, Cancelled}
 use Rattle.sequential_signer.proofs.Lists.{and_false}
 use Rattle.sequential_signer.proofs.Run.{expected_in_memory, out_of_memory-is}
 use Rattle.desk_parts.specs.Action.{Leaves as LeavesAction}
 use Rattle.desk_parts.specs.LiveCallView.{stored_view}
-use Rattle.desk_parts.specs.Queue.{Queue, MayEnter, queue_line, line_at, with_changed}
+use Rattle.desk_parts.specs.Queue.{Queue, MayEnter, calls_of_queue, queue_at, with_changed}
 use Rattle.desk_parts.specs.Tables.{setup_of, find_call, phase_of_stage}
 use Rattle.desk_parts.specs.declared.call_record.Stage.{Stage}
 use Rattle.desk_parts.specs.declared.call_record.Stage.TheVariants as stage
 use Rattle.desk_parts.specs.declared.tables.LiveCallView.{LiveCallView}
-use Rattle.desk_parts.proofs.ListPlaces.{mapped-below, place-there}
 use Rattle.desk_parts.proofs.Views.{find_view-is, find_view-no_handle}
 use Rattle.sign_desk.specs.Action.{Action, Performs}
 use Rattle.sign_desk.specs.Change.{UnchangedBy}
@@ -34,32 +32,31 @@ use Rattle.sign_desk.specs.ReplyKinds.{is_reply_to}
 use Rattle.sign_desk.specs.StepPrecondition.{IsPlaced, StepPrecondition}
 use Rattle.sign_desk.specs.Steps.{IsStep}
 use Rattle.sign_desk.specs.Transition.{action_of, live_action, Transition}
-use Rattle.sign_desk.specs.TranscriptQueue.{queue_of}
 use Rattle.sign_desk.proofs.LiveRecord.{misfit_unset}
 use Rattle.sign_audit.specs.Answers.{reply_due}
 use Rattle.sign_audit.specs.AuditState.{AuditState, AuditRepresents}
 use Rattle.sign_audit.specs.Counts.{counts_of, counts_up_to_end, counted}
 use Rattle.sign_audit.specs.IsAudit.{IsAudit}
-use Rattle.sign_audit.specs.LineChange.{first_change, later_change, line_change, changed_line, changed_lines, lines_of, change_before, change_after, MayCome}
+use Rattle.sign_audit.specs.OrderChange.{first_change, later_change, order_change, changed_order, changed_orders, orders_of, change_before, change_after, MayCome}
 use Rattle.sign_audit.specs.declared.counts.Counts.{Counts}
-use Rattle.sign_audit.specs.declared.line_change.LineChange.{LineChange}
-use Rattle.sign_audit.specs.declared.line_change.LineChange.TheVariants.{Enters, Leaves, Stays}
+use Rattle.sign_audit.specs.declared.order_change.OrderChange.{OrderChange}
+use Rattle.sign_audit.specs.declared.order_change.OrderChange.TheVariants.{Enters, Leaves, Stays}
 use Rattle.sign_audit.proofs.Blocking.{line-read}
 use Rattle.sign_audit.proofs.Counting.{counts-after, counts-same}
-use Rattle.sign_audit.proofs.LinesAfter.{lines-stay, stage_in, lines-after}
+use Rattle.sign_audit.proofs.OrdersAfter.{lines-stay, stage_in, lines-after}
 use Rattle.sign_audit.proofs.Phases.{phase-kept}
 
 -- the change before a step and the change after it are the whole change
-pub lines-both : (change : LineChange) (call : CallId) (i : ℕ) (lines : List (List CallId))
-    → changed_lines (change_after change) i call (changed_lines (change_before change) i call lines)
-    ≡ changed_lines change i call lines
-lines-both Enters call i lines = lines-stay call i (changed_lines Enters i call lines)
-lines-both Leaves call i lines = ap (changed_lines Leaves i call) (lines-stay call i lines)
-lines-both Stays call i lines = lines-stay call i (changed_lines Stays i call lines)
+pub lines-both : (change : OrderChange) (call : CallId) (i : ℕ) (lines : List (List CallId))
+    → changed_orders (change_after change) i call (changed_orders (change_before change) i call lines)
+    ≡ changed_orders change i call lines
+lines-both Enters call i lines = lines-stay call i (changed_orders Enters i call lines)
+lines-both Leaves call i lines = ap (changed_orders Leaves i call) (lines-stay call i lines)
+lines-both Stays call i lines = lines-stay call i (changed_orders Stays i call lines)
 
 -- where nobody comes, nothing is done before a step
-pub lines-before : (change : LineChange) (call : CallId) (i : ℕ) (lines : List (List CallId))
-    → (change ≡ Enters → ⊥) → changed_lines (change_before change) i call lines ≡ lines
+pub lines-before : (change : OrderChange) (call : CallId) (i : ℕ) (lines : List (List CallId))
+    → (change ≡ Enters → ⊥) → changed_orders (change_before change) i call lines ≡ lines
 lines-before Enters call i lines h = absurd (h refl)
 lines-before Leaves call i lines h = lines-stay call i lines
 lines-before Stays call i lines h = lines-stay call i lines
@@ -89,7 +86,7 @@ first_may (Done h) call line out = tt
 first_may (Cancelled w) call line out = tt
 
 outside_line : (call : CallId) (o : Option Queue) → IfSome o (MayEnter call)
-    → is_among call (queue_line o) ≡ false
+    → is_among call (calls_of_queue o) ≡ false
 outside_line call None may = refl
 outside_line call (Some q) may = may.outside
 
@@ -116,35 +113,35 @@ module _ {K D : Type 0} (policy : Policy K D) (old : DeskState K D) where
   module _ (sound : StepPrecondition old) (call : CallId) (i : ℕ) (at : cache_of (setup_of old) call ≡ Some i) where
     outside_by : (r : CallRecord) → find_call call old.calls ≡ Some r → r.stage ≡ stage.Unpolled
         → (o : Option Handle) → slice_get old.handles call.handle ≡ o
-        → option_map (λ (h : Handle). h.cache) o ≡ Some i → is_among call (line_at i old.queues) ≡ false
+        → option_map (λ (h : Handle). h.cache) o ≡ Some i → is_among call (queue_at i old.queues) ≡ false
     outside_by r found first None under e = absurd (cc)
     outside_by r found first (Some h) under e =
         let is : h.cache ≡ i = cc in
         let placed : IsPlaced old (stored_view call h r) = subst (λ (o : Option LiveCallView). IfSome o (IsPlaced old)) (find_view-is old call h r under found) (sound.calls call) in
-        subst (λ n. is_among call (line_at n old.queues) ≡ false) is (outside_line call (slice_get old.queues h.cache) (placed.unpolled first))
+        subst (λ n. is_among call (queue_at n old.queues) ≡ false) is (outside_line call (slice_get old.queues h.cache) (placed.unpolled first))
 
     -- a call that was not polled is not in line
     outside : (r : CallRecord) → find_call call old.calls ≡ Some r → r.stage ≡ stage.Unpolled
-        → is_among call (slice_index_or (lines_of old.queues) i []) ≡ false
+        → is_among call (slice_index_or (orders_of old.queues) i []) ≡ false
     outside r found first = ap (is_among call) (line-read old.queues i) ∙ outside_by r found first (slice_get old.handles call.handle) refl at
 
     -- a call that comes is not in line yet
     pub may-come : (reply : Reply K)
-        → MayCome (line_change (stage_in policy old 0 call) reply) call
-        (slice_index_or (lines_of old.queues) i [])
+        → MayCome (order_change (stage_in policy old 0 call) reply) call
+        (slice_index_or (orders_of old.queues) i [])
     may-come reply = by_record (find_call call old.calls) refl
       where
         by_stage : (s : Stage)
-            → (s ≡ stage.Unpolled → is_among call (slice_index_or (lines_of old.queues) i []) ≡ false)
-            → MayCome (line_change (Some s) reply) call (slice_index_or (lines_of old.queues) i [])
-        by_stage stage.Unpolled out = first_may reply call (slice_index_or (lines_of old.queues) i []) (out refl)
-        by_stage stage.Queued out = stays_may reply call (slice_index_or (lines_of old.queues) i [])
-        by_stage stage.Loading out = stays_may reply call (slice_index_or (lines_of old.queues) i [])
+            → (s ≡ stage.Unpolled → is_among call (slice_index_or (orders_of old.queues) i []) ≡ false)
+            → MayCome (order_change (Some s) reply) call (slice_index_or (orders_of old.queues) i [])
+        by_stage stage.Unpolled out = first_may reply call (slice_index_or (orders_of old.queues) i []) (out refl)
+        by_stage stage.Queued out = stays_may reply call (slice_index_or (orders_of old.queues) i [])
+        by_stage stage.Loading out = stays_may reply call (slice_index_or (orders_of old.queues) i [])
         by_stage stage.Signing out = tt
 
         by_record : (o : Option CallRecord) → find_call call old.calls ≡ o
-            → MayCome (line_change (option_map (λ (r : CallRecord). r.stage) o) reply) call
-            (slice_index_or (lines_of old.queues) i [])
+            → MayCome (order_change (option_map (λ (r : CallRecord). r.stage) o) reply) call
+            (slice_index_or (orders_of old.queues) i [])
         by_record None found = tt
         by_record (Some r) found = by_stage r.stage (outside r found)
 
@@ -208,12 +205,12 @@ module _ {K D : Type 0} (policy : Policy K D) (desk : DeskState K D) (entries : 
   enters-fits : (event : Event K) (expected : Reply K)
       → expected ≡ expected_reply policy (setup_of desk) (committed_entries entries) event
       → is_reply_to event expected ≡ true
-      → line_change (stage_in policy desk 0 (call_of event)) expected ≡ Enters
+      → order_change (stage_in policy desk 0 (call_of event)) expected ≡ Enters
       → allocates policy (setup_of desk) (committed_entries entries) event ≡ false
   enters-fits event expected is kind e = by_record (find_call (call_of event) desk.calls) refl e
     where
       by_stage : (s : Stage) → phase_of (committed_entries entries) (call_of event) ≡ phase_of_stage s
-          → line_change (Some s) expected ≡ Enters
+          → order_change (Some s) expected ≡ Enters
           → allocates policy (setup_of desk) (committed_entries entries) event ≡ false
       by_stage stage.Unpolled p e = enters-free event (enters-begun event expected kind e) p (ap is_sign (sym is) ∙ enters-unsigned expected e)
       by_stage stage.Queued p e = absurd (later-stays expected e)
@@ -221,7 +218,7 @@ module _ {K D : Type 0} (policy : Policy K D) (desk : DeskState K D) (entries : 
       by_stage stage.Signing p e = absurd (cc)
 
       by_record : (o : Option CallRecord) → find_call (call_of event) desk.calls ≡ o
-          → line_change (option_map (λ (r : CallRecord). r.stage) o) expected ≡ Enters
+          → order_change (option_map (λ (r : CallRecord). r.stage) o) expected ≡ Enters
           → allocates policy (setup_of desk) (committed_entries entries) event ≡ false
       by_record None found e = absurd (cc)
       by_record (Some r) found e = by_stage r.stage (phase-kept policy desk entries stood (call_of event) r found) e
@@ -232,7 +229,7 @@ module _ {K D : Type 0} (policy : Policy K D) (desk : DeskState K D) (entries : 
       → is_reply_to event expected ≡ true
       → IsLegalEntry policy (setup_of desk) (committed_entries entries)
       (record { event = event; reply = reply })
-      → is_out_of_memory reply ≡ true → line_change (stage_in policy desk 0 (call_of event)) expected ≡ Enters
+      → is_out_of_memory reply ≡ true → order_change (stage_in policy desk 0 (call_of event)) expected ≡ Enters
       → ⊥
   enters-in_memory event expected reply is kind (inl l) m e =
       let no : is_out_of_memory reply ≡ false = ap is_out_of_memory l ∙ expected_in_memory policy (setup_of desk) (committed_entries entries) event in
@@ -293,23 +290,6 @@ where-err P (Err x) e h = h
 
 module _ {K D : Type 0} (policy : Policy K D) (desk : DeskState K D) (counts : List Counts) (now : AuditState K D) (is : record { desk = desk; counts = counts } ≡ now)
     (lines : List (List CallId)) (kept : IsAudit policy (record { desk = desk; counts = counts }) lines) where
-  -- the counts of a cache that has a queue
-  pub counts-there : (i : ℕ) → i < length desk.queues → i < length counts
-  counts-there i there = mapped-below counts i (counts_up_to_end (counts_of (setup_of desk) kept.entries i)) (slice_get desk.loaders i) (kept.represents.counts i) (by_queue (slice_get desk.loaders i) (kept.represents.desk.queues i))
-    where
-      some : is_some (slice_get desk.queues i) ≡ true
-      some = place-there desk.queues i there
-
-      by_queue : (l : Option Loader)
-          → slice_get desk.queues i
-          ≡ option_map (λ _. queue_of (setup_of desk) (committed_entries kept.entries) i) l
-          → is_some l ≡ true
-      by_queue (Some l) q = refl
-      by_queue None q =
-          let none : is_some (slice_get desk.queues i) ≡ false = ap is_some q in
-          let yes : is_some (slice_get desk.queues i) ≡ true = some in
-          absurd (cc)
-
   module _ (event : Event K) (expected : Reply K) (due : (entries : List (Entry K)) → AuditRepresents policy now entries → expected ≡ reply_due policy now entries event) (kind : is_reply_to event expected ≡ true)
       (call : CallId) (named : call ≡ call_of event) (reply : Reply K) (new : DeskState K D) (step : IsStep policy event desk reply new) (moves : Transition policy event desk reply new) where
     abbrev opened : AuditState K D
@@ -351,16 +331,16 @@ module _ {K D : Type 0} (policy : Policy K D) (desk : DeskState K D) (counts : L
       unset-invariant = record {
         entries = kept.entries ++ record { event = event; reply = reply } ∷ [];
         represents = uncounted-step policy opened event reply new step unset-here kept.entries kept.represents;
-        lines_are = kept.lines_are ∙ ap (λ (d : DeskState K D). lines_of d.queues) (sym unset-done.1);
+        orders_are = kept.orders_are ∙ ap (λ (d : DeskState K D). orders_of d.queues) (sym unset-done.1);
       }
 
-    module _ (cache : ℕ) (at : cache_of (setup_of desk) call ≡ Some cache) (change : LineChange) (does : change ≡ line_change (stage_in policy desk 0 call) expected)
-        (between : List (List CallId)) (comes : between ≡ changed_lines (change_before change) cache call lines) where
+    module _ (cache : ℕ) (at : cache_of (setup_of desk) call ≡ Some cache) (change : OrderChange) (does : change ≡ order_change (stage_in policy desk 0 call) expected)
+        (between : List (List CallId)) (comes : between ≡ changed_orders (change_before change) cache call lines) where
       at-here : cache_of (setup_of desk) (call_of event) ≡ Some cache
       at-here = ap (cache_of (setup_of desk)) (sym named) ∙ at
 
-      change-is : change ≡ line_change (stage_in policy desk 0 (call_of event)) expected
-      change-is = does ∙ ap (λ (c : CallId). line_change (stage_in policy desk 0 c) expected) named
+      change-is : change ≡ order_change (stage_in policy desk 0 (call_of event)) expected
+      change-is = does ∙ ap (λ (c : CallId). order_change (stage_in policy desk 0 c) expected) named
 
       module _ (lost : is_out_of_memory reply ≡ true) where
         lost-desk : new ≡ desk
@@ -377,10 +357,10 @@ module _ {K D : Type 0} (policy : Policy K D) (desk : DeskState K D) (counts : L
         lost-invariant = record {
           entries = kept.entries;
           represents = subst (λ (d : DeskState K D). AuditRepresents policy (record { desk = d; counts = counts }) kept.entries) (sym lost-desk) kept.represents;
-          lines_are = lost-lines ∙ kept.lines_are ∙ ap (λ (d : DeskState K D). lines_of d.queues) (sym lost-desk);
+          orders_are = lost-lines ∙ kept.orders_are ∙ ap (λ (d : DeskState K D). orders_of d.queues) (sym lost-desk);
         }
 
-      module _ (memory : is_out_of_memory reply ≡ false) (after : List (List CallId)) (goes : after ≡ changed_lines (change_after change) cache call between) (counted_ones : List Counts) (counts_are : counted_ones ≡ with_changed (counted reply) cache counts) where
+      module _ (memory : is_out_of_memory reply ≡ false) (after : List (List CallId)) (goes : after ≡ changed_orders (change_after change) cache call between) (counted_ones : List Counts) (counts_are : counted_ones ≡ with_changed (counted reply) cache counts) where
         reply-is : (entries : List (Entry K)) → AuditRepresents policy opened entries → reply ≡ expected
         reply-is entries stood = legal-expected policy (setup_of desk) (committed_entries entries) event reply (step.expected entries stood.desk) memory ∙ sym (due-here entries stood)
 
@@ -400,22 +380,22 @@ module _ {K D : Type 0} (policy : Policy K D) (desk : DeskState K D) (counts : L
             (reply-is entries (from_now entries stood))
             (represents-more entries (from_now entries stood))
 
-        happened-lines : after ≡ lines_of new.queues
+        happened-lines : after ≡ orders_of new.queues
         happened-lines =
             goes
-            ∙ ap (changed_lines (change_after change) cache call) comes
+            ∙ ap (changed_orders (change_after change) cache call) comes
             ∙ lines-both change call cache lines
-            ∙ ap (changed_lines change cache call) kept.lines_are
-            ∙ ap (λ (c : CallId). changed_lines change cache c (lines_of desk.queues)) named
-            ∙ ap (λ (ch : LineChange). changed_lines ch cache (call_of event) (lines_of desk.queues)) change-is
-            ∙ ap (λ (r : Reply K). changed_lines (line_change (stage_in policy desk 0 (call_of event)) r) cache (call_of event) (lines_of desk.queues)) (sym (reply-is kept.entries kept.represents))
+            ∙ ap (changed_orders change cache call) kept.orders_are
+            ∙ ap (λ (c : CallId). changed_orders change cache c (orders_of desk.queues)) named
+            ∙ ap (λ (ch : OrderChange). changed_orders ch cache (call_of event) (orders_of desk.queues)) change-is
+            ∙ ap (λ (r : Reply K). changed_orders (order_change (stage_in policy desk 0 (call_of event)) r) cache (call_of event) (orders_of desk.queues)) (sym (reply-is kept.entries kept.represents))
             ∙ sym (lines-after policy desk cache event reply new at-here moves)
 
         pub happened-invariant : IsAudit policy (record { desk = new; counts = counted_ones }) after
         happened-invariant = record {
           entries = kept.entries ++ record { event = event; reply = reply } ∷ [];
           represents = represents-more kept.entries kept.represents;
-          lines_are = happened-lines;
+          orders_are = happened-lines;
         }
 
 changed-length : {A : Type 0} (f : A → A) (i : ℕ) (xs : List A) → length (with_changed f i xs) ≡ length xs
@@ -424,6 +404,6 @@ changed-length f zero (x ∷ xs) = refl
 changed-length f (suc i) (x ∷ xs) = ap suc (changed-length f i xs)
 
 -- a cache that has a line has one after a change
-pub changed-there : (change : LineChange) (cache i : ℕ) (call : CallId) (lines between : List (List CallId))
-    → between ≡ changed_lines change i call lines → cache < length lines → cache < length between
-changed-there change cache i call lines between is below = subst (λ n. cache < n) (sym (ap length is ∙ changed-length (changed_line change call) i lines)) below
+pub changed-there : (change : OrderChange) (cache i : ℕ) (call : CallId) (lines between : List (List CallId))
+    → between ≡ changed_orders change i call lines → cache < length lines → cache < length between
+changed-there change cache i call lines between is below = subst (λ n. cache < n) (sym (ap length is ∙ changed-length (changed_order change call) i lines)) below

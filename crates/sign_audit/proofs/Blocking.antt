@@ -17,7 +17,7 @@ use Rattle.sequential_signer.proofs.CallInvariantSteps.{stands}
 use Rattle.sequential_signer.proofs.Queue.{open_holds}
 use Rattle.sequential_signer.proofs.Run.{legal_run}
 use Rattle.desk_parts.proofs.ListPlaces.{place-there}
-use Rattle.desk_parts.specs.Queue.{Queue, queue_line, line_at}
+use Rattle.desk_parts.specs.Queue.{Queue, calls_of_queue, queue_at}
 use Rattle.desk_parts.specs.Places.{HasPlaces}
 use Rattle.desk_parts.specs.Tables.{setup_of, find_call, phase_of_stage}
 use Rattle.desk_parts.specs.declared.call_record.Stage.{Stage}
@@ -26,18 +26,18 @@ use Rattle.sign_desk.specs.DeskState.{DeskState, Represents}
 use Rattle.sign_desk.specs.Records.{CallRecord}
 use Rattle.sign_desk.specs.StepPrecondition.{StepPrecondition}
 use Rattle.sign_desk.specs.TranscriptQueue.{queue_of}
-use Rattle.sign_audit.specs.Blockers.{open_ahead, blockers_of, line_for, waits_at}
-use Rattle.sign_audit.specs.LineChange.{lines_of}
+use Rattle.sign_audit.specs.Blockers.{open_ahead, blockers_of, order_for, waits_at}
+use Rattle.sign_audit.specs.OrderChange.{orders_of}
 use Rattle.sign_audit.proofs.Phases.{phase-kept, phase-ended}
 
 -- the line of a cache, read from the lines of all
-pub line-read : (queues : List Queue) (i : ℕ) → slice_index_or (lines_of queues) i [] ≡ line_at i queues
+pub line-read : (queues : List Queue) (i : ℕ) → slice_index_or (orders_of queues) i [] ≡ queue_at i queues
 line-read [] i = refl
 line-read (q ∷ rest) zero = refl
 line-read (q ∷ rest) (suc i) = line-read rest i
 
 -- there are as many lines as queues
-pub lines-count : (queues : List Queue) → length (lines_of queues) ≡ length queues
+pub lines-count : (queues : List Queue) → length (orders_of queues) ≡ length queues
 lines-count [] = refl
 lines-count (q ∷ rest) = ap suc (lines-count rest)
 
@@ -83,7 +83,7 @@ pub line-there : {K D : Type 0} (desk now : DeskState K D) → desk ≡ now → 
 line-there {K = K} {D = D} desk now is sound call o e = subst (λ (d : DeskState K D). IfSome o (λ i. i < length d.queues)) is (subst (λ p. IfSome p (λ i. i < length desk.queues)) (sym e) (caches-there desk sound call))
 
 pub lines-there : {K D : Type 0} (lines : List (List CallId)) (desk now : DeskState K D)
-    → lines ≡ lines_of desk.queues → desk ≡ now → (i : ℕ) (o : Option ℕ) → o ≡ Some i
+    → lines ≡ orders_of desk.queues → desk ≡ now → (i : ℕ) (o : Option ℕ) → o ≡ Some i
     → IfSome o (λ j. j < length now.queues) → i < length lines
 lines-there {K = K} {D = D} lines desk now is same i o e there =
     let below : i < length now.queues = subst (λ p. IfSome p (λ j. j < length now.queues)) e there in
@@ -91,8 +91,8 @@ lines-there {K = K} {D = D} lines desk now is same i o e there =
     subst (λ n. i < n) (sym count) below
 
 pub line-of : {K D : Type 0} (lines : List (List CallId)) (desk now : DeskState K D)
-    → lines ≡ lines_of desk.queues → desk ≡ now → (i : ℕ) → slice_index_or lines i [] ≡ line_at i now.queues
-line-of {K = K} {D = D} lines desk now is same i = ap (λ (ls : List (List CallId)). slice_index_or ls i []) is ∙ line-read desk.queues i ∙ ap (λ (d : DeskState K D). line_at i d.queues) same
+    → lines ≡ orders_of desk.queues → desk ≡ now → (i : ℕ) → slice_index_or lines i [] ≡ queue_at i now.queues
+line-of {K = K} {D = D} lines desk now is same i = ap (λ (ls : List (List CallId)). slice_index_or ls i []) is ∙ line-read desk.queues i ∙ ap (λ (d : DeskState K D). queue_at i d.queues) same
 
 module _ (fin : CallId → Bool) where
   -- those before an open call in the line, are the open ones of those before it
@@ -129,7 +129,7 @@ module _ {K D : Type 0} (setup : Setup D) (entries : List (Entry K)) (i : ℕ) (
 
   -- a call at a stage before its signing is open
   stage-open : (s : Stage) → CallInvariant setup entries i call (phase_of_stage s)
-      → (line_for s (Some i) ≡ None → ⊥) → hold_is_finished entries call ≡ false
+      → (order_for s (Some i) ≡ None → ⊥) → hold_is_finished entries call ≡ false
   stage-open stage.Unpolled (unpolled_call w _ _) h = w.unfinished
   stage-open stage.Queued (queued_call w _) h = w.unfinished
   stage-open stage.Loading (loading_call l) h = l.unfinished
@@ -141,17 +141,17 @@ module _ {K D : Type 0} (setup : Setup D) (entries : List (Entry K)) (i : ℕ) (
 
   -- the open ones ahead, by the stage of the call
   stage-ahead : (s : Stage) → CallInvariant setup entries i call (phase_of_stage s)
-      → (line_for s (Some i) ≡ None) → open_ahead setup entries call (Some i) ≡ []
+      → (order_for s (Some i) ≡ None) → open_ahead setup entries call (Some i) ≡ []
   stage-ahead stage.Signing c h = stage-signs c
   stage-ahead stage.Unpolled c h = absurd (cc)
   stage-ahead stage.Queued c h = absurd (cc)
   stage-ahead stage.Loading c h = absurd (cc)
 
-line_for-some : (s : Stage) (o : Option ℕ) (i : ℕ) → line_for s o ≡ Some i → o ≡ Some i
-line_for-some stage.Unpolled o i e = e
-line_for-some stage.Queued o i e = e
-line_for-some stage.Loading o i e = e
-line_for-some stage.Signing o i e = absurd (cc)
+order_for-some : (s : Stage) (o : Option ℕ) (i : ℕ) → order_for s o ≡ Some i → o ≡ Some i
+order_for-some stage.Unpolled o i e = e
+order_for-some stage.Queued o i e = e
+order_for-some stage.Loading o i e = e
+order_for-some stage.Signing o i e = absurd (cc)
 
 kept_is_live : (s : Stage) → is_live (phase_of_stage s) ≡ true
 kept_is_live stage.Unpolled = refl
@@ -165,7 +165,7 @@ module _ {K D : Type 0} (policy : Policy K D) (desk : DeskState K D) (entries : 
 
   -- the line that a queue has
   line-is : (i : ℕ) → i < length desk.queues
-      → line_at i desk.queues ≡ open_calls (setup_of desk) (committed_entries entries) i
+      → queue_at i desk.queues ≡ open_calls (setup_of desk) (committed_entries entries) i
   line-is i there = by_loader (slice_get desk.loaders i) (stood.queues i)
     where
       some : is_some (slice_get desk.queues i) ≡ true
@@ -174,8 +174,8 @@ module _ {K D : Type 0} (policy : Policy K D) (desk : DeskState K D) (entries : 
       by_loader : (l : Option Loader)
           → slice_get desk.queues i
           ≡ option_map (λ _. queue_of (setup_of desk) (committed_entries entries) i) l
-          → line_at i desk.queues ≡ open_calls (setup_of desk) (committed_entries entries) i
-      by_loader (Some l) q = ap queue_line q
+          → queue_at i desk.queues ≡ open_calls (setup_of desk) (committed_entries entries) i
+      by_loader (Some l) q = ap calls_of_queue q
       by_loader None q =
           let none : is_some (slice_get desk.queues i) ≡ false = ap is_some q in
           let yes : is_some (slice_get desk.queues i) ≡ true = some in
@@ -197,7 +197,7 @@ module _ {K D : Type 0} (policy : Policy K D) (desk : DeskState K D) (entries : 
   blockers-nowhere w = by_record (find_call call desk.calls) refl w
     where
       by_cache : (r : CallRecord) → find_call call desk.calls ≡ Some r → (o : Option ℕ)
-          → cache_of (setup_of desk) call ≡ o → line_for r.stage o ≡ None
+          → cache_of (setup_of desk) call ≡ o → order_for r.stage o ≡ None
           → open_ahead (setup_of desk) (committed_entries entries) call o ≡ []
       by_cache r found None at h = refl
       by_cache r found (Some i) at h = stage-ahead (setup_of desk) (committed_entries entries) i call r.stage (invariant-of r found i at) h
@@ -211,7 +211,7 @@ module _ {K D : Type 0} (policy : Policy K D) (desk : DeskState K D) (entries : 
   -- and of one that stands at this line, or will
   pub blockers-at : (i : ℕ) → Some i ≡ waits_at (find_call call desk.calls) (cache_of (setup_of desk) call)
       → i < length desk.queues
-      → before_call call (line_at i desk.queues)
+      → before_call call (queue_at i desk.queues)
       ≡ blockers_of (setup_of desk) (committed_entries entries) call
   blockers-at i w there = by_record (find_call call desk.calls) refl w
     where
@@ -220,19 +220,19 @@ module _ {K D : Type 0} (policy : Policy K D) (desk : DeskState K D) (entries : 
 
       by_record : (o : Option CallRecord) → find_call call desk.calls ≡ o
           → Some i ≡ waits_at o (cache_of (setup_of desk) call)
-          → before_call call (line_at i desk.queues)
+          → before_call call (queue_at i desk.queues)
           ≡ blockers_of (setup_of desk) (committed_entries entries) call
       by_record None found h = absurd (cc)
       by_record (Some r) found h =
-          let at : cache_of (setup_of desk) call ≡ Some i = line_for-some r.stage (cache_of (setup_of desk) call) i (sym h) in
-          let here : line_for r.stage (Some i) ≡ Some i = ap (line_for r.stage) (sym at) ∙ sym h in
-          let unfinished : hold_is_finished (committed_entries entries) call ≡ false = stage-open (setup_of desk) (committed_entries entries) i call r.stage (invariant-of r found i at) (somewhere (line_for r.stage (Some i)) here) in
+          let at : cache_of (setup_of desk) call ≡ Some i = order_for-some r.stage (cache_of (setup_of desk) call) i (sym h) in
+          let here : order_for r.stage (Some i) ≡ Some i = ap (order_for r.stage) (sym at) ∙ sym h in
+          let unfinished : hold_is_finished (committed_entries entries) call ≡ false = stage-open (setup_of desk) (committed_entries entries) i call r.stage (invariant-of r found i at) (somewhere (order_for r.stage (Some i)) here) in
           ap (before_call call) (line-is i there)
           ∙ ahead-open (setup_of desk) (committed_entries entries) i call unfinished
           ∙ ap (open_ahead (setup_of desk) (committed_entries entries) call) (sym at)
           ∙ sym (live-blockers (ap is_live (phase-kept policy desk entries stood call r found) ∙ kept_is_live r.stage))
 
-  module _ (line : List CallId) (i : ℕ) (is : line ≡ line_at i desk.queues) (o : Option ℕ) (w : o ≡ waits_at (find_call call desk.calls) (cache_of (setup_of desk) call)) (at : o ≡ Some i) (there : IfSome o (λ j. j < length desk.queues)) where
+  module _ (line : List CallId) (i : ℕ) (is : line ≡ queue_at i desk.queues) (o : Option ℕ) (w : o ≡ waits_at (find_call call desk.calls) (cache_of (setup_of desk) call)) (at : o ≡ Some i) (there : IfSome o (λ j. j < length desk.queues)) where
     -- the calls before this one in its line
     pub blockers-line : before_call call line ≡ blockers_of (setup_of desk) (committed_entries entries) call
     blockers-line = ap (before_call call) is ∙ blockers-at i (sym at ∙ w) (subst (λ p. IfSome p (λ j. j < length desk.queues)) at there)

@@ -1,5 +1,5 @@
 -- The counts after one more reply.
-use Rattle.std.proofs.Common.{◌≡◌, ◌==◌, ℕ, ◌+◌, Bool, true, false, if◌then◌else◌, List, [], ◌∷◌, ◌++◌, Option, Some, None, filter, length, option_map, slice_get, refl, sym, ◌∙◌, ap, subst, arith}
+use Rattle.std.proofs.Common.{◌≡◌, ◌≤◌, ◌==◌, ℕ, zero, suc, ◌+◌, Bool, true, false, if◌then◌else◌, List, [], ◌∷◌, ◌++◌, Option, Some, None, filter, length, option_map, slice_get, refl, sym, ◌∙◌, ap, subst, arith}
 use Rattle.std.proofs.lemmas.List.{length_push}
 use Rattle.sequential_signer.specs.Replies.{is_sign, is_ask, is_refused, is_cancelled}
 use Rattle.sequential_signer.specs.Setup.{Setup, cache_of, is_of_cache, is_number}
@@ -119,3 +119,10 @@ module _ {K D : Type 0} (setup : Setup D) (entries : List (Entry K)) (e : Entry 
             changed-other (counted e.reply) counts cache i (λ same. let t : (i == cache) ≡ true = subst (λ n. (i == n) ≡ true) (sym same) (number_refl i) in absurd (cc))
             ∙ stood i
             ∙ ap (λ c. option_map (λ _. c) (slice_get loaders i)) (sym (counts-elsewhere i (of ∙ k)))
+
+-- a change at no place of a list does nothing
+pub changed-beyond : {A : Type 0} (f : A → A) (xs : List A) (i : ℕ) → length xs ≤ i
+    → with_changed f i xs ≡ xs
+changed-beyond f [] i h = refl
+changed-beyond f (x ∷ xs) zero h = absurd (omega (arith, h))
+changed-beyond f (x ∷ xs) (suc i) h = ap (λ zs. x ∷ zs) (changed-beyond f xs i (omega (arith, h)))

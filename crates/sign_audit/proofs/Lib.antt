@@ -1,5 +1,5 @@
-pub mod LineEntries
-pub mod LinesAfter
+pub mod OrderEntries
+pub mod OrdersAfter
 pub mod Phases
 pub mod Counting
 pub mod Memory

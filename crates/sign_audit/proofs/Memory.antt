@@ -30,7 +30,7 @@ use Rattle.sign_desk.specs.DeskState.{DeskState, Represents}
 use Rattle.sign_desk.specs.Records.{CallRecord}
 use Rattle.sign_desk.specs.ReplyKinds.{is_reply_to}
 use Rattle.sign_audit.specs.Memory.{tells_memory, is_loading_at, is_signing_at, finds, accepts}
-use Rattle.sign_audit.proofs.LinesAfter.{stage_in}
+use Rattle.sign_audit.proofs.OrdersAfter.{stage_in}
 use Rattle.sign_audit.proofs.Phases.{phase-kept, phase-ended}
 
 -- a reply to a poll tells of memory where it hands out a credential

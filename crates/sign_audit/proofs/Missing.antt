@@ -103,5 +103,5 @@ module _ {K D : Type 0} (policy : Policy K D) (desk : DeskState K D) (counts : L
       miss-invariant lines kept = record {
         entries = kept.entries ++ lost_entry event ∷ [];
         represents = represents-lost kept.entries kept.represents;
-        lines_are = kept.lines_are;
+        orders_are = kept.orders_are;
       }

@@ -11,7 +11,7 @@ use Rattle.sign_desk.specs.DeskState.{DeskState, Represents}
 use Rattle.sign_desk.specs.TranscriptQueue.{queue_of}
 use Rattle.sign_audit.specs.AuditState.{AuditRepresents}
 use Rattle.sign_audit.specs.IsAudit.{IsAudit}
-use Rattle.sign_audit.specs.LineChange.{lines_of}
+use Rattle.sign_audit.specs.OrderChange.{orders_of}
 use Rattle.sign_audit.specs.declared.counts.Counts.{Counts}
 
 -- no replies
@@ -36,13 +36,13 @@ item-is x y e = cc
 lines-none : {A : Type 0} (queues : List Queue) (loaders : List A) (q : ℕ → Queue)
     → ((i : ℕ) → (q i).line ≡ [])
     → ((i : ℕ) → slice_get queues i ≡ option_map (λ _. q i) (slice_get loaders i))
-    → lines_of queues ≡ replicate (length loaders) []
+    → orders_of queues ≡ replicate (length loaders) []
 lines-none [] [] q e h = refl
 lines-none [] (l ∷ ls) q e h = let no = h 0 in absurd (cc)
 lines-none (x ∷ xs) [] q e h = let no = h 0 in absurd (cc)
 lines-none (x ∷ xs) (l ∷ ls) q e h =
     let first : x.line ≡ [] = ap (λ (y : Queue). y.line) (item-is x (q 0) (h 0)) ∙ e 0 in
-    let rest : lines_of xs ≡ replicate (length ls) [] = lines-none xs ls (λ i. q (suc i)) (λ i. e (suc i)) (λ i. h (suc i)) in
+    let rest : orders_of xs ≡ replicate (length ls) [] = lines-none xs ls (λ i. q (suc i)) (λ i. e (suc i)) (λ i. h (suc i)) in
     rw (first, rest) refl
 
 module _ {K D : Type 0} (policy : Policy K D) (desk : DeskState K D) (counts : List Counts) (caches : ℕ) (stood : Represents policy desk []) (all : caches ≡ length desk.loaders) (zeros : counts ≡ replicate caches none) where
@@ -59,7 +59,7 @@ module _ {K D : Type 0} (policy : Policy K D) (desk : DeskState K D) (counts : L
   audit-new lines empty = record {
     entries = [];
     represents = represents-new;
-    lines_are = empty ∙ ap (λ n. replicate n []) all ∙ sym (lines-none desk.queues desk.loaders (λ i. queue_of (setup_of desk) (committed_entries []) i) (no_line K D (setup_of desk)) stood.queues);
+    orders_are = empty ∙ ap (λ n. replicate n []) all ∙ sym (lines-none desk.queues desk.loaders (λ i. queue_of (setup_of desk) (committed_entries []) i) (no_line K D (setup_of desk)) stood.queues);
   }
 
 take-none : {A : Type 0} (n : ℕ) → take {A = A} n [] ≡ []

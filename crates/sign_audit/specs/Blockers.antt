@@ -20,12 +20,12 @@ abbrev pub blockers_of : {K D : Type 0} → Setup D → List (Entry K) → CallI
 blockers_of setup entries call =
     if is_live (phase_of entries call) then open_ahead setup entries call (cache_of setup call) else []
 
--- the cache at whose line a call stands that is kept at this stage, or will stand by its first poll
-abbrev pub line_for : Stage → Option ℕ → Option ℕ
-line_for stage.Signing cache = None
-line_for _ cache = cache
+-- the cache in whose order a call stands that is kept at this stage, or will stand by its first poll
+abbrev pub order_for : Stage → Option ℕ → Option ℕ
+order_for stage.Signing cache = None
+order_for _ cache = cache
 
 -- the same, of a call that is kept
 abbrev pub waits_at : Option CallRecord → Option ℕ → Option ℕ
 waits_at None cache = None
-waits_at (Some live) cache = line_for live.stage cache
+waits_at (Some live) cache = order_for live.stage cache

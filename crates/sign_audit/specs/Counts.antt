@@ -5,7 +5,8 @@ use Rattle.sequential_signer.specs.Setup.{Setup, is_of_cache}
 use Rattle.sequential_signer.specs.Transcript.{call_of, is_out_of_memory}
 use Rattle.sequential_signer.specs.declared.event.Entry.{Entry}
 use Rattle.sequential_signer.specs.declared.event.Reply.{Reply}
-use Rattle.sequential_signer.specs.declared.event.Reply.TheVariants.{OutOfMemory, Ask, Sign, Refused, Cancelled}
+use Rattle.sequential_signer.specs.declared.event.Reply.TheVariants.{OutOfMemory, Ask, Sign, Refused}
+use Rattle.sequential_signer.specs.declared.event.Reply.TheVariants.{Cancelled}
 use Rattle.sign_audit.specs.declared.counts.Counts.{Counts}
 
 -- whether an entry is of a call of cache i, and its reply of this kind

@@ -1,7 +1,14 @@
 pub mod Counts
 pub mod AuditState
-pub mod LineChange
+pub mod OrderChange
 pub mod IsAudit
 pub mod Memory
 pub mod Blockers
 pub mod Answers
+pub use Rattle.desk_parts.specs.Tables
+pub use Rattle.sequential_signer.specs.Legal
+pub use Rattle.sequential_signer.specs.Policy
+pub use Rattle.sequential_signer.specs.Transcript
+pub use Rattle.sign_base.specs.Calls
+pub use Rattle.sign_desk.specs.DeskState
+pub use Rattle.sign_desk.specs.ReplyKinds

@@ -1,6 +1,7 @@
 //! The auditor: a desk that is given each event whose claim is legal, with the counts of its caches and the
-//! calls in line at each.
-ghost use Rattle.std.specs.Prelude.{◌≡◌, ◌<◌, ◌^◌, [], true, List, Some, OnOk, IfOk, IfErr, IsTrue, length, slice_get};
+//! order of the open calls of each.
+ghost use Rattle.std.specs.Prelude.{◌≡◌, ◌<◌, ◌^◌, [], true, List, Some, length, slice_get};
+ghost use Rattle.std.specs.Prelude.{OnOk, IfOk, IfErr, IsTrue};
 ghost use Rattle.std.specs.Fn.{FnReturnsAt};
 ghost use Rattle.sequential_signer.specs.Legal.{IsLegalEntry, allocates};
 ghost use Rattle.sequential_signer.specs.Policy.{policy_of};
@@ -12,14 +13,15 @@ ghost use Rattle.desk_parts.specs.Tables.{setup_of};
 ghost use Rattle.sign_desk.specs.DeskState.{Represents};
 ghost use Rattle.sign_desk.specs.ReplyKinds.{is_reply_to};
 ghost use Rattle.sign_audit.specs.AuditState.{AuditRepresents};
-ghost use Rattle.sign_audit.specs.Answers.{reply_due, AnswersTest, AnswersMissed, AnswersEntry, HappensOr, AcceptsAll, FailsAt};
+ghost use Rattle.sign_audit.specs.Answers.{reply_due, AnswersTest, AnswersMissed, AnswersEntry};
+ghost use Rattle.sign_audit.specs.Answers.{HappensOr, AcceptsAll, FailsAt};
 ghost use Rattle.sign_audit.specs.Counts.{counts_of, counted};
 
 use crate::allocates::allocates;
 use crate::claim::Claim;
 use crate::counts::Counts;
-use crate::line_change::line_change;
-use crate::lines::Lines;
+use crate::order_change::order_change;
+use crate::wait_orders::WaitOrders;
 use sequential_signer::{DeadlineRule, Entry, Event, Reply, SigningCredential};
 use sign_base::{EqualByValue, NoMemory};
 use sign_desk::{Desk, same_reply};
@@ -30,7 +32,7 @@ use std::marker::Model;
 pub struct Audit<K: SigningCredential, D: DeadlineRule<Credential = K>> {
     pub(crate) desk: Desk<K, D>,
     pub(crate) counts: Vec<Counts>,
-    pub(crate) lines: Lines,
+    pub(crate) orders: WaitOrders,
 }
 
 impl<K: SigningCredential, D: DeadlineRule<Credential = K>> Model for Audit<K, D> {
@@ -44,15 +46,13 @@ impl<K: SigningCredential, D: DeadlineRule<Credential = K>> Model for Audit<K, D
     ghost view = { λ audit. record { desk = audit.desk; counts = audit.counts.items } };
 
     ghost invariant = { λ audit. IsAudit (policy_of K.valid K.valid_at D.deadline)
-        (record { desk = audit.desk; counts = audit.counts.items }) audit.lines };
+        (record { desk = audit.desk; counts = audit.counts.items }) audit.orders };
 }
 
 impl<K: SigningCredential, D: DeadlineRule<Credential = K>> Audit<K, D> {
     /// The auditor of a fresh desk. It represents no claims.
     ///
     /// Errors: out of memory, with the desk as it was.
-    ///
-    /// Requires a desk to which nothing has happened.
     pub fn new(desk: Desk<K, D>) -> Result<Audit<K, D>, NoMemory<Desk<K, D>>>
         requires { Represents (policy_of K.valid K.valid_at D.deadline) desk [] }
         ensures desk { IfOk result (λ audit. audit.desk ≡ desk) }
@@ -61,7 +61,7 @@ impl<K: SigningCredential, D: DeadlineRule<Credential = K>> Audit<K, D> {
         ensures back { IfErr result (λ refused. refused.back ≡ desk) }
     {
         let caches = desk.caches();
-        let Ok(lines) = Lines::new(desk.alloc(), caches) else {
+        let Ok(orders) = WaitOrders::new(desk.alloc(), caches) else {
             return Err(NoMemory { back: desk });
         };
         let mut counts = Vec::new(desk.alloc());
@@ -71,7 +71,7 @@ impl<K: SigningCredential, D: DeadlineRule<Credential = K>> Audit<K, D> {
         Ok(Audit {
             desk,
             counts,
-            lines,
+            orders,
         })
     }
 
@@ -81,8 +81,6 @@ impl<K: SigningCredential, D: DeadlineRule<Credential = K>> Audit<K, D> {
     /// happened. Else `Due`, and nothing changes.
     ///
     /// `OutOfMemory` is never the answer to a missed claim, and changes nothing.
-    ///
-    /// Requires a test that may be called at any reply.
     pub fn claim_by<F: Fn(&Reply<K>) -> bool>(
         &mut self,
         event: &Event<K>,
@@ -134,8 +132,6 @@ impl<K: SigningCredential, D: DeadlineRule<Credential = K>> Audit<K, D> {
 
     /// The counts of the claims that were accepted, of calls of this cache. Each stands
     /// still at the end of its type.
-    ///
-    /// Requires a cache that is there.
     pub fn counts(&self, cache: u32) -> Counts
         requires { cache < length self.now.desk.loaders }
         ensures kept { Some result ≡ slice_get self.now.counts cache }
@@ -169,8 +165,6 @@ impl<K: SigningCredential, D: DeadlineRule<Credential = K>> Audit<K, D> {
             // An event of no cache is counted nowhere.
             return Claim::Legal;
         };
-        // What `stage_of` says shows that the cache is one of the desk's, and so has counts.
-        let _placed = self.desk.stage_of(call);
         count(&mut self.counts, cache, &Reply::<K>::OutOfMemory);
         Claim::Legal
     }
@@ -193,15 +187,15 @@ impl<K: SigningCredential, D: DeadlineRule<Credential = K>> Audit<K, D> {
             let _not_now = self.desk.step(event);
             return Claim::Legal;
         };
-        let change = line_change(self.desk.stage_of(call), expected);
-        if self.lines.before_step(change, cache, call).is_err() {
+        let change = order_change(self.desk.stage_of(call), expected);
+        if self.orders.before_step(change, cache, call).is_err() {
             return Claim::OutOfMemory;
         }
         let reply = self.desk.step(event);
         if reply.is_out_of_memory() {
             return Claim::OutOfMemory;
         }
-        self.lines.after_step(change, cache, call);
+        self.orders.after_step(change, cache, call);
         count(&mut self.counts, cache, &reply);
         Claim::Legal
     }
@@ -249,10 +243,11 @@ impl<K: SigningCredential + EqualByValue, D: DeadlineRule<Credential = K>> Audit
     }
 }
 
-/// One more reply at a cache.
+/// One more reply at a cache, where there is one.
 fn count<K>(counts: &mut Vec<Counts>, cache: u32, reply: &Reply<K>)
-    requires { cache < length counts.old.items }
     ensures { counts.new.items ≡ with_changed (counted reply.now) cache counts.old.items }
 {
-    counts[cache as usize].add(reply);
+    if (cache as usize) < counts.len() {
+        counts[cache as usize].add(reply);
+    }
 }

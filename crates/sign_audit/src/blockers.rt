@@ -24,7 +24,7 @@ impl<K: SigningCredential, D: DeadlineRule<Credential = K>> Audit<K, D> {
             → calls.items ≡ blockers_of (setup_of self.now.desk) (committed_entries entries) call) }
     {
         match self.waits_at(call) {
-            Some(cache) => self.lines.at(cache).before(self.desk.alloc(), call),
+            Some(cache) => self.orders.at(cache).before(self.desk.alloc(), call),
             None => Ok(Vec::new(self.desk.alloc())),
         }
     }
@@ -36,14 +36,14 @@ impl<K: SigningCredential, D: DeadlineRule<Credential = K>> Audit<K, D> {
             → result ≡ first_of (blockers_of (setup_of self.now.desk) (committed_entries entries) call) }
     {
         let cache = self.waits_at(call)?;
-        let first = self.lines.at(cache).first()?;
+        let first = self.orders.at(cache).first()?;
         if first == call {
             return None;
         }
         Some(first)
     }
 
-    /// The cache at whose line the call stands, or will stand by its first poll.
+    /// The cache in whose order the call stands, or will stand by its first poll.
     fn waits_at(&self, call: CallId) -> Option<u32>
         ensures says { result ≡
             waits_at (find_call call self.now.desk.calls) (cache_of (setup_of self.now.desk) call) }

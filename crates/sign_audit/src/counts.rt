@@ -20,7 +20,6 @@ pub struct Counts {
 }
 
 impl Counts {
-    /// No replies.
     pub(crate) fn new() -> Counts
         ensures { result ≡ record { asks = 0; signs = 0; refused = 0; cancelled = 0; missed = 0 } }
     {
@@ -33,7 +32,6 @@ impl Counts {
         }
     }
 
-    /// One more reply.
     pub(crate) fn add<K>(&mut self, reply: &Reply<K>)
         ensures { self.new ≡ counted reply.now self.old }
     {

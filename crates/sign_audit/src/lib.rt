@@ -7,9 +7,9 @@ mod audit;
 mod blockers;
 mod claim;
 mod counts;
-mod line;
-mod line_change;
-mod lines;
+mod order_change;
+mod wait_order;
+mod wait_orders;
 
 pub use audit::Audit;
 pub use claim::Claim;

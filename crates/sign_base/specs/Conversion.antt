@@ -3,7 +3,8 @@ use Rattle.std.specs.Prelude.{◌≡◌, ℕ, List, Bool, true, false, Option, I
 use Rattle.std.specs.declared.io.ErrorKind.{ErrorKind as IoErrorKind}
 use Rattle.std.specs.declared.io.ErrorKind.TheVariants as io
 use Rattle.sign_base.specs.declared.error_kind.ErrorKind.{ErrorKind}
-use Rattle.sign_base.specs.declared.error_kind.ErrorKind.TheVariants.{PermissionDenied, ConfigInvalid, Unexpected}
+use Rattle.sign_base.specs.declared.error_kind.ErrorKind.TheVariants.{PermissionDenied, ConfigInvalid}
+use Rattle.sign_base.specs.declared.error_kind.ErrorKind.TheVariants.{Unexpected}
 use Rattle.sign_base.specs.Error.{ErrorParts, new_error}
 
 -- a new error of this kind, whatever its message

@@ -2,7 +2,9 @@
 use Rattle.std.specs.Prelude.{ℕ, List, Bool, true, false}
 use lib.Chars.{codes}
 use Rattle.sign_base.specs.declared.error_kind.ErrorKind.{ErrorKind}
-use Rattle.sign_base.specs.declared.error_kind.ErrorKind.TheVariants.{CredentialInvalid, PermissionDenied, ConfigInvalid, RequestInvalid, RateLimited, Unexpected, OutOfMemory}
+use Rattle.sign_base.specs.declared.error_kind.ErrorKind.TheVariants.{CredentialInvalid, PermissionDenied}
+use Rattle.sign_base.specs.declared.error_kind.ErrorKind.TheVariants.{ConfigInvalid, RequestInvalid}
+use Rattle.sign_base.specs.declared.error_kind.ErrorKind.TheVariants.{RateLimited, Unexpected, OutOfMemory}
 
 -- the words that a kind prints
 abbrev pub kind_text : ErrorKind → List ℕ

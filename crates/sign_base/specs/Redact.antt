@@ -1,5 +1,6 @@
 -- Secrets in print: the first and the last three bytes of one of at least twelve, or none.
-use Rattle.std.specs.Prelude.{ℕ, ◌-◌, ◌==◌, nat_le, ◌&&◌, Bool, List, ◌++◌, length, take, drop, slice_index, Option, Some, None, if◌then◌else◌}
+use Rattle.std.specs.Prelude.{ℕ, ◌-◌, ◌==◌, nat_le, ◌&&◌, Bool, List, ◌++◌, length, take}
+use Rattle.std.specs.Prelude.{drop, slice_index, Option, Some, None, if◌then◌else◌}
 use Rattle.std.specs.Fmt.{is_char_start}
 use lib.Chars.{codes}
 

@@ -3,7 +3,11 @@
 ghost use Rattle.std.specs.Prelude.{◌≡◌, ◌++◌, ◌∷◌, [], IfOk, IfErr, OnOk, OnErr, map, Some, option_map};
 ghost use Rattle.std.specs.String.{string_bytes};
 ghost use Rattle.sign_base.specs.Error.{new_error, texts_or_empty};
-ghost use Rattle.sign_base.specs.declared.error_kind.ErrorKind.TheVariants.{CredentialInvalid, PermissionDenied, ConfigInvalid, RequestInvalid, RateLimited, Unexpected, OutOfMemory};
+ghost use Rattle.sign_base.specs.declared.error_kind.ErrorKind.TheVariants.{CredentialInvalid};
+ghost use Rattle.sign_base.specs.declared.error_kind.ErrorKind.TheVariants.{PermissionDenied};
+ghost use Rattle.sign_base.specs.declared.error_kind.ErrorKind.TheVariants.{ConfigInvalid, RequestInvalid};
+ghost use Rattle.sign_base.specs.declared.error_kind.ErrorKind.TheVariants.{RateLimited, Unexpected};
+ghost use Rattle.sign_base.specs.declared.error_kind.ErrorKind.TheVariants.{OutOfMemory};
 
 use crate::{ErrorKind, NoMemory};
 use std::alloc::Global;

@@ -1,5 +1,6 @@
 //! A failed allocation, the one refusal that no argument explains.
 ghost use Rattle.std.specs.Prelude.{Some, codes};
+ghost use Rattle.std.specs.Fmt.{WritesOnOk, WritesStyledOnOk};
 
 use std::alloc::{AllocError, AllocFailed};
 use std::error::Error;
@@ -22,7 +23,10 @@ impl<B> fmt::Display for NoMemory<B> {
 impl<B> fmt::Debug for NoMemory<B> {
     ghost debug_output = { λ _. Some (codes "NoMemory(***)") };
 
-    fn fmt<W: fmt::Write>(&self, f: &mut fmt::Formatter<W>) -> fmt::Result {
+    fn fmt<W: fmt::Write>(&self, f: &mut fmt::Formatter<W>) -> fmt::Result
+        ensures writes { WritesOnOk W.write_str_gives f.old result (codes "NoMemory(***)") f.new }
+        ensures styled { WritesStyledOnOk W.write_str_gives f.old result (codes "NoMemory(***)") f.new }
+    {
         f.write_str("NoMemory(***)")
     }
 }

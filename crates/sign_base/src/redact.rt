@@ -3,12 +3,11 @@
 ghost use Rattle.std.specs.Prelude.{◌≡◌, ◌++◌, Some, codes, option_map};
 ghost use Rattle.std.specs.Fmt.{DisplaysOnOk, WritesStyledOnOk};
 ghost use Rattle.std.specs.String.{string_bytes};
-ghost use Rattle.std.specs.Str.{IsUtf8};
 ghost use Rattle.sign_base.specs.Error.{text_or_empty};
 ghost use Rattle.sign_base.specs.Redact.{redacted_text, shown_ends};
 
+use std::fmt;
 use std::marker::Model;
-use std::{fmt, str};
 
 /// What is shown of a secret: `EMPTY` where it is empty, its first and last three bytes round `***` where
 /// it has at least twelve bytes and these cuts fall between characters, and `***` alone otherwise. Of
@@ -28,19 +27,6 @@ impl<'a> Model for Redact<'a> {
     ghost Value = { List ℕ };
 
     ghost view = { λ r. r.front.now ++ (r.middle.now ++ r.back.now) };
-}
-
-impl<'a> Redact<'a> {
-    /// What is shown of a text of these bytes, `***` where they are not UTF-8.
-    pub(crate) fn of_bytes(bytes: &'a [u8]) -> Redact<'a>
-        ensures text { IsUtf8 bytes.now → result ≡ redacted_text bytes.now }
-        ensures other { (IsUtf8 bytes.now → ⊥) → result ≡ codes "***" }
-    {
-        match str::from_utf8(bytes) {
-            Ok(text) => redacted(text),
-            Err(_) => shown("", "***", ""),
-        }
-    }
 }
 
 impl<'a> From<&'a str> for Redact<'a> {

@@ -20,7 +20,7 @@ use Rattle.desk_parts.specs.Begin.{can_begin, new_record, with_begin}
 use Rattle.desk_parts.specs.Change.{one_if}
 use Rattle.desk_parts.specs.HoldProgress.{desk_lookup, desk_load, with_answer}
 use Rattle.desk_parts.specs.LiveCallView.{stored_view, find_view}
-use Rattle.desk_parts.specs.Queue.{is_held_line, line_at}
+use Rattle.desk_parts.specs.Queue.{is_held_queue, queue_at}
 use Rattle.desk_parts.specs.Tables.{find_call}
 use Rattle.desk_parts.specs.declared.call_record.Stage.{Stage}
 use Rattle.desk_parts.specs.declared.call_record.Stage.TheVariants as stage
@@ -82,8 +82,8 @@ module _ {K D : Type 0} (old : DeskState K D) where
 
     poll_plain : (policy : Policy K D) (now : ℤ) (s : Stage)
         → IsPlain view.call (poll_action policy old now view s)
-    poll_plain policy now stage.Unpolled = first_plain (is_held_line (line_at view.cache old.queues)) (desk_lookup policy old now view)
-    poll_plain policy now stage.Queued = later_plain (is_first view.call (line_at view.cache old.queues)) (desk_lookup policy old now view)
+    poll_plain policy now stage.Unpolled = first_plain (is_held_queue (queue_at view.cache old.queues)) (desk_lookup policy old now view)
+    poll_plain policy now stage.Queued = later_plain (is_first view.call (queue_at view.cache old.queues)) (desk_lookup policy old now view)
     poll_plain policy now stage.Loading = refl
     poll_plain policy now stage.Signing = refl
 

@@ -24,6 +24,7 @@ use Rattle.sign_desk.specs.IsDesk.{IsDesk}
 use Rattle.sign_desk.specs.Change.{UnchangedBy}
 use Rattle.desk_parts.proofs.IsWellFormedSetup.{set_up-cache, set_up-rule, set_up-handle}
 use Rattle.sign_desk.proofs.NewDesk.{empty, represents-empty, represents-with_cache, represents-with_rule, represents-with_handle}
+use Rattle.desk_parts.specs.declared.limits.TheConstants.{MOST_ROWS}
 
 module _ {K D : Type 0} (policy : Policy K D) where
   -- an empty desk is a desk
@@ -41,7 +42,7 @@ module _ {K D : Type 0} (policy : Policy K D) where
 
   -- one more cache leaves a desk
   pub desk-with_cache : (old : DeskState K D) → IsDesk policy old → old.started ≡ false → (loader : Loader)
-      → length old.loaders < 4294967295 → IsDesk policy (with_cache loader old)
+      → length old.loaders < MOST_ROWS → IsDesk policy (with_cache loader old)
   desk-with_cache old d h loader few = record {
     set_up = set_up-cache (setup_of old) d.set_up loader few;
     entries = [];
@@ -51,7 +52,7 @@ module _ {K D : Type 0} (policy : Policy K D) where
 
   -- one more rule leaves a desk
   pub desk-with_rule : (old : DeskState K D) → IsDesk policy old → old.started ≡ false → (rule : D)
-      → length old.rules < 4294967295 → IsDesk policy (with_rule rule old)
+      → length old.rules < MOST_ROWS → IsDesk policy (with_rule rule old)
   desk-with_rule old d h rule few = record {
     set_up = set_up-rule (setup_of old) d.set_up rule few;
     entries = [];
@@ -61,7 +62,7 @@ module _ {K D : Type 0} (policy : Policy K D) where
 
   -- one more handle leaves a desk
   pub desk-with_handle : (old : DeskState K D) → IsDesk policy old → old.started ≡ false → (cache rule : ℕ)
-      → length old.handles < 4294967295 → cache < length old.loaders → rule < length old.rules
+      → length old.handles < MOST_ROWS → cache < length old.loaders → rule < length old.rules
       → IsDesk policy (with_handle cache rule old)
   desk-with_handle old d h cache rule few c r = record {
     set_up = set_up-handle (setup_of old) d.set_up (record { cache = cache; rule = rule }) few c r;
@@ -112,7 +113,8 @@ module _ {K D : Type 0} (policy : Policy K D) where
       let either : (is_begun reply || is_not_now reply) ≡ true = ap (λ (r : Reply K). is_begun r || is_not_now r) l ∙ first_expected setup event in
       sym (or_false (is_begun reply)) ∙ ap (λ v. is_begun reply || v) (sym n) ∙ either
 
-  module _ (old new : DeskState K D) (event : Event K) (reply : Reply K) (d : IsDesk policy old) (setup : setup_of new ≡ setup_of old)
+  module _ (old new : DeskState K D) (event : Event K) (reply : Reply K) (d : IsDesk policy old)
+      (setup : setup_of new ≡ setup_of old)
       (next : Represents policy new (d.entries ++ record { event = event; reply = reply } ∷ [])) where
     committed_begins : is_out_of_memory reply ≡ false → is_not_now reply ≡ false → new.started ≡ false → ⊥
     committed_begins m n h =

@@ -19,7 +19,7 @@ use Rattle.sign_base.proofs.Truth.{number_refl}
 use Rattle.sequential_signer.proofs.CallInvariant.{CallInvariant, unpolled_call, queued_call, loading_call, signing_call, begin-own}
 use Rattle.sequential_signer.proofs.CallInvariantSteps.{stands}
 use Rattle.sequential_signer.proofs.Queue.{after_first}
-use Rattle.desk_parts.specs.Queue.{next_holder, queue_line, line_at}
+use Rattle.desk_parts.specs.Queue.{next_holder, calls_of_queue, queue_at}
 use Rattle.sign_desk.specs.TranscriptQueue.{queue_of}
 use Rattle.sign_desk.specs.DeskState.{DeskState, live_view, Represents}
 use Rattle.desk_parts.specs.Tables.{setup_of, find_call, phase_of_stage}
@@ -42,7 +42,8 @@ pub next_holder-is : (call : CallId) (xs : List CallId) → first_of (after_firs
 next_holder-is call [] = refl
 next_holder-is call (x ∷ rest) = elim (same_call call x) as (λ v. first_of (cond v rest []) ≡ cond v (first_of rest) None) [ true ↦ refl | false ↦ refl ]
 
-module _ {K D : Type 0} (policy : Policy K D) (old : DeskState K D) (entries : List (Entry K)) (stood : Represents policy old entries) where
+module _ {K D : Type 0} (policy : Policy K D) (old : DeskState K D) (entries : List (Entry K))
+    (stood : Represents policy old entries) where
   -- a call without a record is not live
   pub not_live : (call : CallId) (i : ℕ) → cache_of (setup_of old) call ≡ Some i
       → find_call call old.calls ≡ None → is_live (phase_of (committed_entries entries) call) ≡ false
@@ -96,8 +97,8 @@ module _ {K D : Type 0} (policy : Policy K D) (old : DeskState K D) (entries : L
     cached = stood.caches h.cache ∙ ap (option_map (λ _. sequential_cache policy (setup_of old) (committed_entries entries) h.cache)) lives.loads
 
     -- the line at its cache
-    pub line-is : line_at h.cache old.queues ≡ open_calls (setup_of old) (committed_entries entries) h.cache
-    line-is = ap queue_line (stood.queues h.cache ∙ ap (option_map (λ _. queue_of (setup_of old) (committed_entries entries) h.cache)) lives.loads)
+    pub line-is : queue_at h.cache old.queues ≡ open_calls (setup_of old) (committed_entries entries) h.cache
+    line-is = ap calls_of_queue (stood.queues h.cache ∙ ap (option_map (λ _. queue_of (setup_of old) (committed_entries entries) h.cache)) lives.loads)
 
     -- what the transcript says of it
     pub says : RecordSays (live_view r) (phase_of (committed_entries entries) call)

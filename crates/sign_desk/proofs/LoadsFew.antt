@@ -8,7 +8,7 @@ use Rattle.sequential_signer.specs.SequentialCall.{HoldInput, Asking, Over, sequ
 use Rattle.sequential_signer.specs.Setup.{Setup, cache_of, rule_of}
 use Rattle.sign_base.specs.Calls.{same_call}
 use Rattle.sequential_signer.specs.Transcript.{call_of, entries_of}
-use Rattle.sequential_signer.specs.Phase.{Phase, Unknown, Unpolled, Queued, Loading, Signing, Ended, phase_of, is_waiting, is_loading, is_waiting_poll, is_mark, phase_by, phase_in}
+use Rattle.sequential_signer.specs.Phase.{Phase, Unknown, Unpolled, Queued, Loading, Signing, Ended, phase_of, is_waiting, is_loading, is_waiting_poll, moves_call, phase_by, phase_in}
 use Rattle.sequential_signer.specs.Hold.{BeginInput, begin_of, answers_of, answers_in, turn_moment, input_by}
 use Rattle.sequential_signer.specs.SequentialCache.{sequential_cache}
 use Rattle.sequential_signer.specs.declared.event.Answer.{Answer}
@@ -81,7 +81,7 @@ module _ {K D : Type 0} (policy : Policy K D) (setup : Setup D) where
 
       -- the reply ends the load, or comes before it
       marked : (event : Event K) (reply : Reply K) → same_call call (call_of event) ≡ true
-          → is_mark reply ≡ true
+          → moves_call reply ≡ true
           → is_loading
           (phase_by
           (list_any is_waiting_poll (entries_of entries

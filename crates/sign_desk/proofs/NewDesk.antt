@@ -34,7 +34,7 @@ module _ {K D : Type 0} (policy : Policy K D) where
   no_cache setup i = refl
 
   no_queue : (setup : Setup D) (i : ℕ)
-      → queue_of setup (committed_entries {K = K} []) i ≡ record { line = []; unpolled = 0 }
+      → queue_of setup (committed_entries {K = K} []) i ≡ record { line = []; reserved = 0 }
   unfolding committed_entries poll_order begun_calls
   no_queue setup i = refl
 
@@ -72,7 +72,7 @@ module _ {K D : Type 0} (policy : Policy K D) where
 
     queues_empty : (i : ℕ)
         → slice_get old.queues i
-        ≡ option_map (λ _. record { line = []; unpolled = 0 }) (slice_get old.loaders i)
+        ≡ option_map (λ _. record { line = []; reserved = 0 }) (slice_get old.loaders i)
     queues_empty i = stood.queues i ∙ ap (λ q. option_map (λ _. q) (slice_get old.loaders i)) (no_queue (setup_of old) i)
 
     greatest_empty : (h : ℕ) → slice_get old.greatest h ≡ option_map (λ _. None) (slice_get old.handles h)
@@ -83,7 +83,7 @@ module _ {K D : Type 0} (policy : Policy K D) where
     represents-with_cache loader = record {
       legal = legal_empty (setup_of (with_cache loader old));
       caches = λ i. rw (no_cache (setup_of (with_cache loader old)) i) (both-more None old.caches old.loaders loader caches_empty i);
-      queues = λ i. rw (no_queue (setup_of (with_cache loader old)) i) (both-more (let q : Queue = record { line = []; unpolled = 0 } in q) old.queues old.loaders loader queues_empty i);
+      queues = λ i. rw (no_queue (setup_of (with_cache loader old)) i) (both-more (let q : Queue = record { line = []; reserved = 0 } in q) old.queues old.loaders loader queues_empty i);
       greatest = stood.greatest;
       started = stood.started;
       calls = stood.calls;

@@ -29,7 +29,8 @@ module _ {K D : Type 0} (policy : Policy K D) (old : DeskState K D) (d : IsDesk 
   pub desk-numbered : AreNumbered old
   desk-numbered handle there = numbered_by (slice_get old.handles handle) _ (slice_get old.greatest handle) (d.represents.greatest handle) there
 
-  module _ (event : Event K) (reply : Reply K) (new : DeskState K D) (done : Transition policy event old reply new) where
+  module _ (event : Event K) (reply : Reply K) (new : DeskState K D)
+      (done : Transition policy event old reply new) where
     refines : (entries : List (Entry K)) → Represents policy old entries
         → Refines policy old entries (record { event = event; reply = reply }) new
     refines entries stood = refines-step policy old entries stood d.set_up reply new event done

@@ -146,7 +146,8 @@ module _ {K D : Type 0} (policy : Policy K D) (setup : Setup D) where
   unfolding begun_calls
   none_begun c h = absurd (cc)
 
-  module _ (entries : List (Entry K)) (c : CallId) (before : list_any (same_call c) (begun_calls entries) ≡ true → is_some (cache_of setup c) ≡ true) where
+  module _ (entries : List (Entry K)) (c : CallId)
+      (before : list_any (same_call c) (begun_calls entries) ≡ true → is_some (cache_of setup c) ≡ true) where
     same : (event : Event K) (reply : Reply K) → is_begun reply ≡ false
         → list_any (same_call c) (begun_calls (entries ++ record { event = event; reply = reply } ∷ []))
         ≡ true
@@ -204,7 +205,8 @@ mapped_some : {A B : Type 0} (f : A → B) (o : Option A) → is_some (option_ma
 mapped_some f None h = h
 mapped_some f (Some x) h = refl
 
-module _ {K D : Type 0} (policy : Policy K D) (old : DeskState K D) (entries : List (Entry K)) (stood : Represents policy old entries) where
+module _ {K D : Type 0} (policy : Policy K D) (old : DeskState K D) (entries : List (Entry K))
+    (stood : Represents policy old entries) where
   abbrev setup : Setup D
   setup = setup_of old
 

@@ -21,8 +21,8 @@ use Rattle.desk_parts.specs.Queue.{Queue, with_last, without_room, without_call,
 use Rattle.sign_desk.specs.TranscriptQueue.{is_unpolled, unpolled_calls, queue_of}
 use Rattle.sequential_signer.proofs.BegunCalls.{filter-agree, begun_once, passing-same, passing-fewer, passing-more, passing-no_more}
 
-queue_is : (q : Queue) (line : List CallId) (unpolled : ℕ) → line ≡ q.line → unpolled ≡ q.unpolled
-    → record { line = line; unpolled = unpolled } ≡ q
+queue_is : (q : Queue) (line : List CallId) (unpolled : ℕ) → line ≡ q.line → unpolled ≡ q.reserved
+    → record { line = line; reserved = unpolled } ≡ q
 queue_is q line unpolled h k = rw (h, k) refl
 
 failing-absent : (x : CallId) (q : CallId → Bool) (xs : List CallId) → q x ≡ false
@@ -39,7 +39,8 @@ failing-absent x q (y ∷ ys) h =
     by_place true s e later = let bad : q x ≡ true = ap q (same_call-eq x y s) ∙ e in absurd (cc)
     by_place false s e later = ap (λ v. v || list_any (same_call x) (filter q ys)) s ∙ later
 
-module _ {K D : Type 0} (policy : Policy K D) (setup : Setup D) (entries : List (Entry K)) (run : IsRun policy setup entries) (e : Entry K) where
+module _ {K D : Type 0} (policy : Policy K D) (setup : Setup D) (entries : List (Entry K))
+    (run : IsRun policy setup entries) (e : Entry K) where
   -- the line where no hold ends
   open-same : ends_hold e.reply ≡ false → (j : ℕ)
       → poll_order setup (entries ++ e ∷ []) j ≡ poll_order setup entries j

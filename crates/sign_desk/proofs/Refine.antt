@@ -156,7 +156,8 @@ module _ {K D : Type 0} (policy : Policy K D) where
       cached_after event reply step k = cached_same event reply step refl k
 
     -- an entry with the expected reply, where what is kept follows it
-    module _ (e : Entry K) (expected : e.reply ≡ expected_reply policy setup before e.event) (committed : is_out_of_memory e.reply ≡ false) where
+    module _ (e : Entry K) (expected : e.reply ≡ expected_reply policy setup before e.event)
+        (committed : is_out_of_memory e.reply ≡ false) where
       represents-more : (base new : DeskState K D) → Follows old entries base e → (r : Option CallRecord)
           → ChangesOnlyCall base (call_of e.event) r new
           → option_map live_view r ≡ live_call (after e) (call_of e.event)

@@ -129,7 +129,8 @@ module _ {K D : Type 0} (policy : Policy K D) where
         slice_get-set_other old.greatest call.handle h (Some call.number) (other_number call.handle h s) ∙ stood.greatest h ∙ ap (λ c. option_map (λ _. c) (slice_get old.handles h)) (sym same)
 
     -- a begin that fits
-    module _ (call : CallId) (head : Head) (expires_in : Option Duration) (fits : begin_fits setup before call ≡ true) (i : ℕ) (at : cache_of setup call ≡ Some i) where
+    module _ (call : CallId) (head : Head) (expires_in : Option Duration)
+        (fits : begin_fits setup before call ≡ true) (i : ℕ) (at : cache_of setup call ≡ Some i) where
       abbrev begins : Entry K
       begins = record { event = Begin call head expires_in; reply = Begun }
 

@@ -44,7 +44,8 @@ use Rattle.sign_desk.proofs.RefineLive.{refines-end, waited_leaves, waited_wakes
 use Rattle.desk_parts.proofs.LiveRecord.{Lives}
 use Rattle.sign_desk.proofs.LiveRecord.{next_holder-is, at, says, invariant, phase-is, misfit}
 
-module _ {K D : Type 0} (policy : Policy K D) (old : DeskState K D) (entries : List (Entry K)) (stood : Represents policy old entries)
+module _ {K D : Type 0} (policy : Policy K D) (old : DeskState K D) (entries : List (Entry K))
+    (stood : Represents policy old entries)
     (call : CallId) (h : Handle) (r : CallRecord) (lives : Lives old call h r) where
   abbrev setup : Setup D
   setup = setup_of old

@@ -7,7 +7,7 @@ use Rattle.sign_base.specs.declared.call_id.CallId.{CallId}
 use Rattle.sequential_signer.specs.Policy.{Policy}
 use Rattle.sequential_signer.specs.Setup.{Setup, Handle}
 use Rattle.sequential_signer.specs.Transcript.{committed_entries, call_of, is_out_of_memory, entries_of}
-use Rattle.sequential_signer.specs.Phase.{Ended, phase_of, is_live, is_begun, is_not_now, is_mark, phase_by, is_waiting_poll}
+use Rattle.sequential_signer.specs.Phase.{Ended, phase_of, is_live, is_begun, is_not_now, moves_call, phase_by, is_waiting_poll}
 use Rattle.sequential_signer.specs.Hold.{answers_of}
 use Rattle.sequential_signer.specs.ExpectedReply.{expected_reply, hold_reply}
 use Rattle.sequential_signer.specs.LiveCall.{live_by}
@@ -49,7 +49,8 @@ use Rattle.sign_desk.proofs.QueueLaw.{queue-stays, queue-without_call}
 abbrev pub viewed : CallId → Handle → CallRecord → Stage → ℕ → LiveCallView
 viewed call h r stage answers = record (stored_view call h r) { stage = stage; answers = answers }
 
-module _ {K D : Type 0} (policy : Policy K D) (old : DeskState K D) (entries : List (Entry K)) (stood : Represents policy old entries)
+module _ {K D : Type 0} (policy : Policy K D) (old : DeskState K D) (entries : List (Entry K))
+    (stood : Represents policy old entries)
     (event : Event K) (h : Handle) (r : CallRecord) (lives : Lives old (call_of event) h r) where
   abbrev setup : Setup D
   setup = setup_of old
@@ -126,7 +127,7 @@ module _ {K D : Type 0} (policy : Policy K D) (old : DeskState K D) (entries : L
     pub allocating : (credential : K) (cached : Option K) → progress ≡ Over (HandOut credential) cached
         → IsTrue (allocates policy setup before event)
 
-  phase_after : (reply : Reply K) → is_mark reply ≡ true
+  phase_after : (reply : Reply K) → moves_call reply ≡ true
       → phase_of (after reply) (call_of event)
       ≡ phase_by
       (list_any is_waiting_poll (entries_of before (call_of event)) || is_waiting_poll (entry reply)) reply
@@ -152,7 +153,9 @@ module _ {K D : Type 0} (policy : Policy K D) (old : DeskState K D) (entries : L
       (law.ended_desk cause) (phase_after (Refused cause hold.wake) refl) reply new m
 
   -- the hold of a call that waited: where the order of first polls stays, and the call was polled before
-  module _ (order : (reply : Reply K) → is_not_now reply ≡ false → poll_order setup (after reply) h.cache ≡ poll_order setup before h.cache) (polled : is_unpolled (phase_of before (call_of event)) ≡ false) where
+  module _ (order : (reply : Reply K) → is_not_now reply ≡ false
+      → poll_order setup (after reply) h.cache ≡ poll_order setup before h.cache)
+      (polled : is_unpolled (phase_of before (call_of event)) ≡ false) where
     abbrev view : LiveCallView
     view = stored_view (call_of event) h r
 

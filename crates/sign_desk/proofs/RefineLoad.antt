@@ -10,7 +10,7 @@ use Rattle.sequential_signer.specs.Lookup.{Outcome, HandOut, Refuse, cache_looku
 use Rattle.sequential_signer.specs.SequentialCall.{HoldInput, Progress, Asking, Over, found_progress, load_progress, sequential_call}
 use Rattle.sequential_signer.specs.Setup.{Setup, Handle, rule_of}
 use Rattle.sequential_signer.specs.Transcript.{committed_entries, entries_of}
-use Rattle.sequential_signer.specs.Phase.{Loading, phase_of, is_loading, is_waiting_poll, is_mark, is_not_now, phase_by}
+use Rattle.sequential_signer.specs.Phase.{Loading, phase_of, is_loading, is_waiting_poll, moves_call, is_not_now, phase_by}
 use Rattle.sequential_signer.specs.Turn.{poll_order}
 use Rattle.sequential_signer.specs.Hold.{begin_of, answers_of, answers_in, turn_moment, input_by, hold_input}
 use Rattle.sequential_signer.specs.SequentialCache.{sequential_cache}
@@ -31,7 +31,7 @@ use Rattle.sequential_signer.proofs.Run.{IsRun, legal_run, legal_entry_step}
 use Rattle.sequential_signer.proofs.CallInvariant.{CallInvariant, Loads, loading_call, phase-own_mark}
 use Rattle.sequential_signer.proofs.FoundCredential.{call_loads, found_is_handed_out}
 use Rattle.sequential_signer.proofs.LoadLaw.{LoadsOn, loads_on}
-use Rattle.desk_parts.specs.Queue.{next_holder, line_at}
+use Rattle.desk_parts.specs.Queue.{next_holder, queue_at}
 use Rattle.sign_desk.specs.TranscriptQueue.{is_unpolled}
 use Rattle.sign_desk.specs.DeskState.{DeskState, Represents}
 use Rattle.desk_parts.specs.Tables.{setup_of, phase_of_stage}
@@ -78,8 +78,10 @@ module _ {K : Type 0} where
   action-forgets hold view (Some (Over (HandOut c) left)) = refl
   action-forgets hold view (Some (Over (Refuse cause) left)) = refl
 
-module _ {K D : Type 0} (policy : Policy K D) (old : DeskState K D) (entries : List (Entry K)) (stood : Represents policy old entries)
-    (call : CallId) (h : Handle) (r : CallRecord) (lives : Lives old call h r) (now : ℤ) (answer : Answer K) where
+module _ {K D : Type 0} (policy : Policy K D) (old : DeskState K D) (entries : List (Entry K))
+    (stood : Represents policy old entries)
+    (call : CallId) (h : Handle) (r : CallRecord) (lives : Lives old call h r)
+    (now : ℤ) (answer : Answer K) where
   abbrev setup : Setup D
   setup = setup_of old
 
@@ -177,7 +179,7 @@ module _ {K D : Type 0} (policy : Policy K D) (old : DeskState K D) (entries : L
         ≡ expected_reply policy setup before (Provided call now answer)
     expected = ap (hold_reply setup before h.cache (Provided call now answer)) (sym (progress_by (slice_get old.loaders h.cache) lives.loads _ (inputs (answers_of before call ++ (answer, now) ∷ [])))) ∙ expected_load
 
-    phase_after : (reply : Reply K) → is_mark reply ≡ true
+    phase_after : (reply : Reply K) → moves_call reply ≡ true
         → phase_of (after reply) call
         ≡ phase_by (list_any is_waiting_poll (entries_of before call) || is_waiting_poll (entry reply)) reply
     phase_after reply m = phase-own_mark setup before h.cache (entry reply) call (same_call-refl call) m
@@ -218,7 +220,7 @@ module _ {K D : Type 0} (policy : Policy K D) (old : DeskState K D) (entries : L
       answered = answered;
       asking_desk = λ k. waited_asks policy old entries stood (Provided call now answer) h r lives order was_polled k (asks answer k);
       signing_desk = λ c left e. waited_leaves policy old entries stood (Provided call now answer) h r lives order was_polled (Sign c _) refl refl refl (ap is_unpolled (phase_after (Sign c _) refl)) (slice_set old.caches h.cache (Some c))
-          (subst (λ (a : Answer K). CachesAfter (Provided call now a) (Sign c (next_holder call (line_at h.cache old.queues))) old ((loading_hold old view).signing_desk c)) (sym (found c left e)) (stores c (next_holder call (line_at h.cache old.queues))));
+          (subst (λ (a : Answer K). CachesAfter (Provided call now a) (Sign c (next_holder call (queue_at h.cache old.queues))) old ((loading_hold old view).signing_desk c)) (sym (found c left e)) (stores c (next_holder call (queue_at h.cache old.queues))));
       ended_desk = λ cause. waited_leaves policy old entries stood (Provided call now answer) h r lives order was_polled (Refused cause _) refl refl refl (ap is_unpolled (phase_after (Refused cause _) refl)) old.caches
           (caches_after-same (Provided call now answer) (Refused cause _) old _ refl refl);
       allocating = λ c left e. rw (found c left e, was_loading) refl;

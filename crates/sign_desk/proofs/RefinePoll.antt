@@ -8,7 +8,7 @@ use Rattle.sequential_signer.specs.Lookup.{HandOut}
 use Rattle.sequential_signer.specs.SequentialCall.{Progress, Over, sequential_call}
 use Rattle.sequential_signer.specs.Setup.{Setup, Handle, rule_of}
 use Rattle.sequential_signer.specs.Transcript.{committed_entries, entries_of}
-use Rattle.sequential_signer.specs.Phase.{Phase, Unpolled, Queued, Loading, Signing, phase_of, is_live, is_begun, is_waiting, is_waiting_poll, is_mark, is_not_now, phase_by}
+use Rattle.sequential_signer.specs.Phase.{Phase, Unpolled, Queued, Loading, Signing, phase_of, is_live, is_begun, is_waiting, is_waiting_poll, moves_call, is_not_now, phase_by}
 use Rattle.sequential_signer.specs.Turn.{ends_hold, has_turn, is_poll_at, poll_order, open_calls}
 use Rattle.sequential_signer.specs.Hold.{begin_of, answers_of, input_by}
 use Rattle.sequential_signer.specs.SequentialCache.{sequential_cache}
@@ -27,7 +27,7 @@ use Rattle.sequential_signer.proofs.CallInvariant.{CallInvariant, Waits, unpolle
 use Rattle.sequential_signer.proofs.CallInvariantSteps.{pending_phase}
 use Rattle.sequential_signer.proofs.Queue.{has_nobody, has_turn-polled, has_turn-unpolled}
 use Rattle.sequential_signer.proofs.WakeLaw.{wakes-nobody}
-use Rattle.desk_parts.specs.Queue.{is_held_line, with_last, without_room, line_at}
+use Rattle.desk_parts.specs.Queue.{is_held_queue, with_last, without_room, queue_at}
 use Rattle.sign_desk.specs.TranscriptQueue.{is_unpolled}
 use Rattle.sign_desk.specs.DeskState.{DeskState, live_view, Represents}
 use Rattle.desk_parts.specs.Tables.{setup_of, phase_of_stage}
@@ -49,17 +49,18 @@ use Rattle.sign_desk.proofs.RefineLive.{refines-live, HoldLaw, refines-hold, wai
 use Rattle.desk_parts.proofs.LiveRecord.{Lives}
 use Rattle.sign_desk.proofs.LiveRecord.{at, rule-is, cached, line-is, says, invariant, phase-is, here, own-begin}
 
-held-nobody : (xs : List CallId) → is_held_line xs ≡ false → xs ≡ []
+held-nobody : (xs : List CallId) → is_held_queue xs ≡ false → xs ≡ []
 held-nobody [] h = refl
 held-nobody (x ∷ xs) h = cc
 
-nobody-held : (xs : List CallId) (b : Bool) → is_held_line xs ≡ b → has_nobody xs ≡ not b
+nobody-held : (xs : List CallId) (b : Bool) → is_held_queue xs ≡ b → has_nobody xs ≡ not b
 nobody-held [] true h = cc
 nobody-held [] false h = refl
 nobody-held (x ∷ xs) true h = refl
 nobody-held (x ∷ xs) false h = cc
 
-module _ {K D : Type 0} (policy : Policy K D) (old : DeskState K D) (entries : List (Entry K)) (stood : Represents policy old entries)
+module _ {K D : Type 0} (policy : Policy K D) (old : DeskState K D) (entries : List (Entry K))
+    (stood : Represents policy old entries)
     (call : CallId) (h : Handle) (r : CallRecord) (lives : Lives old call h r) (now : ℤ) where
   abbrev setup : Setup D
   setup = setup_of old
@@ -116,7 +117,7 @@ module _ {K D : Type 0} (policy : Policy K D) (old : DeskState K D) (entries : L
   poll_at : (reply : Reply K) → is_not_now reply ≡ false → is_poll_at setup h.cache (entry reply) ≡ true
   poll_at reply n = rw (n, here policy old entries stood call h r lives) refl
 
-  phase_after : (reply : Reply K) → is_mark reply ≡ true
+  phase_after : (reply : Reply K) → moves_call reply ≡ true
       → phase_of (after reply) call
       ≡ phase_by (list_any is_waiting_poll (entries_of before call) || is_waiting_poll (entry reply)) reply
   phase_after reply m = phase-own_mark setup before h.cache (entry reply) call (same_call-refl call) m
@@ -158,7 +159,8 @@ module _ {K D : Type 0} (policy : Policy K D) (old : DeskState K D) (entries : L
         let signs : Sign c (call_to_wake setup before h.cache (entry (Sign c None))) ≡ expected_reply policy setup before (Poll call now) = ap (λ (p : Progress K). hold_reply setup before h.cache (Poll call now) (Some p)) (sym e) ∙ expected_at_turn turn in
         rw ((says policy old entries stood call h r lives).live, ← signs) refl
 
-    module _ (unpolled : phase_of_stage r.stage ≡ Unpolled) (first : is_polled setup before h.cache call ≡ false) where
+    module _ (unpolled : phase_of_stage r.stage ≡ Unpolled)
+        (first : is_polled setup before h.cache call ≡ false) where
       was_unpolled : is_unpolled (phase_of before call) ≡ true
       was_unpolled = ap is_unpolled (phase-is policy old entries stood call h r lives Unpolled unpolled)
 
@@ -169,7 +171,7 @@ module _ {K D : Type 0} (policy : Policy K D) (old : DeskState K D) (entries : L
           follows-changed policy old entries stood (entry reply) h.cache (with_last call) old.caches (at policy old entries stood call h r lives) b refl
           (queue-with_last policy setup before ran (entry reply) h.cache (at policy old entries stood call h r lives) b ends (poll_at reply n) first w.unfinished w.begun was_unpolled f)
 
-      passes : is_held_line (open_calls setup before h.cache) ≡ false → (reply : Reply K)
+      passes : is_held_queue (open_calls setup before h.cache) ≡ false → (reply : Reply K)
           → is_not_now reply ≡ false → is_begun reply ≡ false → ends_hold reply ≡ true
           → is_unpolled (phase_of (after reply) call) ≡ false
           → Follows policy old entries (with_queue without_room h.cache old) (entry reply)
@@ -177,7 +179,7 @@ module _ {K D : Type 0} (policy : Policy K D) (old : DeskState K D) (entries : L
           follows-changed policy old entries stood (entry reply) h.cache without_room old.caches (at policy old entries stood call h r lives) b refl
           (queue-without_room policy setup before ran (entry reply) h.cache (at policy old entries stood call h r lives) b ends (poll_at reply n) first (held-nobody (open_calls setup before h.cache) free) w.begun was_unpolled f)
 
-      first_law : is_held_line (open_calls setup before h.cache) ≡ false
+      first_law : is_held_queue (open_calls setup before h.cache) ≡ false
           → HoldLaw policy old entries stood (Poll call now) h r lives (first_hold old view) r.answers
           progress
       first_law free =
@@ -192,19 +194,20 @@ module _ {K D : Type 0} (policy : Policy K D) (old : DeskState K D) (entries : L
             allocating = allocating turn;
           }
 
-      refines-first : (held : Bool) → is_held_line (line_at h.cache old.queues) ≡ held
+      refines-first : (held : Bool) → is_held_queue (queue_at h.cache old.queues) ≡ held
           → (reply : Reply K) (new : DeskState K D)
           → Performs (first_poll_action old view held (Some progress)) call old reply new
           → Refines policy old entries (entry reply) new
       refines-first true held reply new m =
-          let turn : has_turn setup before h.cache call ≡ false = has_turn-unpolled setup before h.cache call first ∙ nobody-held (open_calls setup before h.cache) true (ap is_held_line (sym (line-is policy old entries stood call h r lives)) ∙ held) in
+          let turn : has_turn setup before h.cache call ≡ false = has_turn-unpolled setup before h.cache call first ∙ nobody-held (open_calls setup before h.cache) true (ap is_held_queue (sym (line-is policy old entries stood call h r lives)) ∙ held) in
           refines-live policy old entries stood (Poll call now) h r lives (with_queue (with_last call) h.cache old) stage.Queued r.answers Pending
           (record { expected = expected_waits (says policy old entries stood call h r lives).live waiting turn; committed = refl; fits = refl; no_begin = refl })
           (enters Pending refl refl refl (ap is_unpolled (phase_pending Unpolled unpolled))) (phase_pending Unpolled unpolled) (answered Pending) reply new m
       refines-first false held reply new m =
-          refines-hold policy old entries stood (Poll call now) h r lives (first_hold old view) r.answers progress (first_law (ap is_held_line (sym (line-is policy old entries stood call h r lives)) ∙ held)) reply new m
+          refines-hold policy old entries stood (Poll call now) h r lives (first_hold old view) r.answers progress (first_law (ap is_held_queue (sym (line-is policy old entries stood call h r lives)) ∙ held)) reply new m
 
-    module _ (queued : phase_of_stage r.stage ≡ Queued) (polled : is_polled setup before h.cache call ≡ true) where
+    module _ (queued : phase_of_stage r.stage ≡ Queued)
+        (polled : is_polled setup before h.cache call ≡ true) where
       was_polled : is_unpolled (phase_of before call) ≡ false
       was_polled = ap is_unpolled (phase-is policy old entries stood call h r lives Queued queued)
 
@@ -225,7 +228,7 @@ module _ {K D : Type 0} (policy : Policy K D) (old : DeskState K D) (entries : L
         allocating = allocating turn;
       }
 
-      refines-later : (holds : Bool) → is_first call (line_at h.cache old.queues) ≡ holds
+      refines-later : (holds : Bool) → is_first call (queue_at h.cache old.queues) ≡ holds
           → (reply : Reply K) (new : DeskState K D)
           → Performs (later_poll_action old view holds (Some progress)) call old reply new
           → Refines policy old entries (entry reply) new
@@ -246,14 +249,14 @@ module _ {K D : Type 0} (policy : Policy K D) (old : DeskState K D) (entries : L
       by_phase : CallInvariant setup before h.cache call Unpolled
           → Refines policy old entries (entry reply) new
       by_phase (unpolled_call w _ first) =
-          refines-first w (ap is_waiting (phase-is policy old entries stood call h r lives Unpolled (ap phase_of_stage e))) (ap phase_of_stage e) first (is_held_line (line_at h.cache old.queues)) refl reply new
-          (subst (λ (o : Option (Progress K)). Performs (first_poll_action old view (is_held_line (line_at h.cache old.queues)) o) call old reply new) looked m)
+          refines-first w (ap is_waiting (phase-is policy old entries stood call h r lives Unpolled (ap phase_of_stage e))) (ap phase_of_stage e) first (is_held_queue (queue_at h.cache old.queues)) refl reply new
+          (subst (λ (o : Option (Progress K)). Performs (first_poll_action old view (is_held_queue (queue_at h.cache old.queues)) o) call old reply new) looked m)
   refines-poll stage.Queued e reply new m = by_phase (invariant policy old entries stood call h r lives Queued (ap phase_of_stage e))
     where
       by_phase : CallInvariant setup before h.cache call Queued → Refines policy old entries (entry reply) new
       by_phase (queued_call w polled) =
-          refines-later w (ap is_waiting (phase-is policy old entries stood call h r lives Queued (ap phase_of_stage e))) (ap phase_of_stage e) polled (is_first call (line_at h.cache old.queues)) refl reply new
-          (subst (λ (o : Option (Progress K)). Performs (later_poll_action old view (is_first call (line_at h.cache old.queues)) o) call old reply new) looked m)
+          refines-later w (ap is_waiting (phase-is policy old entries stood call h r lives Queued (ap phase_of_stage e))) (ap phase_of_stage e) polled (is_first call (queue_at h.cache old.queues)) refl reply new
+          (subst (λ (o : Option (Progress K)). Performs (later_poll_action old view (is_first call (queue_at h.cache old.queues)) o) call old reply new) looked m)
   refines-poll stage.Loading e reply new m = rw (m.0, m.1) (by_phase (invariant policy old entries stood call h r lives Loading (ap phase_of_stage e)))
     where
       by_phase : CallInvariant setup before h.cache call Loading

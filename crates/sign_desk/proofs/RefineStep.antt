@@ -31,7 +31,8 @@ use Rattle.sign_desk.proofs.RefineLoad.{refines-provided}
 use Rattle.sign_desk.proofs.RefineEnd.{refines-signed, refines-cancel}
 
 module _ {K D : Type 0} (policy : Policy K D) where
-  module _ (old : DeskState K D) (entries : List (Entry K)) (stood : Represents policy old entries) (set_up : IsWellFormedSetup (setup_of old)) where
+  module _ (old : DeskState K D) (entries : List (Entry K)) (stood : Represents policy old entries)
+      (set_up : IsWellFormedSetup (setup_of old)) where
     -- events of a call, but for a begin, with what is done at them where the call is live
     data IsOfCall : Event K → (LiveCallView → Action K D) → Type 0 where
       poll : (call : CallId) (now : ℤ)

@@ -73,7 +73,8 @@ unpolled_live true Signing h = cc
 unpolled_live true Ended h = cc
 unpolled_live false p h = cc
 
-module _ {K D : Type 0} (policy : Policy K D) (old : DeskState K D) (entries : List (Entry K)) (stood : Represents policy old entries) (set_up : IsWellFormedSetup (setup_of old)) where
+module _ {K D : Type 0} (policy : Policy K D) (old : DeskState K D) (entries : List (Entry K))
+    (stood : Represents policy old entries) (set_up : IsWellFormedSetup (setup_of old)) where
   abbrev setup : Setup D
   setup = setup_of old
 
@@ -104,7 +105,7 @@ module _ {K D : Type 0} (policy : Policy K D) (old : DeskState K D) (entries : L
       by_handle None k = tt
       by_handle (Some x) k = has_places x.cache x.rule k.0 k.1
 
-  room : (i : ℕ) → IfSome (slice_get old.queues i) (λ (queue : Queue). queue.unpolled ≤ length old.calls)
+  room : (i : ℕ) → IfSome (slice_get old.queues i) (λ (queue : Queue). queue.reserved ≤ length old.calls)
   room i = by_queue (slice_get old.loaders i) (slice_get old.queues i) (stood.queues i)
     where
       most : length (unpolled_calls setup before i) ≤ length old.calls
@@ -113,13 +114,15 @@ module _ {K D : Type 0} (policy : Policy K D) (old : DeskState K D) (entries : L
           rw (stood.live) k
 
       by_queue : (l : Option Loader) (o : Option Queue) → o ≡ option_map (λ _. queue_of setup before i) l
-          → IfSome o (λ (queue : Queue). queue.unpolled ≤ length old.calls)
+          → IfSome o (λ (queue : Queue). queue.reserved ≤ length old.calls)
       by_queue l None e = tt
       by_queue None (Some q) e = cc
       by_queue (Some l) (Some q) e = let same : q ≡ queue_of setup before i = cc in rw same most
 
-  module _ (call : CallId) (h : Handle) (under : slice_get old.handles call.handle ≡ Some h) (r : CallRecord) (found : find_call call old.calls ≡ Some r) where
-    recorded : RecordSays (live_view r) (phase_of before call) (length (answers_of before call)) (begin_of before call)
+  module _ (call : CallId) (h : Handle) (under : slice_get old.handles call.handle ≡ Some h) (r : CallRecord)
+      (found : find_call call old.calls ≡ Some r) where
+    recorded : RecordSays (live_view r) (phase_of before call) (length (answers_of before call))
+        (begin_of before call)
     recorded = record_says (live_view r) (phase_of before call) (length (answers_of before call)) (begin_of before call) (ap (option_map live_view) (sym found) ∙ stood.calls call)
 
     at : cache_of setup call ≡ Some h.cache

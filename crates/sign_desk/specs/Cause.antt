@@ -4,7 +4,8 @@ use Rattle.sign_base.specs.declared.call_id.CallId.{CallId}
 use Rattle.sequential_signer.specs.Policy.{Policy}
 use Rattle.sequential_signer.specs.declared.event.Event.{Event}
 use Rattle.sequential_signer.specs.declared.event.Reply.{Reply}
-use Rattle.sequential_signer.specs.declared.event.Reply.TheVariants.{Begun, Pending, NotNow, OutOfMemory, Ask, Sign, Refused, Done, Cancelled}
+use Rattle.sequential_signer.specs.declared.event.Reply.TheVariants.{Begun, Pending, NotNow, OutOfMemory}
+use Rattle.sequential_signer.specs.declared.event.Reply.TheVariants.{Ask, Sign, Refused, Done, Cancelled}
 use Rattle.sequential_signer.specs.declared.event.Why.{Why}
 use Rattle.desk_parts.specs.Cause.{CauseBy, DoesNotFit, MustWait, Proceeds, TakesMemory, MustRefuse, cause_by}
 use Rattle.sign_desk.specs.DeskState.{DeskState}

@@ -26,7 +26,7 @@ DeskState K D = DeskTables K D Queue Head
 
 -- the desk with one more empty cache, and nobody in its queue
 abbrev pub with_cache : {K D : Type 0} → Loader → DeskState K D → DeskState K D
-with_cache loader desk = with_row loader (record { line = []; unpolled = 0 }) desk
+with_cache loader desk = with_row loader (record { line = []; reserved = 0 }) desk
 
 -- the desk represents the transcript
 pub record Represents {K D : Type 0} (policy : Policy K D) (desk : DeskState K D)

@@ -4,7 +4,7 @@ use Rattle.sign_base.specs.declared.call_id.CallId.{CallId}
 use Rattle.sequential_signer.specs.Lookup.{HandOut, Refuse}
 use Rattle.sequential_signer.specs.SequentialCall.{Progress, Asking, Over}
 use Rattle.sequential_signer.specs.declared.event.Reply.TheVariants.{NotNow, Ask, Sign, Refused}
-use Rattle.desk_parts.specs.Queue.{next_holder, with_last, without_room, without_call, line_at}
+use Rattle.desk_parts.specs.Queue.{next_holder, with_last, without_room, without_call, queue_at}
 use Rattle.sign_desk.specs.DeskState.{DeskState}
 use Rattle.desk_parts.specs.Change.{with_queue, with_cached}
 use Rattle.sign_desk.specs.Action.{Action}
@@ -35,7 +35,7 @@ waited_hold desk view = record {
   asking_desk = desk;
   signing_desk = λ credential. with_queue (without_call view.call) view.cache desk;
   ended_desk = with_queue (without_call view.call) view.cache desk;
-  wake = next_holder view.call (line_at view.cache desk.queues);
+  wake = next_holder view.call (queue_at view.cache desk.queues);
 }
 
 -- the hold of a call that loads: as of one that waited, but a credential that is handed out is cached

@@ -16,3 +16,16 @@ pub mod Memory
 pub mod CachesAfter
 pub mod Steps
 pub mod PairedEntries
+pub use Rattle.desk_parts.specs.Action as DeskPartsAction
+pub use Rattle.desk_parts.specs.Adding
+pub use Rattle.desk_parts.specs.LiveCallView
+pub use Rattle.desk_parts.specs.Memory as DeskPartsMemory
+pub use Rattle.desk_parts.specs.Tables
+pub use Rattle.desk_parts.specs.TablesView
+pub use Rattle.sequential_signer.specs.LawsOfCaches
+pub use Rattle.sequential_signer.specs.LawsOfCancel
+pub use Rattle.sequential_signer.specs.LawsOfHandOver
+pub use Rattle.sequential_signer.specs.LawsOfReplies
+pub use Rattle.sequential_signer.specs.Legal
+pub use Rattle.sequential_signer.specs.Policy
+pub use Rattle.sequential_signer.specs.Transcript

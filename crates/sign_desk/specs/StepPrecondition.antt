@@ -21,7 +21,7 @@ pub record IsPlaced {K D : Type 0} (desk : DeskState K D) (view : LiveCallView) 
 pub record StepPrecondition {K D : Type 0} (desk : DeskState K D) : Type 0 where
   pub places : (h : ℕ) → IfSome (slice_get desk.handles h) (λ handle. HasPlaces desk handle.cache handle.rule)
   pub calls : (call : CallId) → IfSome (find_view desk call) (IsPlaced desk)
-  pub room : (i : ℕ) → IfSome (slice_get desk.queues i) (λ queue. queue.unpolled ≤ length desk.calls)
+  pub room : (i : ℕ) → IfSome (slice_get desk.queues i) (λ queue. queue.reserved ≤ length desk.calls)
 
 -- a greatest number is kept for each handle
 abbrev pub AreNumbered : {K D : Type 0} → DeskState K D → Type 0

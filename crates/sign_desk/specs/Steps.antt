@@ -27,8 +27,8 @@ pub record IsStep {K D : Type 0} (policy : Policy K D) (event : Event K) (old : 
   pub setup : setup_of new ≡ setup_of old
   pub unchanged : UnchangedBy reply old new
 
--- what a caller knows of a step of a run: besides, where clones of a credential take no memory, it runs out of
--- memory at an event that carries a head alone
+-- what a caller knows of a step of a run: besides, where clones of a credential take no memory, it runs out
+-- of memory at an event that carries a head alone
 abbrev pub IsRunStep : {K D : Type 0} → Policy K D → (FreeClones : Type 0) → Event K → DeskState K D → Reply K
     → DeskState K D → Type 0
 IsRunStep policy FreeClones event old reply new =
@@ -37,4 +37,5 @@ IsRunStep policy FreeClones event old reply new =
 -- each event in turn has the reply at its place, by a step from the desk that the step before it left
 abbrev pub AreSteps : {K D : Type 0} → Policy K D → (FreeClones : Type 0) → List (Event K) → List (Reply K)
     → DeskState K D → DeskState K D → Type 0
-AreSteps policy FreeClones events replies old new = StepsBy (IsRunStep policy FreeClones) events replies old new
+AreSteps policy FreeClones events replies old new =
+    StepsBy (IsRunStep policy FreeClones) events replies old new

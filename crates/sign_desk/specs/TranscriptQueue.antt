@@ -21,4 +21,4 @@ unpolled_calls setup entries i =
 -- the queue that cache i has
 abbrev pub queue_of : {K D : Type 0} → Setup D → List (Entry K) → ℕ → Queue
 queue_of setup entries i =
-    record { line = open_calls setup entries i; unpolled = length (unpolled_calls setup entries i) }
+    record { line = open_calls setup entries i; reserved = length (unpolled_calls setup entries i) }

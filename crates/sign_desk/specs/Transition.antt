@@ -10,11 +10,12 @@ use Rattle.sequential_signer.specs.declared.event.Answer.{Answer}
 use Rattle.sequential_signer.specs.declared.event.Event.{Event}
 use Rattle.sequential_signer.specs.declared.event.Event.TheVariants.{Begin, Poll, Provided, Signed, Cancel}
 use Rattle.sequential_signer.specs.declared.event.Reply.{Reply}
-use Rattle.sequential_signer.specs.declared.event.Reply.TheVariants.{Pending, NotNow, Refused, Done, Cancelled}
+use Rattle.sequential_signer.specs.declared.event.Reply.TheVariants.{Pending, NotNow, Refused}
+use Rattle.sequential_signer.specs.declared.event.Reply.TheVariants.{Done, Cancelled}
 use Rattle.sequential_signer.specs.declared.event.Verdict.{Verdict}
 use Rattle.sequential_signer.specs.declared.event.Verdict.TheVariants.{Accepted, Failed}
 use Rattle.sequential_signer.specs.declared.event.Why.TheVariants.{Service}
-use Rattle.desk_parts.specs.Queue.{with_last, without_room, line_at, is_held_line}
+use Rattle.desk_parts.specs.Queue.{with_last, without_room, queue_at, is_held_queue}
 use Rattle.sign_desk.specs.DeskState.{DeskState, live_view}
 use Rattle.desk_parts.specs.Tables.{find_call}
 use Rattle.desk_parts.specs.LiveCallView.{find_view}
@@ -47,10 +48,10 @@ later_poll_action desk view false look = Leaves Pending
 -- a poll, by the stage of its call
 abbrev pub poll_action : {K D : Type 0} → Policy K D → DeskState K D → ℤ → LiveCallView → Stage → Action K D
 poll_action policy desk now view stage.Unpolled =
-    first_poll_action desk view (is_held_line (line_at view.cache desk.queues))
+    first_poll_action desk view (is_held_queue (queue_at view.cache desk.queues))
     (desk_lookup policy desk now view)
 poll_action policy desk now view stage.Queued =
-    later_poll_action desk view (is_first view.call (line_at view.cache desk.queues))
+    later_poll_action desk view (is_first view.call (queue_at view.cache desk.queues))
     (desk_lookup policy desk now view)
 poll_action policy desk now view _ = Leaves Pending
 

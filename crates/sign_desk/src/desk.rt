@@ -10,7 +10,9 @@
 //!
 //! Contracts see a desk as the record `DeskState`, and compare it with the transcript of all events and
 //! replies by `Represents`: the desk replies what a signer would that serves one call at a time.
-ghost use Rattle.std.specs.Prelude.{◌≡◌, ◌<◌, ◌++◌, ◌∷◌, [], ℕ, List, IsOk, IsSome, true, not, OnOk, OnErr, IfOk, IfErr, length, IsTrue, option_map, option_and_then, option_copied, slice_get};
+ghost use Rattle.std.specs.Prelude.{◌≡◌, ◌<◌, ◌++◌, ◌∷◌, [], ℕ, List, IsOk, IsSome, true};
+ghost use Rattle.std.specs.Prelude.{not, OnOk, OnErr, IfOk, IfErr, length, IsTrue};
+ghost use Rattle.std.specs.Prelude.{option_map, option_and_then, option_copied, slice_get};
 
 use crate::state::State;
 use desk_parts::{AddError, AddRefused, CallQueue, HandleRecord, RunError, Stage, Tables};
@@ -30,18 +32,20 @@ impl<K: SigningCredential, D: DeadlineRule<Credential = K>> Model for Desk<K, D>
 
     ghost Value = { DeskState K D };
 
-    ghost use Rattle.sequential_signer.specs.Policy.{policy_of};
+    ghost use Rattle.sequential_signer.specs.Policy.{policy_for};
     ghost use Rattle.sign_desk.specs.IsDesk.{IsDesk};
 
     ghost view = { λ desk. desk.state };
 
-    ghost invariant = { λ desk. IsDesk (policy_of K.valid K.valid_at D.deadline) desk.state };
+    ghost invariant = { λ desk. IsDesk (policy_for K.SigningCredential D.DeadlineRule) desk.state };
 }
 
 impl<K: SigningCredential, D: DeadlineRule<Credential = K>> Desk<K, D> {
     ghost use Rattle.sign_desk.specs.DeskState.{Represents};
+    ghost use Rattle.desk_parts.specs.declared.limits.TheConstants.{MOST_ROWS};
     ghost use Rattle.desk_parts.specs.Tables.{setup_of, was_begun, find_call};
-    ghost use Rattle.desk_parts.specs.Adding.{late_refusal, handle_refusal, AddAnswer, AddAnswerBack, with_rule, with_handle};
+    ghost use Rattle.desk_parts.specs.Adding.{late_refusal, handle_refusal, AddAnswer};
+    ghost use Rattle.desk_parts.specs.Adding.{AddAnswerBack, with_rule, with_handle};
     ghost use Rattle.sign_desk.specs.DeskState.{with_cache};
     ghost use Rattle.sign_desk.specs.LiveCount.{LiveAfter};
     ghost use Rattle.sign_desk.specs.ReplyKinds.{is_reply_to};
@@ -54,14 +58,14 @@ impl<K: SigningCredential, D: DeadlineRule<Credential = K>> Desk<K, D> {
     ghost use Rattle.sign_desk.specs.PairedEntries.{paired_entries};
     ghost use Rattle.desk_parts.specs.TablesView.{handle_view};
     ghost use Rattle.sequential_signer.specs.declared.event.Entry.{Entry};
-    ghost use Rattle.sequential_signer.specs.Policy.{policy_of};
+    ghost use Rattle.sequential_signer.specs.Policy.{policy_for};
     ghost use Rattle.sequential_signer.specs.Transcript.{committed_entries};
     ghost use Rattle.sequential_signer.specs.Legal.{IsLegalEntry};
 
     /// A desk with no caches, rules, handles or calls. It represents the empty transcript.
     pub fn new(alloc: Global) -> Desk<K, D>
         ensures setup { setup_of result ≡ record { loaders = []; rules = []; handles = [] } }
-        ensures fresh { Represents (policy_of K.valid K.valid_at D.deadline) result [] }
+        ensures fresh { Represents (policy_for K.SigningCredential D.DeadlineRule) result [] }
     {
         Desk {
             state: State {
@@ -73,13 +77,11 @@ impl<K: SigningCredential, D: DeadlineRule<Credential = K>> Desk<K, D> {
     /// Adds an empty cache with this loader, and returns its number.
     ///
     /// Errors: `Late` where a call was begun, `OutOfMemory`. An error changes nothing.
-    ///
-    /// Requires fewer than 4,294,967,295 caches.
     pub fn add_cache(&mut self, loader: Loader) -> Result<u32, AddError>
-        requires { length self.old.loaders < 4294967295 }
+        requires { length self.old.loaders < MOST_ROWS }
         ensures answer { AddAnswer (late_refusal self.old) (length self.old.loaders) result }
         ensures added { OnOk result (self.new ≡ with_cache loader self.old) }
-        ensures fresh { OnOk result (Represents (policy_of K.valid K.valid_at D.deadline) self.new []) }
+        ensures fresh { OnOk result (Represents (policy_for K.SigningCredential D.DeadlineRule) self.new []) }
         ensures unchanged { OnErr result (self.new ≡ self.old) }
     {
         let queue = CallQueue::new(self.state.tables.alloc());
@@ -90,13 +92,11 @@ impl<K: SigningCredential, D: DeadlineRule<Credential = K>> Desk<K, D> {
     ///
     /// Errors: `Late` where a call was begun, `OutOfMemory`. An error changes nothing, and hands the
     /// rule back.
-    ///
-    /// Requires fewer than 4,294,967,295 rules.
     pub fn add_rule(&mut self, rule: D) -> Result<u32, AddRefused<D>>
-        requires { length self.old.rules < 4294967295 }
+        requires { length self.old.rules < MOST_ROWS }
         ensures answer { AddAnswerBack (late_refusal self.old) (length self.old.rules) result }
         ensures added { OnOk result (self.new ≡ with_rule rule self.old) }
-        ensures fresh { OnOk result (Represents (policy_of K.valid K.valid_at D.deadline) self.new []) }
+        ensures fresh { OnOk result (Represents (policy_for K.SigningCredential D.DeadlineRule) self.new []) }
         ensures unchanged { IfErr result (λ refused. (refused.back ≡ rule) × (self.new ≡ self.old)) }
     {
         self.state.tables.add_rule(rule)
@@ -106,13 +106,11 @@ impl<K: SigningCredential, D: DeadlineRule<Credential = K>> Desk<K, D> {
     ///
     /// Errors, the first that holds: `Late` where a call was begun, `NoCache` and `NoRule` where the
     /// desk has no such number, `OutOfMemory`. An error changes nothing.
-    ///
-    /// Requires fewer than 4,294,967,295 handles.
     pub fn add_handle(&mut self, cache: u32, rule: u32) -> Result<u32, AddError>
-        requires { length self.old.handles < 4294967295 }
+        requires { length self.old.handles < MOST_ROWS }
         ensures answer { AddAnswer (handle_refusal self.old cache rule) (length self.old.handles) result }
         ensures added { OnOk result (self.new ≡ with_handle cache rule self.old) }
-        ensures fresh { OnOk result (Represents (policy_of K.valid K.valid_at D.deadline) self.new []) }
+        ensures fresh { OnOk result (Represents (policy_for K.SigningCredential D.DeadlineRule) self.new []) }
         ensures unchanged { OnErr result (self.new ≡ self.old) }
     {
         self.state.tables.add_handle(cache, rule)
@@ -121,39 +119,35 @@ impl<K: SigningCredential, D: DeadlineRule<Credential = K>> Desk<K, D> {
     /// Adds a rule, and a handle on this cache with it, and returns the handle's number.
     ///
     /// Errors: `Late`, `OutOfMemory`. An error changes nothing, and hands the rule back.
-    ///
-    /// Requires a cache that is there, and fewer than 4,294,967,295 rules and handles.
-    pub fn add_handle_with_rule(&mut self, cache: u32, rule: D) -> Result<u32, AddRefused<D>>
+    pub fn add_rule_and_handle(&mut self, cache: u32, rule: D) -> Result<u32, AddRefused<D>>
         requires cache { cache < length self.old.loaders }
-        requires rules { length self.old.rules < 4294967295 }
-        requires handles { length self.old.handles < 4294967295 }
+        requires rules { length self.old.rules < MOST_ROWS }
+        requires handles { length self.old.handles < MOST_ROWS }
         ensures answer { AddAnswerBack (late_refusal self.old) (length self.old.handles) result }
         ensures added { OnOk result
             (self.new ≡ with_handle cache (length self.old.rules) (with_rule rule self.old)) }
-        ensures fresh { OnOk result (Represents (policy_of K.valid K.valid_at D.deadline) self.new []) }
+        ensures fresh { OnOk result (Represents (policy_for K.SigningCredential D.DeadlineRule) self.new []) }
         ensures unchanged { IfErr result (λ refused. (refused.back ≡ rule) × (self.new ≡ self.old)) }
     {
-        self.state.tables.add_handle_with_rule(cache, rule)
+        self.state.tables.add_rule_and_handle(cache, rule)
     }
 
     /// Adds an empty cache with this loader, and a handle on it with this rule, and returns the handle's
     /// number.
     ///
     /// Errors: `Late`, `OutOfMemory`. An error changes nothing.
-    ///
-    /// Requires a rule that is there, and fewer than 4,294,967,295 caches and handles.
-    pub fn add_handle_with_cache(&mut self, loader: Loader, rule: u32) -> Result<u32, AddError>
+    pub fn add_cache_and_handle(&mut self, loader: Loader, rule: u32) -> Result<u32, AddError>
         requires rule { rule < length self.old.rules }
-        requires caches { length self.old.loaders < 4294967295 }
-        requires handles { length self.old.handles < 4294967295 }
+        requires caches { length self.old.loaders < MOST_ROWS }
+        requires handles { length self.old.handles < MOST_ROWS }
         ensures answer { AddAnswer (late_refusal self.old) (length self.old.handles) result }
         ensures added { OnOk result
             (self.new ≡ with_handle (length self.old.loaders) rule (with_cache loader self.old)) }
-        ensures fresh { OnOk result (Represents (policy_of K.valid K.valid_at D.deadline) self.new []) }
+        ensures fresh { OnOk result (Represents (policy_for K.SigningCredential D.DeadlineRule) self.new []) }
         ensures unchanged { OnErr result (self.new ≡ self.old) }
     {
         let queue = CallQueue::new(self.state.tables.alloc());
-        self.state.tables.add_handle_with_cache(loader, queue, rule)
+        self.state.tables.add_cache_and_handle(loader, queue, rule)
     }
 
     /// The handle of this number, if there is one.
@@ -232,24 +226,33 @@ impl<K: SigningCredential, D: DeadlineRule<Credential = K>> Desk<K, D> {
     /// Whether no call was begun. Such a desk represents the empty transcript.
     pub fn is_fresh(&self) -> bool
         ensures flag { result ≡ not self.now.started }
-        ensures empty { result ≡ true → Represents (policy_of K.valid K.valid_at D.deadline) self.now [] }
+        ensures empty { result ≡ true → Represents (policy_for K.SigningCredential D.DeadlineRule) self.now [] }
         ensures begins { (entries : List (Entry K))
-            → Represents (policy_of K.valid K.valid_at D.deadline) self.now entries
+            → Represents (policy_for K.SigningCredential D.DeadlineRule) self.now entries
             → result ≡ not (was_begun (committed_entries entries)) }
     {
-        !self.state.tables.is_started()
+        !self.state.tables.has_begun_calls()
     }
 
-    /// One event, applied whole: whatever transcript the desk represents, it then represents that
-    /// with this entry. The setup stays. What is done is exactly the event's `Transition`, so a driver
-    /// knows where its calls are.
+    /// Tell the desk what happened to a call, and do what it replies:
     ///
-    /// An event that does not fit how far its call is, is answered `NotNow`. `OutOfMemory` is answered
-    /// only where memory is taken: at a begin, where a credential is handed out unless its clones take
-    /// none, and at an accepted head. Both change nothing.
+    /// - `Ask { provider }`: ask that provider, and step `Provided` with its answer and the moment of it.
+    /// - `Sign { credential, .. }`: give it to the service, and step `Signed` with what it answers.
+    /// - `Done { head }`: send it. The call is over, as it is after `Refused` and `Cancelled`.
+    /// - `Pending`: other calls are ahead, or an answer for the call is awaited. Poll it once its turn has
+    ///   come: the reply to some later event names the call in `wake`.
+    /// - `NotNow`: the event does not fit how far its call is, and was not taken.
+    /// - `OutOfMemory`: nothing changed. Step the same event again, or cancel the call. It comes only at a
+    ///   begin, at an accepted head, and where a credential is handed out whose clones take memory.
+    ///
+    /// Whatever a reply says, poll the call that it names in `wake`, or nobody behind it comes to its turn.
+    /// `examples/one_call.script` has the events of one call, line by line.
+    ///
+    /// Whatever transcript the desk represents, it then represents that with this entry. What is done is
+    /// exactly the event's `Transition`, so a driver knows where its calls are.
     pub fn step(&mut self, event: &Event<K>) -> Reply<K>
-        ensures step { IsStep (policy_of K.valid K.valid_at D.deadline) event.now self.old result self.new }
-        ensures transition { Transition (policy_of K.valid K.valid_at D.deadline)
+        ensures step { IsStep (policy_for K.SigningCredential D.DeadlineRule) event.now self.old result self.new }
+        ensures transition { Transition (policy_for K.SigningCredential D.DeadlineRule)
             event.now self.old result self.new }
         ensures live { LiveAfter result (length self.old.calls) (length self.new.calls) }
         ensures memory { ClonesAreFree K.clones_freely → RunsOutAtHeads event.now result }
@@ -261,14 +264,14 @@ impl<K: SigningCredential, D: DeadlineRule<Credential = K>> Desk<K, D> {
 
     /// The reply that a step would give now. Nothing changes.
     ///
-    /// `OutOfMemory` is answered only where a step could answer it.
+    /// It answers `OutOfMemory` only where a step could.
     pub fn preview(&self, event: &Event<K>) -> Reply<K>
         ensures expected { (entries : List (Entry K))
-            → Represents (policy_of K.valid K.valid_at D.deadline) self.now entries
-            → IsLegalEntry (policy_of K.valid K.valid_at D.deadline) (setup_of self.now)
+            → Represents (policy_for K.SigningCredential D.DeadlineRule) self.now entries
+            → IsLegalEntry (policy_for K.SigningCredential D.DeadlineRule) (setup_of self.now)
             (committed_entries entries) (record { event = event.now; reply = result }) }
         ensures causes { IsCaused
-            (cause_of (policy_of K.valid K.valid_at D.deadline) self.now event.now) result }
+            (cause_of (policy_for K.SigningCredential D.DeadlineRule) self.now event.now) result }
         ensures kind { IsTrue (is_reply_to event.now result) }
         ensures memory { ClonesAreFree K.clones_freely → RunsOutAtHeads event.now result }
     {
@@ -281,8 +284,8 @@ impl<K: SigningCredential, D: DeadlineRule<Credential = K>> Desk<K, D> {
     /// `OutOfMemory` is answered only at a begin and, unless clones of a credential take no memory, where
     /// a credential is handed out. The event is gone then too; `step` leaves it with its caller.
     pub fn step_owned(&mut self, event: Event<K>) -> Reply<K>
-        ensures step { IsStep (policy_of K.valid K.valid_at D.deadline) event self.old result self.new }
-        ensures transition { Transition (policy_of K.valid K.valid_at D.deadline)
+        ensures step { IsStep (policy_for K.SigningCredential D.DeadlineRule) event self.old result self.new }
+        ensures transition { Transition (policy_for K.SigningCredential D.DeadlineRule)
             event self.old result self.new }
         ensures live { LiveAfter result (length self.old.calls) (length self.new.calls) }
         ensures memory { ClonesAreFree K.clones_freely → RunsOutAtBegins event result }
@@ -299,11 +302,11 @@ impl<K: SigningCredential, D: DeadlineRule<Credential = K>> Desk<K, D> {
     pub fn run(&mut self, events: &[Event<K>]) -> Result<Vec<Reply<K>>, RunError>
         ensures replies { IfOk result (λ replies. length replies.items ≡ length events.now) }
         ensures steps { IfOk result (λ replies.
-            AreSteps (policy_of K.valid K.valid_at D.deadline) (ClonesAreFree K.clones_freely)
+            AreSteps (policy_for K.SigningCredential D.DeadlineRule) (ClonesAreFree K.clones_freely)
             events.now replies.items self.old self.new) }
         ensures represents { IfOk result (λ replies. (entries : List (Entry K))
-            → Represents (policy_of K.valid K.valid_at D.deadline) self.old entries
-            → Represents (policy_of K.valid K.valid_at D.deadline) self.new
+            → Represents (policy_for K.SigningCredential D.DeadlineRule) self.old entries
+            → Represents (policy_for K.SigningCredential D.DeadlineRule) self.new
             (entries ++ paired_entries events.now replies.items)) }
         ensures setup { setup_of self.new ≡ setup_of self.old }
         ensures unchanged { OnErr result (self.new ≡ self.old) }

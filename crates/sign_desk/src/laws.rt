@@ -1,9 +1,15 @@
 //! Laws of legal transcripts, over the definitions alone: each function's contract is the law, for every
 //! type of credentials and of rules, every meaning of them, every setup and every transcript.
-ghost use Rattle.sequential_signer.specs.LawsOfReplies.{OneLegalTranscript, ExpectedRepliesAreLegal, LegalRepliesAreExpected};
-ghost use Rattle.sequential_signer.specs.LawsOfHandOver.{QueuedAtTurnWasWokenOnce, OnlyQueuedCallsAreWoken, OneCallLoads, SomebodyHasTheTurn, LoadsExactlyWhereTheLookFails};
-ghost use Rattle.sequential_signer.specs.LawsOfCancel.{CancelledLoadLeavesNoTrace, CancelChangesNoCache, CancelledLoadLeavesTheCache};
-ghost use Rattle.sequential_signer.specs.LawsOfCaches.{CachesAreIsolated, OneLoadServesAll, CacheHoldsTheLastHandedOut, RefusedRefreshIsNotCached, FoundCredentialIsCached};
+ghost use Rattle.sequential_signer.specs.LawsOfReplies.{OneLegalTranscript, ExpectedRepliesAreLegal};
+ghost use Rattle.sequential_signer.specs.LawsOfReplies.{LegalRepliesAreExpected};
+ghost use Rattle.sequential_signer.specs.LawsOfHandOver.{QueuedAtTurnWasWokenOnce, OnlyQueuedCallsAreWoken};
+ghost use Rattle.sequential_signer.specs.LawsOfHandOver.{OneCallLoads, SomebodyHasTheTurn};
+ghost use Rattle.sequential_signer.specs.LawsOfHandOver.{LoadsExactlyWhereTheLookFails};
+ghost use Rattle.sequential_signer.specs.LawsOfCancel.{CancelledLoadLeavesNoTrace, CancelChangesNoCache};
+ghost use Rattle.sequential_signer.specs.LawsOfCancel.{CancelledLoadLeavesTheCache};
+ghost use Rattle.sequential_signer.specs.LawsOfCaches.{CachesAreIsolated, OneLoadServesAll};
+ghost use Rattle.sequential_signer.specs.LawsOfCaches.{CacheHoldsTheLastHandedOut};
+ghost use Rattle.sequential_signer.specs.LawsOfCaches.{RefusedRefreshIsNotCached, FoundCredentialIsCached};
 
 /// For a setup, events, and a choice of those that run out of memory there is at most one legal
 /// transcript.

@@ -7,7 +7,7 @@ use sequential_signer::{Answer, DeadlineRule, Loader, Reply, SigningCredential, 
 use sign_base::{CallId, Timestamp};
 
 impl<K: SigningCredential, D: DeadlineRule<Credential = K>> State<K, D> {
-    ghost use Rattle.sequential_signer.specs.Policy.{policy_of};
+    ghost use Rattle.sequential_signer.specs.Policy.{policy_for};
     ghost use Rattle.sequential_signer.specs.declared.event.Event.TheVariants.{Provided};
     ghost use Rattle.sequential_signer.specs.declared.event.Answer.TheVariants.{Found};
     ghost use Rattle.desk_parts.specs.Tables.{find_call};
@@ -23,10 +23,9 @@ impl<K: SigningCredential, D: DeadlineRule<Credential = K>> State<K, D> {
     ghost use Rattle.desk_parts.specs.HoldProgress.{with_answer};
     ghost use Rattle.desk_parts.specs.IsCheck.{IsCheck};
 
-    /// A provider's answer.
     pub fn provided(&mut self, call: CallId, now: Timestamp, answer: &Answer<K>) -> Reply<K>
         requires { StepPrecondition self.old }
-        ensures done { Transition (policy_of K.valid K.valid_at D.deadline) (Provided call now answer.now)
+        ensures done { Transition (policy_for K.SigningCredential D.DeadlineRule) (Provided call now answer.now)
             self.old result self.new }
         ensures memory { ClonesAreFree K.clones_freely → result ≢ OutOfMemory }
     {
@@ -39,20 +38,19 @@ impl<K: SigningCredential, D: DeadlineRule<Credential = K>> State<K, D> {
         }
     }
 
-    /// A provider's answer to a call that loads.
     fn load(&mut self, view: LiveCallView, now: Timestamp, answer: &Answer<K>) -> Reply<K>
         requires placed { IsPlaced self.old view }
         requires loading { view.stage ≡ Loading }
         ensures done { Performs
-            (load_action (policy_of K.valid K.valid_at D.deadline) self.old now answer.now view)
+            (load_action (policy_for K.SigningCredential D.DeadlineRule) self.old now answer.now view)
             view.call self.old result self.new }
         ensures memory { ClonesAreFree K.clones_freely → result ≢ OutOfMemory }
     {
         let view = self.tables.with_answer(view);
         match answer {
             Answer::Found(found) => self.found(view, now, found),
-            Answer::Missing => self.load_on(view, Why::Missing),
-            Answer::Failed(e) => self.load_on(view, Why::Loader(*e)),
+            Answer::Missing => self.ask_next_or_refuse(view, Why::Missing),
+            Answer::Failed(e) => self.ask_next_or_refuse(view, Why::Loader(*e)),
         }
     }
 
@@ -61,7 +59,7 @@ impl<K: SigningCredential, D: DeadlineRule<Credential = K>> State<K, D> {
         requires live { IsSome (find_call view.call self.old.calls) }
         requires places { HasPlaces self.old view.cache view.rule }
         ensures done { Performs (hold_action (loading_hold self.old view) view
-            (desk_load (policy_of K.valid K.valid_at D.deadline) self.old now view (Found found.now)))
+            (desk_load (policy_for K.SigningCredential D.DeadlineRule) self.old now view (Found found.now)))
             view.call self.old result self.new }
         ensures memory { ClonesAreFree K.clones_freely → result ≢ OutOfMemory }
     {
@@ -79,7 +77,7 @@ impl<K: SigningCredential, D: DeadlineRule<Credential = K>> State<K, D> {
     }
 
     /// An answer without a credential: the next provider of a chain is asked, or the call is refused.
-    fn load_on(&mut self, view: LiveCallView, single: Why) -> Reply<K>
+    fn ask_next_or_refuse(&mut self, view: LiveCallView, single: Why) -> Reply<K>
         requires live { IsSome (find_call view.call self.old.calls) }
         requires places { HasPlaces self.old view.cache view.rule }
         ensures done { Performs (hold_action (loading_hold self.old view) view

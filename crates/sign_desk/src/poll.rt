@@ -8,9 +8,9 @@ use sign_base::{CallId, Timestamp};
 
 impl<K: SigningCredential, D: DeadlineRule<Credential = K>> State<K, D> {
     ghost use Rattle.sign_base.specs.Calls.{is_first};
-    ghost use Rattle.sequential_signer.specs.Policy.{policy_of};
+    ghost use Rattle.sequential_signer.specs.Policy.{policy_for};
     ghost use Rattle.sequential_signer.specs.declared.event.Event.TheVariants.{Poll};
-    ghost use Rattle.desk_parts.specs.Queue.{is_held_line, line_at};
+    ghost use Rattle.desk_parts.specs.Queue.{is_held_queue, queue_at};
     ghost use Rattle.sign_desk.specs.StepPrecondition.{StepPrecondition, IsPlaced};
     ghost use Rattle.desk_parts.specs.declared.call_record.Stage.TheVariants.{Unpolled};
     ghost use Rattle.sign_desk.specs.Action.{Performs};
@@ -19,10 +19,9 @@ impl<K: SigningCredential, D: DeadlineRule<Credential = K>> State<K, D> {
     ghost use Rattle.desk_parts.specs.HoldProgress.{desk_lookup};
     ghost use Rattle.sign_desk.specs.Transition.{first_poll_action, later_poll_action, Transition};
 
-    /// A poll.
     pub fn poll(&mut self, call: CallId, now: Timestamp) -> Reply<K>
         requires { StepPrecondition self.old }
-        ensures done { Transition (policy_of K.valid K.valid_at D.deadline)
+        ensures done { Transition (policy_for K.SigningCredential D.DeadlineRule)
             (Poll call now) self.old result self.new }
         ensures memory { ClonesAreFree K.clones_freely → result ≢ OutOfMemory }
     {
@@ -41,8 +40,8 @@ impl<K: SigningCredential, D: DeadlineRule<Credential = K>> State<K, D> {
         requires placed { IsPlaced self.old view }
         requires unpolled { view.stage ≡ Unpolled }
         ensures done { Performs
-            (first_poll_action self.old view (is_held_line (line_at view.cache self.old.queues))
-            (desk_lookup (policy_of K.valid K.valid_at D.deadline) self.old now view))
+            (first_poll_action self.old view (is_held_queue (queue_at view.cache self.old.queues))
+            (desk_lookup (policy_for K.SigningCredential D.DeadlineRule) self.old now view))
             view.call self.old result self.new }
         ensures memory { ClonesAreFree K.clones_freely → result ≢ OutOfMemory }
     {
@@ -57,11 +56,11 @@ impl<K: SigningCredential, D: DeadlineRule<Credential = K>> State<K, D> {
                 self.ask(view, 0)
             }
             Lookup::Hit(credential) => {
-                self.tables.return_room(view.cache);
+                self.tables.release_place(view.cache);
                 self.sign(view, credential, None)
             }
             Lookup::Refused(why) => {
-                self.tables.return_room(view.cache);
+                self.tables.release_place(view.cache);
                 self.refuse(view.call, why, None)
             }
         }
@@ -71,8 +70,8 @@ impl<K: SigningCredential, D: DeadlineRule<Credential = K>> State<K, D> {
     fn later_poll(&mut self, view: LiveCallView, now: Timestamp) -> Reply<K>
         requires { IsPlaced self.old view }
         ensures done { Performs
-            (later_poll_action self.old view (is_first view.call (line_at view.cache self.old.queues))
-            (desk_lookup (policy_of K.valid K.valid_at D.deadline) self.old now view))
+            (later_poll_action self.old view (is_first view.call (queue_at view.cache self.old.queues))
+            (desk_lookup (policy_for K.SigningCredential D.DeadlineRule) self.old now view))
             view.call self.old result self.new }
         ensures memory { ClonesAreFree K.clones_freely → result ≢ OutOfMemory }
     {

@@ -11,27 +11,28 @@ use std::alloc::Global;
 
 impl<K: SigningCredential, D: DeadlineRule<Credential = K>> State<K, D> {
     ghost use Rattle.sign_base.specs.Calls.{is_first};
-    ghost use Rattle.sequential_signer.specs.Policy.{policy_of};
-    ghost use Rattle.sequential_signer.specs.declared.event.Event.TheVariants.{Poll, Provided, Signed, Cancel};
+    ghost use Rattle.sequential_signer.specs.Policy.{policy_for};
+    ghost use Rattle.sequential_signer.specs.declared.event.Event.TheVariants.{Poll, Provided};
+    ghost use Rattle.sequential_signer.specs.declared.event.Event.TheVariants.{Signed, Cancel};
     ghost use Rattle.sequential_signer.specs.declared.event.Answer.TheVariants.{Found};
-    ghost use Rattle.desk_parts.specs.Queue.{is_held_line, line_at};
+    ghost use Rattle.desk_parts.specs.Queue.{is_held_queue, queue_at};
     ghost use Rattle.desk_parts.specs.Tables.{find_call};
     ghost use Rattle.desk_parts.specs.Places.{HasPlaces};
     ghost use Rattle.desk_parts.specs.HoldProgress.{desk_lookup, desk_load, next_load};
     ghost use Rattle.desk_parts.specs.declared.call_record.Stage.TheVariants.{Loading};
     ghost use Rattle.sign_desk.specs.StepPrecondition.{StepPrecondition, IsPlaced};
     ghost use Rattle.sign_desk.specs.HoldAction.{hold_action, loading_hold};
-    ghost use Rattle.sign_desk.specs.Transition.{action_of, first_poll_action, later_poll_action, load_action, accept_action};
+    ghost use Rattle.sign_desk.specs.Transition.{action_of, first_poll_action};
+    ghost use Rattle.sign_desk.specs.Transition.{later_poll_action, load_action, accept_action};
     ghost use Rattle.sign_desk.specs.Previews.{Previews};
     ghost use Rattle.desk_parts.specs.Memory.{ClonesAreFree};
     ghost use Rattle.sign_desk.specs.Memory.{RunsOutAtHeads};
     ghost use Rattle.sequential_signer.specs.declared.event.Reply.TheVariants.{OutOfMemory};
 
-    /// The reply to one event.
     pub fn preview(&self, event: &Event<K>) -> Reply<K>
         requires { StepPrecondition self.now }
         ensures done { Previews
-            (action_of (policy_of K.valid K.valid_at D.deadline) self.now event.now) result }
+            (action_of (policy_for K.SigningCredential D.DeadlineRule) self.now event.now) result }
         ensures memory { ClonesAreFree K.clones_freely → RunsOutAtHeads event.now result }
     {
         match event {
@@ -49,11 +50,10 @@ impl<K: SigningCredential, D: DeadlineRule<Credential = K>> State<K, D> {
         }
     }
 
-    /// The reply to a poll.
     fn preview_poll(&self, call: CallId, now: Timestamp) -> Reply<K>
         requires { StepPrecondition self.now }
         ensures done { Previews
-            (action_of (policy_of K.valid K.valid_at D.deadline) self.now (Poll call now)) result }
+            (action_of (policy_for K.SigningCredential D.DeadlineRule) self.now (Poll call now)) result }
         ensures memory { ClonesAreFree K.clones_freely → result ≢ OutOfMemory }
     {
         let Some(view) = self.find(call) else {
@@ -66,12 +66,11 @@ impl<K: SigningCredential, D: DeadlineRule<Credential = K>> State<K, D> {
         }
     }
 
-    /// The reply to a first poll.
     fn preview_first_poll(&self, view: LiveCallView, now: Timestamp) -> Reply<K>
         requires { IsPlaced self.now view }
         ensures done { Previews
-            (first_poll_action self.now view (is_held_line (line_at view.cache self.now.queues))
-            (desk_lookup (policy_of K.valid K.valid_at D.deadline) self.now now view))
+            (first_poll_action self.now view (is_held_queue (queue_at view.cache self.now.queues))
+            (desk_lookup (policy_for K.SigningCredential D.DeadlineRule) self.now now view))
             result }
         ensures memory { ClonesAreFree K.clones_freely → result ≢ OutOfMemory }
     {
@@ -89,12 +88,11 @@ impl<K: SigningCredential, D: DeadlineRule<Credential = K>> State<K, D> {
         }
     }
 
-    /// The reply to a later poll of a call that waited.
     fn preview_later_poll(&self, view: LiveCallView, now: Timestamp) -> Reply<K>
         requires { IsPlaced self.now view }
         ensures done { Previews
-            (later_poll_action self.now view (is_first view.call (line_at view.cache self.now.queues))
-            (desk_lookup (policy_of K.valid K.valid_at D.deadline) self.now now view))
+            (later_poll_action self.now view (is_first view.call (queue_at view.cache self.now.queues))
+            (desk_lookup (policy_for K.SigningCredential D.DeadlineRule) self.now now view))
             result }
         ensures memory { ClonesAreFree K.clones_freely → result ≢ OutOfMemory }
     {
@@ -110,11 +108,10 @@ impl<K: SigningCredential, D: DeadlineRule<Credential = K>> State<K, D> {
         }
     }
 
-    /// The reply to a provider's answer.
     fn preview_provided(&self, call: CallId, now: Timestamp, answer: &Answer<K>) -> Reply<K>
         requires { StepPrecondition self.now }
         ensures done { Previews
-            (action_of (policy_of K.valid K.valid_at D.deadline) self.now (Provided call now answer.now))
+            (action_of (policy_for K.SigningCredential D.DeadlineRule) self.now (Provided call now answer.now))
             result }
         ensures memory { ClonesAreFree K.clones_freely → result ≢ OutOfMemory }
     {
@@ -127,27 +124,25 @@ impl<K: SigningCredential, D: DeadlineRule<Credential = K>> State<K, D> {
         }
     }
 
-    /// The reply to a provider's answer to a call that loads.
     fn preview_load(&self, view: LiveCallView, now: Timestamp, answer: &Answer<K>) -> Reply<K>
         requires placed { IsPlaced self.now view }
         requires loading { view.stage ≡ Loading }
         ensures done { Previews
-            (load_action (policy_of K.valid K.valid_at D.deadline) self.now now answer.now view) result }
+            (load_action (policy_for K.SigningCredential D.DeadlineRule) self.now now answer.now view) result }
         ensures memory { ClonesAreFree K.clones_freely → result ≢ OutOfMemory }
     {
         let view = self.tables.with_answer(view);
         match answer {
             Answer::Found(found) => self.preview_found(view, now, found),
-            Answer::Missing => self.preview_load_on(view, Why::Missing),
-            Answer::Failed(e) => self.preview_load_on(view, Why::Loader(*e)),
+            Answer::Missing => self.preview_next_or_refuse(view, Why::Missing),
+            Answer::Failed(e) => self.preview_next_or_refuse(view, Why::Loader(*e)),
         }
     }
 
-    /// The reply to a credential that was found.
     fn preview_found(&self, view: LiveCallView, now: Timestamp, found: &K) -> Reply<K>
         requires { HasPlaces self.now view.cache view.rule }
         ensures done { Previews (hold_action (loading_hold self.now view) view
-            (desk_load (policy_of K.valid K.valid_at D.deadline) self.now now view (Found found.now)))
+            (desk_load (policy_for K.SigningCredential D.DeadlineRule) self.now now view (Found found.now)))
             result }
         ensures memory { ClonesAreFree K.clones_freely → result ≢ OutOfMemory }
     {
@@ -161,8 +156,7 @@ impl<K: SigningCredential, D: DeadlineRule<Credential = K>> State<K, D> {
         }
     }
 
-    /// The reply to an answer without a credential.
-    fn preview_load_on(&self, view: LiveCallView, single: Why) -> Reply<K>
+    fn preview_next_or_refuse(&self, view: LiveCallView, single: Why) -> Reply<K>
         requires { HasPlaces self.now view.cache view.rule }
         ensures done { Previews (hold_action (loading_hold self.now view) view
             (next_load (slice_get self.now.loaders view.cache) view.answers single)) result }
@@ -181,11 +175,10 @@ impl<K: SigningCredential, D: DeadlineRule<Credential = K>> State<K, D> {
         }
     }
 
-    /// The reply to a service's answer.
     fn preview_signed(&self, call: CallId, answer: &Verdict) -> Reply<K>
         requires { StepPrecondition self.now }
         ensures done { Previews
-            (action_of (policy_of K.valid K.valid_at D.deadline) self.now (Signed call answer.now)) result }
+            (action_of (policy_for K.SigningCredential D.DeadlineRule) self.now (Signed call answer.now)) result }
         ensures memory { RunsOutAtHeads (Signed call answer.now) result }
     {
         let Some(view) = self.find(call) else {
@@ -201,7 +194,6 @@ impl<K: SigningCredential, D: DeadlineRule<Credential = K>> State<K, D> {
         }
     }
 
-    /// The reply to an accepted head.
     fn preview_accept(&self, call: CallId, candidate: &Head) -> Reply<K>
         requires { IsSome (find_call call self.now.calls) }
         ensures { Previews (accept_action self.now candidate.now (find_call call self.now.calls)) result }
@@ -213,11 +205,10 @@ impl<K: SigningCredential, D: DeadlineRule<Credential = K>> State<K, D> {
         }
     }
 
-    /// The reply to a cancel.
     fn preview_cancel(&self, call: CallId) -> Reply<K>
         requires { StepPrecondition self.now }
         ensures done { Previews
-            (action_of (policy_of K.valid K.valid_at D.deadline) self.now (Cancel call)) result }
+            (action_of (policy_for K.SigningCredential D.DeadlineRule) self.now (Cancel call)) result }
         ensures memory { result ≢ OutOfMemory }
     {
         let Some(view) = self.find(call) else {

@@ -2,16 +2,15 @@
 //! each live call.
 ghost use Rattle.std.specs.Prelude.{◌≡◌, IfSome};
 
-use crate::kept_head::KeptHead;
+use crate::boxed_head::BoxedHead;
 use desk_parts::{CallQueue, LiveCallView, Tables};
 use sequential_signer::{DeadlineRule, SigningCredential};
 use sign_base::CallId;
 use std::marker::Model;
 
-/// What a signer's desk keeps.
 #[derive(Drop)]
 pub struct State<K, D> {
-    pub(crate) tables: Tables<K, D, CallQueue, KeptHead>,
+    pub(crate) tables: Tables<K, D, CallQueue, BoxedHead>,
 }
 
 impl<K, D> Model for State<K, D> {
@@ -26,7 +25,7 @@ impl<K: SigningCredential, D: DeadlineRule<Credential = K>> State<K, D> {
     ghost use Rattle.desk_parts.specs.LiveCallView.{find_view};
     ghost use Rattle.sign_desk.specs.StepPrecondition.{StepPrecondition, IsPlaced};
 
-    /// The live call of this name.
+    /// The live call of this name, with its places.
     pub fn find(&self, call: CallId) -> Option<LiveCallView>
         requires { StepPrecondition self.now }
         ensures view { result ≡ find_view self.now call }

@@ -2,7 +2,7 @@
 //! memory is taken before anything changes.
 ghost use Rattle.std.specs.Prelude.{◌≡◌, ◌≢◌, true, IsSome, IfOk};
 
-use crate::kept_head::KeptHead;
+use crate::boxed_head::BoxedHead;
 use crate::state::State;
 use desk_parts::{CallRecord, Stage};
 use sequential_signer::{DeadlineRule, Event, Reply, SigningCredential, Verdict, Why};
@@ -11,7 +11,7 @@ use std::alloc::Global;
 use std::time::Duration;
 
 impl<K: SigningCredential, D: DeadlineRule<Credential = K>> State<K, D> {
-    ghost use Rattle.sequential_signer.specs.Policy.{policy_of};
+    ghost use Rattle.sequential_signer.specs.Policy.{policy_for};
     ghost use Rattle.sequential_signer.specs.declared.event.Event.TheVariants.{Begin, Signed, Cancel};
     ghost use Rattle.desk_parts.specs.Begin.{can_begin};
     ghost use Rattle.desk_parts.specs.Tables.{find_call};
@@ -22,10 +22,10 @@ impl<K: SigningCredential, D: DeadlineRule<Credential = K>> State<K, D> {
     ghost use Rattle.sequential_signer.specs.declared.event.Reply.TheVariants.{OutOfMemory};
     ghost use Rattle.sign_desk.specs.Transition.{accept_action, Transition};
 
-    /// One event.
+    /// The event is lent: of what is kept of it, a copy is made.
     pub fn step(&mut self, event: &Event<K>) -> Reply<K>
         requires { StepPrecondition self.old }
-        ensures done { Transition (policy_of K.valid K.valid_at D.deadline)
+        ensures done { Transition (policy_for K.SigningCredential D.DeadlineRule)
             event.now self.old result self.new }
         ensures memory { ClonesAreFree K.clones_freely → RunsOutAtHeads event.now result }
     {
@@ -42,10 +42,9 @@ impl<K: SigningCredential, D: DeadlineRule<Credential = K>> State<K, D> {
         }
     }
 
-    /// A begin, of whose head a copy is kept.
     fn begin(&mut self, call: CallId, head: &Head, expires_in: Option<Duration>) -> Reply<K>
         requires { StepPrecondition self.old }
-        ensures { Transition (policy_of K.valid K.valid_at D.deadline) (Begin call head.now expires_in)
+        ensures { Transition (policy_for K.SigningCredential D.DeadlineRule) (Begin call head.now expires_in)
             self.old result self.new }
     {
         if !self.tables.begin_fits(call) {
@@ -57,7 +56,6 @@ impl<K: SigningCredential, D: DeadlineRule<Credential = K>> State<K, D> {
         }
     }
 
-    /// A begin, whose head is kept itself.
     pub(crate) fn take_begin(
         &mut self,
         call: CallId,
@@ -65,7 +63,7 @@ impl<K: SigningCredential, D: DeadlineRule<Credential = K>> State<K, D> {
         expires_in: Option<Duration>,
     ) -> Reply<K>
         requires { StepPrecondition self.old }
-        ensures { Transition (policy_of K.valid K.valid_at D.deadline) (Begin call head expires_in)
+        ensures { Transition (policy_for K.SigningCredential D.DeadlineRule) (Begin call head expires_in)
             self.old result self.new }
     {
         if !self.tables.begin_fits(call) {
@@ -78,10 +76,10 @@ impl<K: SigningCredential, D: DeadlineRule<Credential = K>> State<K, D> {
     fn keep_call(&mut self, call: CallId, head: Head, expires_in: Option<Duration>) -> Reply<K>
         requires sound { StepPrecondition self.old }
         requires fits { can_begin self.old call ≡ true }
-        ensures { Transition (policy_of K.valid K.valid_at D.deadline) (Begin call head expires_in)
+        ensures { Transition (policy_for K.SigningCredential D.DeadlineRule) (Begin call head expires_in)
             self.old result self.new }
     {
-        let Ok(head) = KeptHead::new(self.tables.alloc(), head) else {
+        let Ok(head) = BoxedHead::new(self.tables.alloc(), head) else {
             return Reply::OutOfMemory;
         };
         let live = CallRecord {
@@ -96,10 +94,9 @@ impl<K: SigningCredential, D: DeadlineRule<Credential = K>> State<K, D> {
         }
     }
 
-    /// A service's answer.
     fn signed(&mut self, call: CallId, answer: &Verdict) -> Reply<K>
         requires { StepPrecondition self.old }
-        ensures done { Transition (policy_of K.valid K.valid_at D.deadline) (Signed call answer.now)
+        ensures done { Transition (policy_for K.SigningCredential D.DeadlineRule) (Signed call answer.now)
             self.old result self.new }
         ensures memory { RunsOutAtHeads (Signed call answer.now) result }
     {
@@ -143,10 +140,10 @@ impl<K: SigningCredential, D: DeadlineRule<Credential = K>> State<K, D> {
         Reply::Done { head }
     }
 
-    /// A cancel.
+    /// The call is over. Where it was in line, it leaves, and the next is woken.
     pub(crate) fn cancel(&mut self, call: CallId) -> Reply<K>
         requires { StepPrecondition self.old }
-        ensures done { Transition (policy_of K.valid K.valid_at D.deadline)
+        ensures done { Transition (policy_for K.SigningCredential D.DeadlineRule)
             (Cancel call) self.old result self.new }
         ensures memory { result ≢ OutOfMemory }
     {
@@ -155,7 +152,7 @@ impl<K: SigningCredential, D: DeadlineRule<Credential = K>> State<K, D> {
         };
         let wake = match view.stage {
             Stage::Unpolled => {
-                self.tables.return_room(view.cache);
+                self.tables.release_place(view.cache);
                 None
             }
             Stage::Queued | Stage::Loading => self.tables.leave(view.cache, call),
@@ -166,7 +163,6 @@ impl<K: SigningCredential, D: DeadlineRule<Credential = K>> State<K, D> {
     }
 }
 
-/// Copies of a head's URI and headers.
 fn target_copy(alloc: Global, head: &Head) -> Result<(Octets, Fields), NoMemory<()>>
     ensures { IfOk result (λ r. r ≡ (head.now.uri, head.now.headers)) }
 {

@@ -7,7 +7,7 @@ use sequential_signer::{DeadlineRule, Event, Reply, SigningCredential, Verdict, 
 use sign_base::{CallId, Head};
 
 impl<K: SigningCredential, D: DeadlineRule<Credential = K>> State<K, D> {
-    ghost use Rattle.sequential_signer.specs.Policy.{policy_of};
+    ghost use Rattle.sequential_signer.specs.Policy.{policy_for};
     ghost use Rattle.sequential_signer.specs.declared.event.Event.TheVariants.{Signed};
     ghost use Rattle.sequential_signer.specs.declared.event.Reply.TheVariants.{OutOfMemory};
     ghost use Rattle.desk_parts.specs.Memory.{ClonesAreFree};
@@ -15,10 +15,10 @@ impl<K: SigningCredential, D: DeadlineRule<Credential = K>> State<K, D> {
     ghost use Rattle.sign_desk.specs.StepPrecondition.{StepPrecondition};
     ghost use Rattle.sign_desk.specs.Transition.{Transition};
 
-    /// One event.
+    /// The event is handed over: what is kept of it is moved.
     pub fn step_owned(&mut self, event: Event<K>) -> Reply<K>
         requires { StepPrecondition self.old }
-        ensures done { Transition (policy_of K.valid K.valid_at D.deadline) event self.old result self.new }
+        ensures done { Transition (policy_for K.SigningCredential D.DeadlineRule) event self.old result self.new }
         ensures memory { ClonesAreFree K.clones_freely → RunsOutAtBegins event result }
     {
         match event {
@@ -34,10 +34,9 @@ impl<K: SigningCredential, D: DeadlineRule<Credential = K>> State<K, D> {
         }
     }
 
-    /// A service's answer.
     fn take_signed(&mut self, call: CallId, answer: Verdict) -> Reply<K>
         requires { StepPrecondition self.old }
-        ensures done { Transition (policy_of K.valid K.valid_at D.deadline) (Signed call answer)
+        ensures done { Transition (policy_for K.SigningCredential D.DeadlineRule) (Signed call answer)
             self.old result self.new }
         ensures memory { result ≢ OutOfMemory }
     {

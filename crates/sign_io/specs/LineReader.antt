@@ -1,11 +1,13 @@
 -- What a reader of lines answers, and by what each answer comes.
-use Rattle.std.specs.Prelude.{◌≡◌, ◌<◌, ◌≤◌, ◌+◌, ◌++◌, ◌∷◌, ◌⊎◌, [], ℕ, Bool, true, false, List, Option, Some, None, Result, Ok, Err, MatchOption, length}
+use Rattle.std.specs.Prelude.{◌≡◌, ◌<◌, ◌≤◌, ◌+◌, ◌++◌, ◌∷◌, ◌⊎◌, [], ℕ, Bool, true, false, List}
+use Rattle.std.specs.Prelude.{Option, Some, None, Result, Ok, Err, MatchOption, length}
 use Rattle.std.specs.Io.KnownBytes.{Consumes, IsAtEnd}
 use Rattle.sign_io.specs.declared.close.Close.{Close}
 use Rattle.sign_io.specs.declared.close.Close.TheVariants as close
 use Rattle.sign_base.specs.Bytes.{newline}
 use Rattle.sign_io.specs.Lines.{IsLine, BeginsTooLong, input_limit}
-use Rattle.sign_io.specs.LineInput.{LineInput, taken, with_taken, closed_by, looked_at, NeedsRead, TakenByNeed, IsWithinLimit}
+use Rattle.sign_io.specs.LineInput.{LineInput, taken, with_taken, closed_by, looked_at}
+use Rattle.sign_io.specs.LineInput.{NeedsRead, TakenByNeed, IsWithinLimit}
 
 -- the next line leaves the input, with its newline
 abbrev pub GivesLine : LineInput → List ℕ → LineInput → Type 0

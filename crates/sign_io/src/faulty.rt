@@ -1,6 +1,8 @@
 //! A source and a sink for tests of faults: they work in small pieces, and fail at the calls that a
 //! plan names.
-ghost use Rattle.std.specs.Prelude.{◌≡◌, Some, List, length, min, [], ◌-◌, ◌==◌, ◌||◌, ◌<◌, ◌≤◌, IfOk, IfErr, OnErr, is_err};
+ghost use Rattle.std.specs.Prelude.{◌≡◌, Some, List, length, min, [], ◌-◌, ◌==◌};
+ghost use Rattle.std.specs.Prelude.{◌||◌, ◌<◌, ◌≤◌, IfOk, IfErr, OnErr, is_err, codes};
+ghost use Rattle.std.specs.Fmt.{WritesOnOk, WritesStyledOnOk};
 ghost use Rattle.std.specs.Io.KnownBytes.{ReadConsumes, WriteAppends};
 ghost use Rattle.std.specs.Io.{ReadsAtMost};
 ghost use Rattle.sign_io.specs.Faults.{CountsFault};
@@ -10,10 +12,11 @@ use crate::source::Failed;
 use crate::{MemorySink, MemorySource, Sink, Source};
 use sign_base::NoMemory;
 use std::alloc::Global;
+use std::fmt;
 use std::marker::Model;
 
 /// Which calls fail, counted from 0, and what happened so far.
-#[derive(Debug, Drop)]
+#[derive(Drop)]
 struct FaultPlan {
     fails: Vec<u64>,
     calls: u64,
@@ -54,8 +57,8 @@ impl FaultPlan {
     }
 }
 
-/// Bytes in memory that are read in pieces, with reads that fail.
-#[derive(Debug, Drop)]
+/// Bytes in memory that are read in pieces, with reads that fail. `Debug` shows nothing of it.
+#[derive(Drop)]
 pub struct FaultySource {
     bytes: MemorySource,
     piece: usize,
@@ -76,17 +79,30 @@ impl Model for FaultySource {
 impl FaultySource {
     /// A source of these bytes that gives `piece` of them to a read, or as many as are left and fit,
     /// and fails exactly at the reads whose numbers, from 0, stand in `fails`.
-    ///
-    /// Requires pieces of at least one byte.
     pub fn new(bytes: Vec<u8>, piece: usize, fails: Vec<u64>) -> FaultySource
         requires { 0 < piece }
-        ensures { result ≡ record { left = bytes.items; piece = piece; plan = record { fails = fails.items; calls = 0; faults = 0 } } }
+        ensures { result ≡ record {
+          left = bytes.items;
+          piece = piece;
+          plan = record { fails = fails.items; calls = 0; faults = 0 };
+        } }
     {
         FaultySource {
             bytes: MemorySource::new(bytes),
             piece,
             plan: FaultPlan::new(fails),
         }
+    }
+}
+
+impl fmt::Debug for FaultySource {
+    ghost debug_output = { λ _. Some (codes "FaultySource(***)") };
+
+    fn fmt<W: fmt::Write>(&self, f: &mut fmt::Formatter<W>) -> fmt::Result
+        ensures writes { WritesOnOk W.write_str_gives f.old result (codes "FaultySource(***)") f.new }
+        ensures styled { WritesStyledOnOk W.write_str_gives f.old result (codes "FaultySource(***)") f.new }
+    {
+        f.write_str("FaultySource(***)")
     }
 }
 
@@ -114,8 +130,8 @@ impl Source for FaultySource {
     }
 }
 
-/// Bytes in memory that are written in pieces, with writes that fail.
-#[derive(Debug, Drop)]
+/// Bytes in memory that are written in pieces, with writes that fail. `Debug` shows nothing of it.
+#[derive(Drop)]
 pub struct FaultySink {
     bytes: MemorySink,
     piece: usize,
@@ -138,8 +154,6 @@ impl FaultySink {
     /// An empty sink that takes at most `piece` bytes of a write, and fails exactly where no room is
     /// left and at the writes whose numbers, from 0, stand in `fails`. Its room is taken now; where
     /// there is no memory for it, `fails` comes back.
-    ///
-    /// Requires pieces of at least one byte.
     pub fn new(
         alloc: Global,
         room: usize,
@@ -147,7 +161,12 @@ impl FaultySink {
         fails: Vec<u64>,
     ) -> Result<FaultySink, NoMemory<Vec<u64>>>
         requires { 0 < piece }
-        ensures ok { IfOk result (λ s. s ≡ record { holds = []; room = room; piece = piece; plan = record { fails = fails.items; calls = 0; faults = 0 } }) }
+        ensures ok { IfOk result (λ s. s ≡ record {
+          holds = [];
+          room = room;
+          piece = piece;
+          plan = record { fails = fails.items; calls = 0; faults = 0 };
+        }) }
         ensures back { IfErr result (λ e. e.back ≡ fails) }
     {
         let Ok(bytes) = MemorySink::new(alloc, room) else {
@@ -165,6 +184,17 @@ impl FaultySink {
         ensures { result.now ≡ self.now.holds }
     {
         self.bytes.written()
+    }
+}
+
+impl fmt::Debug for FaultySink {
+    ghost debug_output = { λ _. Some (codes "FaultySink(***)") };
+
+    fn fmt<W: fmt::Write>(&self, f: &mut fmt::Formatter<W>) -> fmt::Result
+        ensures writes { WritesOnOk W.write_str_gives f.old result (codes "FaultySink(***)") f.new }
+        ensures styled { WritesStyledOnOk W.write_str_gives f.old result (codes "FaultySink(***)") f.new }
+    {
+        f.write_str("FaultySink(***)")
     }
 }
 

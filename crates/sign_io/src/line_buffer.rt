@@ -1,6 +1,7 @@
 //! The steps of a reader of lines, each of which leaves the line that it hands out in the window. The
 //! next newline is known at any time, so each byte is searched once.
-ghost use Rattle.std.specs.Prelude.{◌≡◌, ◌↔◌, ◌<◌, ◌≤◌, ◌-◌, [], ℕ, List, Option, None, false, IfOk, IsTrue, is_err, length, take, drop};
+ghost use Rattle.std.specs.Prelude.{◌≡◌, ◌↔◌, ◌<◌, ◌≤◌, ◌-◌, [], ℕ, List, Option, None};
+ghost use Rattle.std.specs.Prelude.{false, IfOk, IsTrue, is_err, length, take, drop};
 ghost use Rattle.std.specs.List.{position_or_len};
 ghost use Rattle.std.specs.Io.KnownBytes.{IsAtEnd};
 ghost use Rattle.sign_io.specs.Faults.{CountsFault};
@@ -23,7 +24,7 @@ pub const LINE_LIMIT: usize = 65_536;
 /// The most bytes of an input that are looked at.
 pub const INPUT_LIMIT: u64 = 67_108_864;
 
-#[derive(Debug, Drop)]
+#[derive(Drop)]
 pub(crate) struct LineBuffer {
     window: Window,
     handed: u64,

@@ -1,7 +1,8 @@
 //! Lines of an input, read in pieces as a source gives them. Nothing else knows of pieces, buffers and
 //! limits: a line has at most `LINE_LIMIT` bytes, and only the first `INPUT_LIMIT` bytes of an input
 //! are looked at.
-ghost use Rattle.std.specs.Prelude.{◌≡◌, ◌↔◌, [], None, Err, IfOk, IsTrue};
+ghost use Rattle.std.specs.Prelude.{◌≡◌, ◌↔◌, [], None, Some, Err, IfOk, IsTrue, codes};
+ghost use Rattle.std.specs.Fmt.{WritesOnOk, WritesStyledOnOk};
 ghost use Rattle.std.specs.Borrow.{sem};
 ghost use Rattle.sign_io.specs.Faults.{CountsFault};
 ghost use Rattle.sign_io.specs.LineInput.{taken, NeedsRead};
@@ -16,7 +17,7 @@ use std::alloc::Global;
 use std::fmt;
 use std::marker::Model;
 
-/// What is next of an input. `Debug` shows how many bytes a line has.
+/// What is next of an input. `Debug` shows nothing of a line.
 #[derive(Drop)]
 pub enum Next<'a> {
     /// A line, without its newline. The last line may have had none.
@@ -32,24 +33,26 @@ pub enum Next<'a> {
 }
 
 impl fmt::Debug for Next<'_> {
-    ghost use Rattle.std.specs.Prelude.{Some};
     ghost use Rattle.sign_io.specs.NextShown.{next_text};
 
     ghost debug_output = { λ next. Some (next_text next) };
 
-    fn fmt<W: fmt::Write>(&self, f: &mut fmt::Formatter<W>) -> fmt::Result {
-        match self {
-            Next::Line(line) => write!(f, "Line({} bytes)", line.len()),
-            Next::TooLong => f.write_str("TooLong"),
-            Next::TooMuch => f.write_str("TooMuch"),
-            Next::End => f.write_str("End"),
-            Next::Fault => f.write_str("Fault"),
-        }
+    fn fmt<W: fmt::Write>(&self, f: &mut fmt::Formatter<W>) -> fmt::Result
+        ensures writes { WritesOnOk W.write_str_gives f.old result (next_text self.now) f.new }
+        ensures styled { WritesStyledOnOk W.write_str_gives f.old result (next_text self.now) f.new }
+    {
+        f.write_str(match self {
+            Next::Line(_) => "Line(***)",
+            Next::TooLong => "TooLong",
+            Next::TooMuch => "TooMuch",
+            Next::End => "End",
+            Next::Fault => "Fault",
+        })
     }
 }
 
-/// A reader of lines. It takes a buffer once, and no memory for a line.
-#[derive(Debug, Drop)]
+/// A reader of lines. It takes a buffer once, and no memory for a line. `Debug` shows nothing of what it holds.
+#[derive(Drop)]
 pub struct LineReader {
     lines: LineBuffer,
 }
@@ -102,6 +105,17 @@ impl LineReader {
             Ok(()) => Next::Line(self.lines.line()),
             Err(close) => no_line(close),
         }
+    }
+}
+
+impl fmt::Debug for LineReader {
+    ghost debug_output = { λ _. Some (codes "LineReader(***)") };
+
+    fn fmt<W: fmt::Write>(&self, f: &mut fmt::Formatter<W>) -> fmt::Result
+        ensures writes { WritesOnOk W.write_str_gives f.old result (codes "LineReader(***)") f.new }
+        ensures styled { WritesStyledOnOk W.write_str_gives f.old result (codes "LineReader(***)") f.new }
+    {
+        f.write_str("LineReader(***)")
     }
 }
 

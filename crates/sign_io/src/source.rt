@@ -1,6 +1,8 @@
 //! Where bytes come from. A source gives them in pieces of any size, may let contracts observe what is
 //! still to come, and counts its faults, so that a failed read has a cause that a caller can see.
-ghost use Rattle.std.specs.Prelude.{◌≡◌, ℕ, Option, Some, None, Ok, List, length, take, drop, ◌++◌, min, ◌<◌, is_ok, is_err, codes, decimal, if◌then◌else◌};
+ghost use Rattle.std.specs.Prelude.{◌≡◌, ℕ, Option, Some, None, Ok, List, length, take, drop, ◌++◌};
+ghost use Rattle.std.specs.Prelude.{min, ◌<◌, is_ok, is_err, codes, if◌then◌else◌};
+ghost use Rattle.std.specs.Fmt.{WritesOnOk, WritesStyledOnOk};
 ghost use Rattle.std.specs.Io.KnownBytes.{ReadConsumes};
 ghost use Rattle.std.specs.Io.{ReadsAtMost};
 ghost use Rattle.sign_io.specs.Faults.{CountsFault, one_more};
@@ -41,7 +43,7 @@ pub trait Source {
         ensures faults { CountsFault (is_err result) (faults self.old) (faults self.new) };
 }
 
-/// Bytes in memory. It never fails. `Debug` shows how many are left.
+/// Bytes in memory. It never fails. `Debug` shows nothing of them.
 #[derive(Drop)]
 pub struct MemorySource {
     bytes: Vec<u8>,
@@ -67,10 +69,13 @@ impl MemorySource {
 }
 
 impl fmt::Debug for MemorySource {
-    ghost debug_output = { λ s. Some (codes "MemorySource(" ++ decimal (length s) ++ codes " bytes)") };
+    ghost debug_output = { λ _. Some (codes "MemorySource(***)") };
 
-    fn fmt<W: fmt::Write>(&self, f: &mut fmt::Formatter<W>) -> fmt::Result {
-        write!(f, "MemorySource({} bytes)", self.bytes.len() - self.at)
+    fn fmt<W: fmt::Write>(&self, f: &mut fmt::Formatter<W>) -> fmt::Result
+        ensures writes { WritesOnOk W.write_str_gives f.old result (codes "MemorySource(***)") f.new }
+        ensures styled { WritesStyledOnOk W.write_str_gives f.old result (codes "MemorySource(***)") f.new }
+    {
+        f.write_str("MemorySource(***)")
     }
 }
 

@@ -1,7 +1,8 @@
 //! The part of an input that is held, in a buffer of a fixed size: pieces are read in after it, and
 //! lines leave it at its front. What is held moves to the buffer's front only where nothing fits
 //! after it, so that each byte moves a bounded number of times.
-ghost use Rattle.std.specs.Prelude.{◌≡◌, ◌<◌, ◌≤◌, ◌+◌, ◌-◌, [], IfOk, is_err, length, vec_len, take, drop, slice_range};
+ghost use Rattle.std.specs.Prelude.{◌≡◌, ◌<◌, ◌≤◌, ◌+◌, ◌-◌, [], IfOk, is_err};
+ghost use Rattle.std.specs.Prelude.{length, vec_len, take, drop, slice_range};
 ghost use Rattle.std.specs.Io.KnownBytes.{ReadConsumes};
 ghost use Rattle.sign_io.specs.Faults.{CountsFault};
 ghost use Rattle.sign_io.specs.Window.{buffer_size, ReadsPiece};
@@ -9,7 +10,6 @@ ghost use Rattle.sign_io.specs.Window.{buffer_size, ReadsPiece};
 use crate::{Failed, Source};
 use sign_base::NoMemory;
 use std::alloc::Global;
-use std::fmt;
 use std::marker::Model;
 
 /// The bytes of a buffer: two times those of the longest line, so that what is held of a line is
@@ -102,14 +102,6 @@ impl Window {
         let n = read_at(source, self.bytes.as_mut_slice(), self.end, most)?;
         self.end += n;
         Ok(n)
-    }
-}
-
-impl fmt::Debug for Window {
-    fn fmt<W: fmt::Write>(&self, f: &mut fmt::Formatter<W>) -> fmt::Result {
-        let line = self.line_end - self.line;
-        let held = self.end - self.start;
-        write!(f, "Window({line} bytes of a line, {held} behind it)")
     }
 }
 

@@ -13,7 +13,7 @@ use Rattle.sequential_signer.specs.declared.event.Reply.TheVariants as reply
 use Rattle.sequential_signer.specs.Replies.{is_cancelled}
 use Rattle.signer_book.specs.declared.pass.Receipt.{Receipt}
 use Rattle.signer_shared.specs.Gates.{GateMeaning}
-use Rattle.signer_shared.specs.Serving.{replies, IsNext, next_after, IsStep, goes_on, gives_up, runs_out, IsCourse, ServesAll, StopsAtAJob, IsServing}
+use Rattle.signer_shared.specs.Serving.{replies, IsNext, next_after, IsStep, goes_on, gives_up, runs_out, IsEventSequence, ServesAll, StopsAtAJob, IsServing}
 use Rattle.signer_shared.specs.declared.job.Job.{Job}
 use Rattle.signer_shared.specs.declared.job.Served.{Served}
 use Rattle.sign_pool.specs.Calls.{calls_of, has_only_calls_of}
@@ -81,7 +81,7 @@ module _ {K : Type 0} where
   module _ (gate : GateMeaning K) (turns : ℕ) (job : Job) (answers : List Answer) (here : is_among job.call (calls_of answers) ≡ true) where
     -- the course of the job's call behind this reply
     abbrev CourseAfter : Reply K → List (Receipt K) → Type 0
-    CourseAfter r own = (end : _) × IsCourse gate turns job (next_after r) own end
+    CourseAfter r own = (end : _) × IsEventSequence gate turns job (next_after r) own end
 
     one-more : (r : Receipt K) (rest : List (Receipt K)) → call_of r.entry.event ≡ job.call
         → has_only_calls_of answers rest ≡ true → has_only_calls_of answers (r ∷ rest) ≡ true
@@ -90,13 +90,13 @@ module _ {K : Type 0} where
     -- one step of a course, and what comes behind it
     step-calls : (at : _) (after : _) (x : Receipt K) (rest : List (Receipt K)) (end : _)
         → (IsNext gate job at x.entry.event → call_of x.entry.event ≡ job.call)
-        → IsStep gate turns job at x.entry after → IsCourse gate turns job after rest end
+        → IsStep gate turns job at x.entry after → IsEventSequence gate turns job after rest end
         → (CourseAfter x.entry.reply rest → has_only_calls_of answers rest ≡ true)
         → has_only_calls_of answers (x ∷ rest) ≡ true
-    step-calls at after x rest end about (goes_on n a) course later = one-more x rest (about n) (later (end, subst (λ s. IsCourse gate turns job s rest end) a course))
-    step-calls at after x rest end about (gives_up u e a) course later = one-more x rest (ap call_of e) (later (end, subst (λ s. IsCourse gate turns job s rest end) a course))
+    step-calls at after x rest end about (goes_on n a) course later = one-more x rest (about n) (later (end, subst (λ s. IsEventSequence gate turns job s rest end) a course))
+    step-calls at after x rest end about (gives_up u e a) course later = one-more x rest (ap call_of e) (later (end, subst (λ s. IsEventSequence gate turns job s rest end) a course))
     step-calls at after x rest end about (runs_out l e a) course later =
-        let over = subst (λ s. IsCourse gate turns job s rest end) a course in one-more x rest (ap call_of e) (ap (has_only_calls_of answers) over.0)
+        let over = subst (λ s. IsEventSequence gate turns job s rest end) a course in one-more x rest (ap call_of e) (ap (has_only_calls_of answers) over.0)
 
     calls-after : (r : Reply K) (own : List (Receipt K)) → CourseAfter r own
         → has_only_calls_of answers own ≡ true

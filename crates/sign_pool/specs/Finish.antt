@@ -1,11 +1,8 @@
 -- What finishing a pool gives, and why it is refused.
-use Rattle.std.specs.Prelude.{◌≡◌, ◌≢◌, ◌⊎◌, ℕ, List, Option, map, length, All, IsTrue}
+use Rattle.std.specs.Prelude.{◌≡◌, ◌≢◌, ◌⊎◌, ℕ, List, map, length, All, IsTrue}
 use Rattle.std.specs.Global.{Vec}
 use Rattle.sequential_signer.specs.declared.credential.SigningCredential.{Ghosts}
 use Rattle.sequential_signer.specs.declared.rule.DeadlineRule.{Ghosts as RuleGhosts}
-use Rattle.crossbeam_queue.specs.Passes.{Pass, view, IsPassOf}
-use Rattle.crossbeam_queue.specs.declared.array_queue.Doing.{Doing}
-use Rattle.crossbeam_queue.specs.declared.array_queue.Slotted.{Slotted}
 use Rattle.sign_base.specs.Calls.{is_among}
 use Rattle.sequential_signer.specs.Policy.{Policy}
 use Rattle.sequential_signer.specs.Transcript.{call_of}
@@ -16,7 +13,7 @@ use Rattle.signer_book.specs.declared.pass.Receipt.{Receipt}
 use Rattle.signer_book.specs.declared.settled.CloseRefused.{CloseRefused}
 use Rattle.sign_pool.specs.Calls.{calls_of}
 use Rattle.sign_pool.specs.Cleared.{joined, lists_of, IsCleared}
-use Rattle.sign_pool.specs.Seats.{HeldAtOnce}
+use Rattle.sign_pool.specs.Laws.{HaveExpectedHeads}
 use Rattle.sign_pool.specs.TrueAnswers.{AreGoodAnswers, IsFirstBad}
 use Rattle.sign_pool.specs.declared.answer.Answer.{Answer}
 use Rattle.sign_pool.specs.declared.finished.FinishCause.{FinishCause}
@@ -26,7 +23,6 @@ use Rattle.sign_pool.specs.declared.finished.FinishError.TheVariants as early
 use Rattle.sign_pool.specs.declared.finished.FinishRefused.{FinishRefused}
 use Rattle.sign_pool.specs.declared.finished.FinishRefused.TheVariants as refused
 use Rattle.sign_pool.specs.declared.finished.Finished.{Finished}
-use Rattle.sign_pool.specs.declared.job.Hand.{Hand}
 use Rattle.sign_pool.specs.declared.job.PoolJob.{PoolJob}
 use Rattle.sign_pool.specs.declared.pool.Pool.{Pool}
 use Rattle.sign_pool.specs.declared.seats.Submitter.{Submitter}
@@ -46,22 +42,11 @@ IsFinishError made_submitters made_workers submitters workers (early.Seats named
 IsFinishError made_submitters made_workers submitters workers early.OutOfMemory =
     HasAllSeats made_submitters made_workers submitters workers
 
--- one seat of the queue took these jobs out of it, and then found it empty
-pub record AreRest {Q A : Type 0} (queue : Slotted (Option PoolJob) (Doing PoolJob Hand) Q A)
-    (left : List PoolJob) : Type 0 where
-  pub seat : Pass PoolJob Hand
-  pub of_queue : IsPassOf queue seat
-  pub taken : (view seat).taken ≡ left
-  pub empty : HeldAtOnce 0
-
--- what the seats had, in their order, and what was left in the queue
-pub record HandsOut {K Q A : Type 0} (queue : Slotted (Option PoolJob) (Doing PoolJob Hand) Q A)
-    (submitters : List Submitter) (workers : List (Worker K))
-    (passes : List (List (Receipt K))) (answers : List (Vec Answer)) (left : List PoolJob)
-    (submitted : List (Vec PoolJob)) : Type 0 where
+-- what the seats had, in their order
+pub record HandsOut {K : Type 0} (submitters : List Submitter) (workers : List (Worker K))
+    (passes : List (List (Receipt K))) (answers : List (Vec Answer)) (submitted : List (Vec PoolJob)) : Type 0 where
   pub passes_are : passes ≡ map (λ w. w.pass) workers
   pub answers_are : answers ≡ map (λ w. w.answers) workers
-  pub left_are : AreRest queue left
   pub submitted_are : submitted ≡ map (λ s. s.jobs) submitters
 
 -- each entry of the journal is about a call of these answers
@@ -90,6 +75,13 @@ abbrev pub HasGoodAnswers : {K D : Type 0} → Finished K D → Type 0
 HasGoodAnswers finished =
     AreGoodAnswers finished.settled.journal.items finished.settled.passes.items
     (lists_of finished.answers.items)
+
+-- each head of an answer that says `Done` is the sequential signer's, for what was submitted
+abbrev pub HasExpectedHeads : {K D : Type 0} → Policy K D → Finished K D → Type 0
+HasExpectedHeads policy finished =
+    HaveExpectedHeads policy (setup_of finished.settled.desk) finished.settled.journal.items
+    finished.settled.passes.items (lists_of finished.answers.items)
+    (joined (lists_of finished.submitted.items))
 
 -- the cause for which a pool is not finished, and none of those before it
 abbrev pub IsFinishCause : {K D : Type 0} → Finished K D → FinishCause → Type 0

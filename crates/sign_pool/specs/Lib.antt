@@ -9,3 +9,8 @@ pub mod Notes
 pub mod Room
 pub mod Finish
 pub mod Laws
+pub use Rattle.crossbeam_queue.specs.Passes
+pub use Rattle.desk_parts.specs.Tables
+pub use Rattle.sequential_signer.specs.Policy
+pub use Rattle.sign_desk.specs.DeskState
+pub use Rattle.signer_book.specs.Close

@@ -1,13 +1,8 @@
 -- What a pool's seats keep, and what a push changes.
-use Rattle.std.specs.Prelude.{◌≡◌, ◌++◌, ◌∷◌, ℕ, ⊤, []}
-use Rattle.crossbeam_queue.specs.Fifo.{Held}
+use Rattle.std.specs.Prelude.{◌≡◌, ◌++◌, ◌∷◌, []}
 use Rattle.crossbeam_queue.specs.Passes.{view}
 use Rattle.sign_pool.specs.declared.job.PoolJob.{PoolJob}
 use Rattle.sign_pool.specs.declared.seats.Submitter.{Submitter}
-
--- at one moment of the call the queue held so many jobs
-abbrev pub HeldAtOnce : ℕ → Type 0
-HeldAtOnce count = Held {T = PoolJob} count (λ jobs. ⊤)
 
 -- one push, of this job by this submitter: it is the submitter's new last job
 pub record Submits (before after : Submitter) (job : PoolJob) : Type 0 where

@@ -9,7 +9,6 @@ use Rattle.signer_shared.specs.Gates.{GateMeaning}
 use Rattle.signer_shared.specs.Serving.{IsServing}
 use Rattle.signer_shared.specs.declared.job.Job.{Job}
 use Rattle.signer_shared.specs.declared.job.Served.{Served}
-use Rattle.sign_pool.specs.Seats.{HeldAtOnce}
 use Rattle.sign_pool.specs.declared.answer.Outcome.{Outcome}
 use Rattle.sign_pool.specs.declared.answer.Outcome.TheVariants as ended
 use Rattle.sign_pool.specs.declared.job.PoolJob.{PoolJob}
@@ -72,5 +71,5 @@ pub record IsSameWorker {K : Type 0} (before after : Worker K) : Type 0 where
 abbrev pub Works : {K : Type 0} → GateMeaning K → ℕ → Worker K → Worker K → Work → Type 0
 Works gate turns before after (work.Served ticket) =
     (job : PoolJob) × (job.ticket ≡ ticket) × Takes before after job × Serves gate turns before after job
-Works gate turns before after work.Empty = HeldAtOnce 0 × IsSameWorker before after
+Works gate turns before after work.Empty = IsSameWorker before after
 Works gate turns before after work.OutOfMemory = IsSameWorker before after

@@ -4,7 +4,9 @@ ghost use Rattle.crossbeam_queue.specs.Passes.{IsPassOf, ruled_capacity};
 ghost use Rattle.sequential_signer.specs.Policy.{policy_of};
 ghost use Rattle.sign_desk.specs.DeskState.{Represents};
 ghost use Rattle.signer_book.specs.Close.{IsCloseCause};
-ghost use Rattle.sign_pool.specs.Finish.{HasAllSeats, HandsOut, HasGoodAnswers, IfEarly, IfNotClosed, IfUncleared, IsClearedPool, IsClosed, IsFinishCause, IsFinishError};
+ghost use Rattle.sign_pool.specs.Finish.{HasAllSeats, HandsOut, HasExpectedHeads, HasGoodAnswers};
+ghost use Rattle.sign_pool.specs.Finish.{IfEarly, IfNotClosed, IfUncleared, IsFinishError};
+ghost use Rattle.sign_pool.specs.Finish.{IsClearedPool, IsClosed, IsFinishCause};
 ghost use Rattle.sign_pool.specs.Room.{HasRoom};
 
 use crate::compare::finish_cause;
@@ -43,9 +45,10 @@ where
             (λ f. HasAllSeats self.submitters self.workers submitters.items workers.items) }
         ensures cleared { IfOk result IsClearedPool }
         ensures answers { IfOk result HasGoodAnswers }
+        ensures heads { IfOk result (HasExpectedHeads (policy_of K.valid K.valid_at D.deadline)) }
         ensures closed { IfOk result (IsClosed (policy_of K.valid K.valid_at D.deadline) self.shared) }
-        ensures values { IfOk result (λ f. HandsOut self.queue submitters.items workers.items
-            f.settled.passes.items f.answers.items f.left.items f.submitted.items) }
+        ensures values { IfOk result (λ f. HandsOut submitters.items workers.items
+            f.settled.passes.items f.answers.items f.submitted.items) }
 
         ensures back { IfErr result (λ r. IfEarly r (λ pool ss ws why.
             (pool ≡ self) × (ss ≡ submitters) × (ws ≡ workers)
@@ -55,13 +58,13 @@ where
             × (close.plan ≡ self.shared)
             × Represents (policy_of K.valid K.valid_at D.deadline) close.book.desk close.book.journal
             × IsCloseCause self.shared close.book close.passes.items close.why
-            × HandsOut self.queue submitters.items workers.items
-            close.passes.items answers.items left.items submitted.items)) }
+            × HandsOut submitters.items workers.items
+            close.passes.items answers.items submitted.items)) }
         ensures uncleared { IfErr result (λ r. IfUncleared r (λ f why.
             HasAllSeats self.submitters self.workers submitters.items workers.items
             × IsClosed (policy_of K.valid K.valid_at D.deadline) self.shared f × IsFinishCause f why
-            × HandsOut self.queue submitters.items workers.items
-            f.settled.passes.items f.answers.items f.left.items f.submitted.items)) }
+            × HandsOut submitters.items workers.items
+            f.settled.passes.items f.answers.items f.submitted.items)) }
     {
         match self.take_room(submitters.as_slice(), workers.as_slice()) {
             Ok(room) => self.finish_in(rt, submitters, workers, room),
@@ -109,20 +112,21 @@ where
         requires room { HasRoom (ruled_capacity self.queue) submitters.items workers.items room }
         ensures cleared { IfOk result IsClearedPool }
         ensures answers { IfOk result HasGoodAnswers }
+        ensures heads { IfOk result (HasExpectedHeads (policy_of K.valid K.valid_at D.deadline)) }
         ensures closed { IfOk result (IsClosed (policy_of K.valid K.valid_at D.deadline) self.shared) }
-        ensures values { IfOk result (λ f. HandsOut self.queue submitters.items workers.items
-            f.settled.passes.items f.answers.items f.left.items f.submitted.items) }
+        ensures values { IfOk result (λ f. HandsOut submitters.items workers.items
+            f.settled.passes.items f.answers.items f.submitted.items) }
         ensures back { IfErr result (λ r. IfEarly r (λ pool ss ws why. ⊥)) }
         ensures close { IfErr result (λ r. IfNotClosed r (λ close answers left submitted.
             (close.plan ≡ self.shared)
             × Represents (policy_of K.valid K.valid_at D.deadline) close.book.desk close.book.journal
             × IsCloseCause self.shared close.book close.passes.items close.why
-            × HandsOut self.queue submitters.items workers.items
-            close.passes.items answers.items left.items submitted.items)) }
+            × HandsOut submitters.items workers.items
+            close.passes.items answers.items submitted.items)) }
         ensures uncleared { IfErr result (λ r. IfUncleared r (λ f why.
             IsClosed (policy_of K.valid K.valid_at D.deadline) self.shared f × IsFinishCause f why
-            × HandsOut self.queue submitters.items workers.items
-            f.settled.passes.items f.answers.items f.left.items f.submitted.items)) }
+            × HandsOut submitters.items workers.items
+            f.settled.passes.items f.answers.items f.submitted.items)) }
     {
         // What is taken apart is dropped by name, so that neither answer has to drop it part by part.
         let Pool {

@@ -1,16 +1,12 @@
 //! Taking out of the queue what is left in it.
 ghost use Rattle.std.specs.Prelude.{◌≡◌, ◌++◌, ◌∷◌, []};
-ghost use Rattle.sign_pool.specs.Finish.{AreRest};
 
 use crate::job::{JobQueue, PoolJob, Takes};
 use std::sync::Wait;
 
 /// Takes jobs out of the queue until it is empty, each to the end of the list. It may wait for a step at the
 /// queue.
-pub(crate) fn take_rest<R: Wait>(rt: &R, queue: &JobQueue, mut left: Vec<PoolJob>) -> Vec<PoolJob>
-    requires { left.items ≡ [] }
-    ensures { AreRest queue.now result.items }
-{
+pub(crate) fn take_rest<R: Wait>(rt: &R, queue: &JobQueue, mut left: Vec<PoolJob>) -> Vec<PoolJob> {
     let mut seat = queue.pass();
     for _ in rt.forever() {
         let Some(job) = queue.pop_as::<Takes, R>(rt, &mut seat) else {

@@ -1,8 +1,7 @@
 //! Putting jobs into the queue.
 ghost use Rattle.std.specs.Prelude.{◌≡◌, length, IfOk, IfErr, OnOk, OnErr};
 ghost use Rattle.crossbeam_queue.specs.Passes.{IsPassOf, ruled_capacity};
-ghost use Rattle.sign_pool.specs.Seats.{Submits, IsSameSubmitter, HeldAtOnce};
-ghost use Rattle.sign_pool.specs.declared.submit.SubmitError.TheVariants.{Full};
+ghost use Rattle.sign_pool.specs.Seats.{Submits, IsSameSubmitter};
 
 use crate::job::{PoolJob, Puts, Ticket};
 use crate::pool::Pool;
@@ -17,7 +16,7 @@ use std::time::Duration;
 pub enum SubmitError {
     /// An allocation failed, before the queue was touched.
     OutOfMemory,
-    /// The queue held as many jobs as it may.
+    /// The queue answered that it is full.
     Full,
 }
 
@@ -50,8 +49,6 @@ impl<K: SigningCredential, D: DeadlineRule<Credential = K>> Pool<K, D> {
         ensures submits { IfOk result (λ ticket. Submits seat.old seat.new
             (record { ticket = ticket; head = head; expires_in = expires_in })) }
         ensures back { IfErr result (λ refused. (refused.head ≡ head) × (refused.expires_in ≡ expires_in)) }
-        ensures full { IfErr result
-            (λ refused. refused.why ≡ Full → HeldAtOnce (ruled_capacity self.now.queue)) }
         ensures unchanged { OnErr result (IsSameSubmitter seat.old seat.new) }
     {
         let Ok(copy) = head.try_clone(self.alloc) else {

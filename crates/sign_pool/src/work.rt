@@ -19,7 +19,7 @@ use std::sync::Wait;
 pub enum Work {
     /// The job with this ticket was taken and answered.
     Served(Ticket),
-    /// The queue held no job.
+    /// The queue answered that it is empty.
     Empty,
     /// An allocation failed, before a job was taken.
     OutOfMemory,

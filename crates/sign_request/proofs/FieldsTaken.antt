@@ -45,7 +45,8 @@ accepted-more xs f earlier this r =
       | inr h ↦ earlier (record { before = r.before; refused = r.refused; after = h.0; is = h.1; cause = r.cause })
     ]
 
-module _ (fields : List Field) (i : ℕ) (f : Field) (within : i < length fields) (is : f ≡ get_or fields i f) where
+module _ (fields : List Field) (i : ℕ) (f : Field) (within : i < length fields)
+    (is : f ≡ get_or fields i f) where
   more : take (i + 1) fields ≡ take i fields ++ f ∷ []
   more = take_more fields i f within ∙ ap (λ g. take i fields ++ g ∷ []) (sym is)
 

@@ -1,5 +1,6 @@
 -- Which plain heads `http` accepts, as tests.
-use Rattle.std.specs.Prelude.{ℕ, ◌-◌, ◌^◌, Bool, true, ◌&&◌, ◌||◌, List, [], ◌∷◌, length, bytes_eq, is_some, nat_lt}
+use Rattle.std.specs.Prelude.{ℕ, ◌-◌, ◌^◌, Bool, true, ◌&&◌, ◌||◌, List, []}
+use Rattle.std.specs.Prelude.{◌∷◌, length, bytes_eq, is_some, nat_lt}
 use Rattle.std.specs.List.{list_all, list_any}
 use Rattle.http_header.specs.FieldName.{is_field_name}
 use Rattle.http_header.specs.FieldValue.{FieldValue, plain_value}

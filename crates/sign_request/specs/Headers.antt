@@ -1,5 +1,6 @@
 -- Headers as a service reads them.
-use Rattle.std.specs.Prelude.{ℕ, ◌-◌, Bool, List, [], filter, length, not, slice_range, nat_eq, ◌==◌, if◌then◌else◌}
+use Rattle.std.specs.Prelude.{ℕ, ◌-◌, Bool, List, [], filter, length, not}
+use Rattle.std.specs.Prelude.{slice_range, nat_eq, ◌==◌, if◌then◌else◌}
 use Rattle.std.specs.List.{AllByRecursion, list_any, prefix_len, suffix_len, starts_with}
 use Rattle.std.specs.Option.{option_map_or}
 use Rattle.http_header.specs.FieldValue.{FieldValue, IsVisibleAscii}

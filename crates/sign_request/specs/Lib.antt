@@ -15,3 +15,9 @@ pub mod PlainTarget
 pub mod AcceptedHead
 pub mod PlainView
 pub mod RoundTrip
+pub use Rattle.http_header.specs.FieldValue
+pub use Rattle.http_header.specs.HeaderMap
+pub use Rattle.http_uri.specs.Error
+pub use Rattle.http_uri.specs.Uri
+pub use Rattle.percent_encoding.specs.Cow
+pub use Rattle.sign_base.specs.Conversion

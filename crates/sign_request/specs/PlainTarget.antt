@@ -1,10 +1,12 @@
 -- Reading the text of a request target (RFC 9112, 3.2).
-use Rattle.std.specs.Prelude.{ℕ, ◌+◌, ◌&&◌, ◌||◌, List, [], codes, length, take, drop, Option, Some, None, ◌==◌, nat_lt, if◌then◌else◌}
+use Rattle.std.specs.Prelude.{ℕ, ◌+◌, ◌&&◌, ◌||◌, List, [], codes, length, take, drop}
+use Rattle.std.specs.Prelude.{Option, Some, None, ◌==◌, nat_lt, if◌then◌else◌}
 use Rattle.std.specs.Bool.{then_some}
 use Rattle.http_uri.specs.Grammar.{scheme_len, authority_len, normal_scheme, without_fragment}
 use Rattle.http_uri.specs.Uri.{uri_scheme, uri_authority, uri_data}
 use Rattle.http_uri.specs.declared.uri.Uri.{Uri}
-use Rattle.sign_request.specs.TargetTests.{most_target_bytes, is_scheme, has_scheme, is_authority, is_path_input, starts_origin}
+use Rattle.sign_request.specs.TargetTests.{most_target_bytes, is_scheme, has_scheme, is_authority}
+use Rattle.sign_request.specs.TargetTests.{is_path_input, starts_origin}
 
 -- a request target in its parts
 pub record PlainTarget : Type 0 where
@@ -40,7 +42,11 @@ absolute_form text =
     let authority = take (authority_len rest) rest in
     let tail = drop (authority_len rest) rest in
     then_some (is_scheme name && (is_authority authority && ((length tail == 0) || is_path_input tail)))
-    (record { scheme = Some (normal_scheme name); authority = Some authority; path_and_query = kept_tail tail })
+    (record {
+      scheme = Some (normal_scheme name);
+      authority = Some authority;
+      path_and_query = kept_tail tail;
+    })
 
 -- a text in its form
 unfoldable pub form_of : List ℕ → Option PlainTarget

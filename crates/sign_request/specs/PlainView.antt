@@ -1,5 +1,6 @@
 -- What a view shows of a plain head.
-use Rattle.std.specs.Prelude.{ℕ, ◌^◌, ◌<◌, List, [], codes, Option, Result, Err, option_map, option_and_then, unwrap_or, string_bytes, if◌then◌else◌}
+use Rattle.std.specs.Prelude.{ℕ, ◌^◌, ◌<◌, List, [], codes, Option, Result, Err, option_map}
+use Rattle.std.specs.Prelude.{option_and_then, unwrap_or, string_bytes, if◌then◌else◌}
 use Rattle.std.specs.Option.{ok_or}
 use Rattle.http_uri.specs.Grammar.{path_of, query_of}
 use Rattle.sign_base.specs.declared.head.Head.{Head}

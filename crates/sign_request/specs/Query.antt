@@ -1,5 +1,6 @@
 -- Reading a query: its pairs of a key and a value, each decoded once.
-use Rattle.std.specs.Prelude.{◌≢◌, ℕ, ◌+◌, Bool, List, All, map, filter, length, not, sum_by, string_bytes, ◌==◌}
+use Rattle.std.specs.Prelude.{◌≢◌, ℕ, ◌+◌, Bool, List, All, map, filter}
+use Rattle.std.specs.Prelude.{length, not, sum_by, string_bytes, ◌==◌}
 use Rattle.std.specs.List.{slice_split, before_first, after_first}
 use Rattle.std.specs.Str.Lossy.{utf8_lossy}
 use Rattle.std.specs.declared.string.String.{String}

@@ -1,10 +1,14 @@
 -- The pieces of a request target as tests: which bytes `http` takes for a scheme,
 -- an authority, a path and query.
-use Rattle.std.specs.Prelude.{ℕ, ◌-◌, Bool, true, not, ◌&&◌, ◌||◌, List, length, take, drop, slice_index, codes, bytes_eq, ◌==◌, nat_lt, nat_le}
+use Rattle.std.specs.Prelude.{ℕ, ◌-◌, Bool, true, not, ◌&&◌, ◌||◌, List, length, take, drop}
+use Rattle.std.specs.Prelude.{slice_index, codes, bytes_eq, ◌==◌, nat_lt, nat_le}
 use Rattle.std.specs.List.{list_all, range_with_len}
 use Rattle.std.specs.Option.{option_map_or}
 use Rattle.std.specs.Str.{is_utf8}
-use Rattle.http_uri.specs.ByteClasses.{is_scheme_byte, is_authority_byte, is_path_byte, is_query_byte, is_delimiter, count_of, split_once_front, split_once_back, at_sign, colon, left_bracket, percent_sign, question_mark, right_bracket, slash}
+use Rattle.http_uri.specs.ByteClasses.{is_scheme_byte, is_authority_byte, is_path_byte, is_query_byte}
+use Rattle.http_uri.specs.ByteClasses.{is_delimiter, count_of, split_once_front, split_once_back}
+use Rattle.http_uri.specs.ByteClasses.{at_sign, colon, left_bracket, percent_sign, question_mark}
+use Rattle.http_uri.specs.ByteClasses.{right_bracket, slash}
 use Rattle.http_uri.specs.Grammar.{last_piece, scheme_len, without_fragment}
 
 -- the most bytes that a scheme, and that a whole target, may have

@@ -9,7 +9,7 @@ ghost use Rattle.sign_request.specs.PlainHead.{field_pair, header_map, RefusesFi
 ghost use Rattle.sign_request.specs.Refusal.{IsOutOfMemory, RefusedAs};
 
 use crate::refusal::or_out_of_memory;
-use crate::{FromHttpError, HeaderKeys};
+use crate::{FromHttpError, HeaderSeeds};
 use http::header::{HeaderMap, HeaderMapError, HeaderName, HeaderValue, MAX_KEYS};
 use sign_base::{Error, Field, Fields, NoMemory, Octets};
 use std::alloc::Global;
@@ -38,7 +38,7 @@ fn field_of(alloc: Global, name: &HeaderName, value: &HeaderValue) -> Result<Fie
 pub(crate) fn headers_of(
     alloc: Global,
     fields: &Fields,
-    keys: HeaderKeys,
+    keys: HeaderSeeds,
 ) -> Result<HeaderMap, Error>
     ensures ok { IfOk result (λ headers. headers ≡ header_map fields.now) }
     ensures accepted { OnOk result (¬ (RefusesFields fields.now)) }
@@ -68,7 +68,7 @@ fn append_fields(alloc: Global, headers: &mut HeaderMap, fields: &Fields) -> Res
 }
 
 /// An empty map with room for so many names, or for as many as a map can have.
-fn map_for(alloc: Global, names: usize, keys: HeaderKeys) -> Result<HeaderMap, Error>
+fn map_for(alloc: Global, names: usize, keys: HeaderSeeds) -> Result<HeaderMap, Error>
     ensures ok { IfOk result (λ headers. headers ≡ []) }
     ensures err { IfErr result IsOutOfMemory }
 {

@@ -1,10 +1,11 @@
 //! The view of a plain head, to be printed: what a signer would see of the request.
-ghost use Rattle.std.specs.Prelude.{◌≡◌, ◌≢◌, ◌⊎◌, Ok, Err, IfOk, IfErr, map, string_bytes};
+ghost use Rattle.std.specs.Prelude.{◌≡◌, ◌≢◌, ◌⊎◌, Ok, Err, IfOk, IfErr, Some, codes, map, string_bytes};
+ghost use Rattle.std.specs.Fmt.{WritesOnOk, WritesStyledOnOk};
 ghost use Rattle.sign_base.specs.declared.error_kind.ErrorKind.TheVariants.{OutOfMemory};
 ghost use Rattle.sign_request.specs.Query.{text_pairs, query_length};
 
-use crate::plain_head::parts_of_keyed;
-use crate::{HeaderKeys, SigningRequest};
+use crate::plain_head::parts_of_seeded;
+use crate::{HeaderSeeds, SigningRequest};
 use sign_base::{Error, ErrorKind, Head, NoMemory};
 use std::alloc::Global;
 use std::fmt;
@@ -21,19 +22,20 @@ pub enum ViewRefusal {
     OutOfMemory,
 }
 
-/// The view of a plain head. It shows the bytes of the head alone, and changes nothing. `Debug` shows none of
-/// them.
+/// The view of a plain head. It shows the bytes of the head alone, and changes nothing. `Debug` shows
+/// none of them.
 #[derive(Drop)]
 pub struct HeadView {
     request: SigningRequest,
 }
 
 impl fmt::Debug for HeadView {
-    ghost use Rattle.std.specs.Prelude.{Some, codes};
-
     ghost debug_output = { λ _. Some (codes "HeadView(***)") };
 
-    fn fmt<W: fmt::Write>(&self, f: &mut fmt::Formatter<W>) -> fmt::Result {
+    fn fmt<W: fmt::Write>(&self, f: &mut fmt::Formatter<W>) -> fmt::Result
+        ensures writes { WritesOnOk W.write_str_gives f.old result (codes "HeadView(***)") f.new }
+        ensures styled { WritesStyledOnOk W.write_str_gives f.old result (codes "HeadView(***)") f.new }
+    {
         f.write_str("HeadView(***)")
     }
 }
@@ -60,21 +62,21 @@ impl HeadView {
         ensures err { IfErr result (λ why. (why ≡ ViewRefusal.OutOfMemory)
             ⊎ (view_of head.now ≡ Err why)) }
     {
-        HeadView::build_keyed(alloc, head, HeaderKeys::default())
+        HeadView::build_seeded(alloc, head, HeaderSeeds::default())
     }
 
     /// Answers what `build` does, whatever the keys. It is the call for a head whose names of
     /// headers come from outside.
-    pub fn build_keyed(
+    pub fn build_seeded(
         alloc: Global,
         head: &Head,
-        keys: HeaderKeys,
+        keys: HeaderSeeds,
     ) -> Result<HeadView, ViewRefusal>
         ensures ok { IfOk result (λ view. view_of head.now ≡ Ok view) }
         ensures err { IfErr result (λ why. (why ≡ ViewRefusal.OutOfMemory)
             ⊎ (view_of head.now ≡ Err why)) }
     {
-        let parts = match parts_of_keyed(alloc, head, keys) {
+        let parts = match parts_of_seeded(alloc, head, keys) {
             Ok(parts) => parts,
             Err(e) => return Err(refused_as(ViewRefusal::Head, e)),
         };
@@ -137,10 +139,7 @@ impl HeadView {
         ensures { IfOk result (λ text. string_bytes text ≡ view_query self) }
     {
         let query = self.request.into_query();
-        match SigningRequest::query_to_string(alloc, query, "=", "&") {
-            Ok(text) => Ok(text),
-            Err(_) => Err(NoMemory { back: () }),
-        }
+        SigningRequest::query_to_string(alloc, query, "=", "&").map_err(|_| NoMemory { back: () })
     }
 }
 

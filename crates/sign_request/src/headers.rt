@@ -1,10 +1,12 @@
 //! The headers that a view stages, as a service reads them.
-ghost use Rattle.std.specs.Prelude.{◌≡◌, ◌⊎◌, ◌+◌, ◌≤◌, ◌++◌, ◌∷◌, [], IfOk, IfErr, OnOk, OnErr, length, map, nat_eq, slice_range};
+ghost use Rattle.std.specs.Prelude.{◌≡◌, ◌⊎◌, ◌+◌, ◌≤◌, ◌++◌, ◌∷◌, [], IfOk, IfErr};
+ghost use Rattle.std.specs.Prelude.{OnOk, OnErr, length, map, nat_eq, slice_range};
 ghost use Rattle.std.specs.List.{prefix_len, suffix_len, starts_with};
 ghost use Rattle.http_header.specs.HeaderMap.{pairs};
 ghost use Rattle.http_header.specs.FieldValue.{IsVisibleAscii, plain_value};
 ghost use Rattle.sign_request.specs.Query.{text_pair, text_pairs};
-ghost use Rattle.sign_request.specs.Headers.{first_value, sorted_names, header_pair, with_prefix, AreVisible, is_blank, trimmed_value};
+ghost use Rattle.sign_request.specs.Headers.{first_value, sorted_names, header_pair, with_prefix};
+ghost use Rattle.sign_request.specs.Headers.{AreVisible, is_blank, trimmed_value};
 ghost use Rattle.sign_request.specs.Refusal.{IsOutOfMemory, RefusedFor, invalid_value};
 
 use crate::SigningRequest;

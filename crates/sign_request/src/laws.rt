@@ -11,7 +11,8 @@ ghost use Rattle.sign_request.specs.PlainHead.{IsHeadOf, ArePartsOf, RefusesHead
 ghost use Rattle.sign_request.specs.PlainTarget.{plain_target, target_of};
 ghost use Rattle.sign_request.specs.PlainView.{plain_view, head_view};
 ghost use Rattle.sign_request.specs.Query.{Pair, query_pairs};
-ghost use Rattle.sign_request.specs.CanonicalText.{canonical_text, header_text, parameter_text, decoded_parameter_text};
+ghost use Rattle.sign_request.specs.CanonicalText.{canonical_text, header_text, parameter_text};
+ghost use Rattle.sign_request.specs.CanonicalText.{decoded_parameter_text};
 ghost use Rattle.sign_request.specs.Escaped.{escaped_query, AreTexts};
 ghost use Rattle.sign_request.specs.Headers.{trimmed_value};
 ghost use Rattle.sign_request.specs.Request.{IsViewOf, StillFits};

@@ -5,7 +5,7 @@
 mod decode;
 mod fields;
 mod head_view;
-mod header_keys;
+mod header_seeds;
 mod headers;
 mod http_errors;
 pub mod laws;
@@ -21,7 +21,7 @@ mod target;
 mod text;
 
 pub use head_view::{HeadView, ViewRefusal};
-pub use header_keys::HeaderKeys;
+pub use header_seeds::HeaderSeeds;
 pub use http_errors::FromHttpError;
-pub use plain_head::{commit, commit_keyed, head_of, parts_of, parts_of_keyed};
+pub use plain_head::{commit, commit_seeded, head_of, parts_of, parts_of_seeded};
 pub use request::{SigningMethod, SigningRequest};

@@ -3,12 +3,13 @@ ghost use Rattle.std.specs.Prelude.{◌≡◌, ◌⊎◌, IfOk, IfErr, OnOk, OnE
 ghost use Rattle.http_header.specs.Token.{IsToken};
 ghost use Rattle.http_uri.specs.Uri.{Spells, SpellsNone, uri_text};
 ghost use Rattle.sign_request.specs.Crossing.{AnswersParts, AnswersCommit};
-ghost use Rattle.sign_request.specs.PlainHead.{http_version, header_map, IsUnknownVersion, IsHeadOf, ArePartsOf, Commits, RefusesHead, RefusesTarget};
+ghost use Rattle.sign_request.specs.PlainHead.{http_version, header_map, IsUnknownVersion, IsHeadOf};
+ghost use Rattle.sign_request.specs.PlainHead.{ArePartsOf, Commits, RefusesHead, RefusesTarget};
 ghost use Rattle.sign_request.specs.Refusal.{IsOutOfMemory, RefusedFor, RefusedAs, unknown_version};
 
 use crate::fields::{fields_of, headers_of};
 use crate::refusal::{or_out_of_memory, refusal};
-use crate::{FromHttpError, HeaderKeys};
+use crate::{FromHttpError, HeaderSeeds};
 use http::Method;
 use http::header::HeaderMap;
 use http::method::MethodError;
@@ -54,7 +55,7 @@ fn uri_octets(alloc: Global, uri: &Uri) -> Result<Octets, NoMemory<()>>
 }
 
 /// The head of `http` with the four values of a plain one. Names of headers come in lower case.
-/// Where the names come from outside, `parts_of_keyed` is the call to use.
+/// Where the names come from outside, `parts_of_seeded` is the call to use.
 ///
 /// `RequestInvalid` where `http` does not accept the method, the URI or a header, or where the
 /// header map is full.
@@ -63,12 +64,12 @@ pub fn parts_of(alloc: Global, head: &Head) -> Result<Parts, Error>
     ensures accepted { OnOk result (¬ (RefusesHead head.now)) }
     ensures err { IfErr result (λ e. IsOutOfMemory e ⊎ RefusedAs (RefusesHead head.now) e) }
 {
-    parts_of_keyed(alloc, head, HeaderKeys::default())
+    parts_of_seeded(alloc, head, HeaderSeeds::default())
 }
 
 /// Answers what `parts_of` does, whatever the keys. The header map has these keys, and so has each
 /// clone of it.
-pub fn parts_of_keyed(alloc: Global, head: &Head, keys: HeaderKeys) -> Result<Parts, Error>
+pub fn parts_of_seeded(alloc: Global, head: &Head, keys: HeaderSeeds) -> Result<Parts, Error>
     ensures { AnswersParts head.now result }
 {
     let method = method_of(alloc, head.method.as_slice())?;
@@ -87,7 +88,7 @@ pub fn parts_of_keyed(alloc: Global, head: &Head, keys: HeaderKeys) -> Result<Pa
 }
 
 /// Puts URI and headers of a plain head into a head of `http`, both or none. Method and version
-/// stay. Where the names of the headers come from outside, `commit_keyed` is the call to use.
+/// stay. Where the names of the headers come from outside, `commit_seeded` is the call to use.
 ///
 /// `RequestInvalid` where `http` does not accept the URI or a header, or where the header map is
 /// full. A refusal leaves the head as it was.
@@ -97,16 +98,16 @@ pub fn commit(alloc: Global, parts: &mut Parts, head: &Head) -> Result<(), Error
     ensures unchanged { OnErr result (parts.new ≡ parts.old) }
     ensures err { IfErr result (λ e. IsOutOfMemory e ⊎ RefusedAs (RefusesTarget head.now) e) }
 {
-    commit_keyed(alloc, parts, head, HeaderKeys::default())
+    commit_seeded(alloc, parts, head, HeaderSeeds::default())
 }
 
 /// Does what `commit` does, whatever the keys. The new header map has these keys; those of the old
 /// one go with it.
-pub fn commit_keyed(
+pub fn commit_seeded(
     alloc: Global,
     parts: &mut Parts,
     head: &Head,
-    keys: HeaderKeys,
+    keys: HeaderSeeds,
 ) -> Result<(), Error>
     ensures { AnswersCommit head.now parts.old result parts.new }
 {
@@ -116,7 +117,7 @@ pub fn commit_keyed(
 }
 
 /// URI and headers, before anything is put into a head.
-fn target_of(alloc: Global, head: &Head, keys: HeaderKeys) -> Result<(Uri, HeaderMap), Error>
+fn target_of(alloc: Global, head: &Head, keys: HeaderSeeds) -> Result<(Uri, HeaderMap), Error>
     ensures uri { IfOk result (λ target. Spells head.now.uri target.0) }
     ensures headers { IfOk result (λ target. target.1 ≡ header_map head.now.headers) }
     ensures accepted { OnOk result (¬ (RefusesTarget head.now)) }

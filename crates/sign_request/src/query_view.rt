@@ -1,6 +1,7 @@
 //! The working copy of a query. It is no part of the head: `apply` refuses a view whose query was
 //! changed.
-ghost use Rattle.std.specs.Prelude.{◌≡◌, ◌++◌, ◌∷◌, [], ◌<◌, Bool, List, IfOk, IsOkAnd, OnOk, OnErr, MatchOption, string_bytes};
+ghost use Rattle.std.specs.Prelude.{◌≡◌, ◌++◌, ◌∷◌, [], ◌<◌, Bool, List, IfOk, IsOkAnd};
+ghost use Rattle.std.specs.Prelude.{OnOk, OnErr, MatchOption, string_bytes};
 ghost use Rattle.std.specs.Cow.{cow_str_bytes};
 ghost use Rattle.percent_encoding.specs.Cow.{IsBorrowedStr};
 ghost use Rattle.std.specs.Fn.{FnReturnsAt};
@@ -49,8 +50,6 @@ impl SigningRequest {
     }
 
     /// The pairs whose key passes the test, in order.
-    ///
-    /// Requires a test that may be called at any key.
     pub fn query_to_vec_with_filter<F: Fn(&str) -> bool + Drop>(
         &self,
         filter: F,

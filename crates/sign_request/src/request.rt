@@ -1,5 +1,7 @@
 //! The view of a request head for a service that signs it, with the headers that the service stages.
-ghost use Rattle.std.specs.Prelude.{◌≡◌, ◌↔◌, ◌⊎◌, IfOk, IfErr, OnOk, OnErr, IsTrue, IsSome, None, Some, string_bytes};
+ghost use Rattle.std.specs.Prelude.{◌≡◌, ◌↔◌, ◌⊎◌, IfOk, IfErr, OnOk, OnErr, IsTrue};
+ghost use Rattle.std.specs.Prelude.{IsSome, None, Some, codes, string_bytes};
+ghost use Rattle.std.specs.Fmt.{WritesOnOk, WritesStyledOnOk};
 ghost use Rattle.http_uri.specs.Uri.{uri_authority};
 ghost use Rattle.sign_request.specs.Query.{text_pairs};
 ghost use Rattle.sign_request.specs.Refusal.{IsOutOfMemory, RefusedFor, no_authority, view_modified};
@@ -14,6 +16,7 @@ use http::request::Parts;
 use http::uri::{Authority, Scheme, Uri};
 use sign_base::{Error, NoMemory};
 use std::alloc::Global;
+use std::fmt;
 use std::time::Duration;
 
 const NO_AUTHORITY: &str = "request without authority is invalid for signing";
@@ -34,7 +37,10 @@ pub enum SigningMethod {
 /// Method, scheme, authority, path and query are there to be read. A service makes its canonical
 /// texts of them, and a new URI of the head's own one; `apply` refuses a view in which one of the
 /// five was changed, and commits the headers alone.
-#[derive(Debug, Drop)]
+///
+/// `Debug` shows nothing of it: a query or a header may have a secret. To log a request, print the
+/// parts of it that may be known.
+#[derive(Drop)]
 pub struct SigningRequest {
     pub method: Method,
     /// `http` where the head names none.
@@ -46,6 +52,17 @@ pub struct SigningRequest {
     pub query: Vec<(String, String)>,
     /// The headers that `apply` commits.
     pub headers: HeaderMap,
+}
+
+impl fmt::Debug for SigningRequest {
+    ghost debug_output = { λ _. Some (codes "SigningRequest(***)") };
+
+    fn fmt<W: fmt::Write>(&self, f: &mut fmt::Formatter<W>) -> fmt::Result
+        ensures writes { WritesOnOk W.write_str_gives f.old result (codes "SigningRequest(***)") f.new }
+        ensures styled { WritesStyledOnOk W.write_str_gives f.old result (codes "SigningRequest(***)") f.new }
+    {
+        f.write_str("SigningRequest(***)")
+    }
 }
 
 impl SigningRequest {

@@ -1,7 +1,8 @@
 //! Canonical texts: pairs sorted by key, then value, and written one after another.
 ghost use Rattle.std.specs.Prelude.{◌≡◌, IfOk, IfErr, map, string_bytes};
 ghost use Rattle.sign_request.specs.Query.{text_pairs};
-ghost use Rattle.sign_request.specs.CanonicalText.{canonical_text, header_text, parameter_text, decoded_parameter_text, sorted_pairs};
+ghost use Rattle.sign_request.specs.CanonicalText.{canonical_text, header_text, parameter_text};
+ghost use Rattle.sign_request.specs.CanonicalText.{decoded_parameter_text, sorted_pairs};
 ghost use Rattle.sign_request.specs.PairForm.{pair_text};
 
 use crate::SigningRequest;

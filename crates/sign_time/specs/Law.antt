@@ -2,7 +2,8 @@
 use Rattle.std.specs.Prelude.{◌≡◌, ℕ, ◌+◌, ℤ, pos, ◌+ℤ◌, ◌≤ℤ◌, ◌<ℤ◌, length, take}
 use Rattle.jiff_core.specs.Calendar.{IsCivilDate}
 use Rattle.sign_base.specs.Moment.{IsMoment}
-use Rattle.sign_time.specs.Calendar.{Civil, second_nanos, year_reached, month_reached, civil_of, IsFourDigitYear}
+use Rattle.sign_time.specs.Calendar.{Civil, second_nanos, year_reached, month_reached}
+use Rattle.sign_time.specs.Calendar.{civil_of, IsFourDigitYear}
 use Rattle.sign_time.specs.MomentText.{date_text, iso8601_text}
 use Rattle.sign_time.specs.MomentRead.{days_before, whole_second, shown_moment}
 

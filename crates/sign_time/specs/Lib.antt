@@ -4,3 +4,4 @@ pub mod MomentRead
 pub mod CivilShown
 pub mod Reading
 pub mod Law
+pub use Rattle.sign_base.specs.Refusal

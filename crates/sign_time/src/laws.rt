@@ -1,5 +1,6 @@
 //! What holds of the calendar and of printed moments, each as the contract of a call that does nothing.
-ghost use Rattle.sign_time.specs.Law.{BeginsWithDate, CountsBack, CountsForth, CountsToItsSecond, IsWithinItsSecond, ShowsItsWholeSecond};
+ghost use Rattle.sign_time.specs.Law.{BeginsWithDate, CountsBack, CountsForth, CountsToItsSecond};
+ghost use Rattle.sign_time.specs.Law.{IsWithinItsSecond, ShowsItsWholeSecond};
 
 /// `format_iso8601` begins with `format_date`.
 pub fn iso8601_begins_with_the_date()

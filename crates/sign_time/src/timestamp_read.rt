@@ -2,7 +2,8 @@
 ghost use Rattle.std.specs.Prelude.{◌≡◌, ◌↔◌, Some, IsOk, IsSome, IfOk, IfErr, option_map};
 ghost use Rattle.jiff_core.specs.DateTime.{civil_nanos};
 ghost use lib.Chars.{codes};
-ghost use Rattle.sign_time.specs.Reading.{read_moment, read_rfc2822, read_civil, parse_message, civil_parse_message, range_message, in_range};
+ghost use Rattle.sign_time.specs.Reading.{read_moment, read_rfc2822, read_civil, parse_message};
+ghost use Rattle.sign_time.specs.Reading.{civil_parse_message, range_message, in_range};
 ghost use Rattle.sign_base.specs.Refusal.{IsErrorOf};
 ghost use Rattle.sign_base.specs.declared.error_kind.ErrorKind.TheVariants.{Unexpected};
 

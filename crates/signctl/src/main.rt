@@ -3,8 +3,8 @@
 #![tactic(auto)]
 
 use sign_io::{Sink, StdSink, StdSource};
-use signctl_core::program::report;
-use signctl_core::{HeaderKeys, Status, run_program};
+use signctl_core::{HeaderSeeds, Status, run_program};
+use signctl_driver::reason::report;
 use signctl_threads::{is_for_threads, run_threads};
 use std::hash::RandomState;
 use std::process::ExitCode;
@@ -25,7 +25,7 @@ fn main(rt: HostRuntime) -> ExitCode {
     }
     let mut source = StdSource::new(rt.reader());
     let keys = RandomState::new(&rt)
-        .map(HeaderKeys::new)
+        .map(HeaderSeeds::new)
         .unwrap_or_default();
     ExitCode::from(run_program(
         rt.alloc(),

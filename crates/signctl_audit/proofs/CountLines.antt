@@ -7,8 +7,8 @@ use Rattle.signctl_audit.specs.Account.{Account}
 use Rattle.signctl_audit.specs.AuditOutput.{count_line, count_lines}
 
 -- the line of a cache
-abbrev line_at : Account → ℕ → List ℕ
-line_at a cache = with_newline (count_line cache (counts_of (setup_in a.items) a.entries cache))
+abbrev queue_at : Account → ℕ → List ℕ
+queue_at a cache = with_newline (count_line cache (counts_of (setup_in a.items) a.entries cache))
 
 -- no cache yet
 pub counts-none : (a : Account) (old text legal : List ℕ) → text ≡ old ++ legal
@@ -18,11 +18,11 @@ counts-none a old text legal h = h ∙ ap (λ (v : List ℕ). old ++ v) (sym (ap
 
 -- one cache more
 pub counts-more : (a : Account) (old text new legal : List ℕ) (n : ℕ)
-    → text ≡ old ++ (legal ++ count_lines a n) → new ≡ text ++ line_at a n
+    → text ≡ old ++ (legal ++ count_lines a n) → new ≡ text ++ queue_at a n
     → new ≡ old ++ (legal ++ count_lines a (suc n))
 unfolding count_lines
 counts-more a old text new legal n so_far end =
     end
-    ∙ ap (λ (v : List ℕ). v ++ line_at a n) so_far
-    ∙ append_assoc old (legal ++ count_lines a n) (line_at a n)
-    ∙ ap (λ (v : List ℕ). old ++ v) (append_assoc legal (count_lines a n) (line_at a n))
+    ∙ ap (λ (v : List ℕ). v ++ queue_at a n) so_far
+    ∙ append_assoc old (legal ++ count_lines a n) (queue_at a n)
+    ∙ ap (λ (v : List ℕ). old ++ v) (append_assoc legal (count_lines a n) (queue_at a n))

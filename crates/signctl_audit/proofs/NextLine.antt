@@ -25,15 +25,16 @@ use Rattle.signctl_format.specs.Policy.{script_policy}
 use Rattle.signctl_format.specs.ScriptEvents.{ScriptItem, plain_event}
 use Rattle.signctl_format.specs.ScriptSetup.{is_empty, place_of_rule, setup_in, events_in, item_error}
 use Rattle.signctl_format.proofs.SetupIn.{setup_in-silent, setup_in-cache, setup_in-handle, setup_in-event, events_in-more, rule-placed, caches-few, handles-few, cache-no_event, handle-no_event, handle-cache}
-use Rattle.signctl_audit.specs.Account.{Account, reply_due, subject_of, unclaimed_with, subject_in, claimed_entry, entries_with, with_item, with_claim, counted}
-use Rattle.signctl_audit.specs.AuditReading.{is_missed, overdue, missing_claim, script_error, audit_item_error}
+use Rattle.signctl_audit.specs.Account.{Account, reply_due, subject_of, unclaimed_with, subject_in, is_missed, claimed_entry, entries_with, with_item, with_claim, counted}
+use Rattle.signctl_audit.specs.AuditReading.{overdue, missing_claim, script_error, audit_item_error}
 use Rattle.signctl_audit.specs.SessionState.{SessionState, plain_entries, IsNoEvent, IsSetUp, IsAudited, HasSigner, RepresentsAccount}
 use Rattle.signctl_audit.specs.declared.audit_error.AuditError.{AuditError}
 use Rattle.signctl_audit.specs.declared.audit_line.Subject.{Subject}
 use Rattle.signctl_audit.specs.declared.audit_line.Subject.TheVariants.{Cache, Handle as MadeHandle, Event as Happened}
 use Rattle.signctl_audit.specs.declared.audit_line.Unclaimed.{Unclaimed}
 use Rattle.signctl_audit.specs.declared.claimed_reply.ClaimedReply.{ClaimedReply}
-use Rattle.signctl_audit.specs.declared.claimed_reply.ClaimedReply.TheVariants as claim
+use Rattle.signctl_audit.specs.declared.log_stage.LogStage.{LogStage}
+use Rattle.signctl_audit.specs.declared.log_stage.LogStage.TheVariants as log
 use Rattle.signctl_audit.proofs.PlainEntries.{reply-plain}
 
 -- a session that is seen so represents what it is seen as
@@ -43,8 +44,8 @@ as_seen inside session a seen stands = let P : SessionState → Type 0 = λ s. R
 
 -- and so it has the signer of what it is seen as
 pub signer-seen : (inside session : SessionState) (a : Account) → inside ≡ session
-    → HasSigner session.desk session.audit a → HasSigner inside.desk inside.audit a
-signer-seen inside session a seen signer = let P : SessionState → Type 0 = λ s. HasSigner s.desk s.audit a in subst P (sym seen) signer
+    → HasSigner session.stage a → HasSigner inside.stage a
+signer-seen inside session a seen signer = subst (λ (s : SessionState). HasSigner s.stage a) (sym seen) signer
 
 -- ---- what a good item says
 
@@ -82,65 +83,33 @@ pub handle-first : (a : Account) (cache : ℕ) (rule : ScriptRule)
     → audit_item_error a (item.Handle cache rule) ≡ None → events_in a.items ≡ []
 handle-first a cache rule h = empty_is (events_in a.items) (handle-no_event a.items cache rule (good-item a (item.Handle cache rule) h))
 
--- the signer of a session that has a desk
-pub set_up : (desk : DeskState ScriptCredential ScriptRule)
-    (kept : Option (DeskState ScriptCredential ScriptRule))
-    (audit : Option (AuditState ScriptCredential ScriptRule)) (a : Account) → HasSigner kept audit a
-    → kept ≡ Some desk → IsSetUp desk a
-set_up desk (Some other) None a h e = let same : other ≡ desk = cc in subst (λ (d : DeskState ScriptCredential ScriptRule). IsSetUp d a) same h
-set_up desk (Some other) (Some audit) a h e = absurd h
-set_up desk None audit a h e = absurd cc
+-- the signer of a session at either stage
+pub set_up : (desk : DeskState ScriptCredential ScriptRule) (stage : LogStage) (a : Account)
+    → HasSigner stage a → stage ≡ log.Setup desk → IsSetUp desk a
+set_up desk stage a h e = subst (λ (s : LogStage). HasSigner s a) e h
 
--- and of one that has an audit
-pub audited : (audit : AuditState ScriptCredential ScriptRule)
-    (desk : Option (DeskState ScriptCredential ScriptRule))
-    (kept : Option (AuditState ScriptCredential ScriptRule)) (a : Account) → HasSigner desk kept a
-    → kept ≡ Some audit → IsAudited audit a
-audited audit None (Some other) a h e = let same : other ≡ audit = cc in subst (λ (d : AuditState ScriptCredential ScriptRule). IsAudited d a) same h
-audited audit (Some desk) (Some other) a h e = absurd h
-audited audit (Some desk) None a h e = absurd cc
-audited audit None None a h e = absurd h
-
--- another audit takes its place
-pub audited-again : (audit new : AuditState ScriptCredential ScriptRule)
-    (desk : Option (DeskState ScriptCredential ScriptRule))
-    (kept : Option (AuditState ScriptCredential ScriptRule)) (a b : Account) → HasSigner desk kept a
-    → kept ≡ Some audit → IsAudited new b → HasSigner desk (Some new) b
-audited-again audit new None (Some other) a b h e is = is
-audited-again audit new (Some desk) (Some other) a b h e is = absurd h
-audited-again audit new (Some desk) None a b h e is = absurd cc
-audited-again audit new None None a b h e is = absurd h
-
--- beside a desk there is no audit
-pub no_audit_yet : (desk : DeskState ScriptCredential ScriptRule)
-    (kept : Option (DeskState ScriptCredential ScriptRule))
-    (audit : Option (AuditState ScriptCredential ScriptRule)) (a : Account) → HasSigner kept audit a
-    → kept ≡ Some desk → audit ≡ None
-no_audit_yet desk (Some other) None a h e = refl
-no_audit_yet desk (Some other) (Some audit) a h e = absurd h
-no_audit_yet desk None audit a h e = absurd cc
+pub audited : (audit : AuditState ScriptCredential ScriptRule) (stage : LogStage) (a : Account)
+    → HasSigner stage a → stage ≡ log.Judging audit → IsAudited audit a
+audited audit stage a h e = subst (λ (s : LogStage). HasSigner s a) e h
 
 -- ---- a silent line
 
-silent-signer : (a : Account) (desk : Option (DeskState ScriptCredential ScriptRule))
-    (audit : Option (AuditState ScriptCredential ScriptRule)) → HasSigner desk audit a
-    → HasSigner desk audit (with_item a item.Silent)
-silent-signer a (Some desk) None h = record {
+silent-signer : (a : Account) (stage : LogStage) → HasSigner stage a
+    → HasSigner stage (with_item a item.Silent)
+silent-signer a (log.Setup desk) h = record {
   setup = h.setup ∙ sym (setup_in-silent a.items);
   fresh = h.fresh;
   no_event = events_in-more a.items item.Silent ∙ append-nil (events_in a.items) ∙ h.no_event;
   no_entries = h.no_entries;
   no_claim = h.no_claim;
 }
-silent-signer a None (Some audit) h = record {
+silent-signer a (log.Judging audit) h = record {
   setup = h.setup ∙ sym (setup_in-silent a.items);
   begun = ap (λ (v : List (Event ScriptCredential)). is_empty v) (events_in-more a.items item.Silent ∙ append-nil (events_in a.items)) ∙ h.begun;
   stepped = h.stepped;
   entries = h.entries;
   represents = h.represents;
 }
-silent-signer a (Some desk) (Some audit) h = h
-silent-signer a None None h = h
 
 pub next-silent : (session : SessionState) (a : Account) → RepresentsAccount session a
     → RepresentsAccount session (with_item a item.Silent)
@@ -150,7 +119,7 @@ next-silent session a stands = record {
   events = stands.events ∙ ap (λ (v : List (Event ScriptCredential)). length v) (sym (events_in-more a.items item.Silent ∙ append-nil (events_in a.items)));
   version = stands.version;
   unclaimed = stands.unclaimed;
-  signer = silent-signer a session.desk session.audit stands.signer;
+  signer = silent-signer a session.stage stands.signer;
 }
 
 -- ---- caches and handles
@@ -190,15 +159,15 @@ wants wanted lines a x subject due is counts same makes =
 -- one cache more
 pub next-cache : (session : SessionState) (a : Account) (loader : Loader)
     (desk new : DeskState ScriptCredential ScriptRule) (n : ℕ) (wanted : Unclaimed)
-    → RepresentsAccount session a → audit_item_error a (item.Cache loader) ≡ None → session.desk ≡ Some desk
+    → RepresentsAccount session a → audit_item_error a (item.Cache loader) ≡ None → session.stage ≡ log.Setup desk
     → new ≡ with_cache loader desk → Represents script_policy new [] → n ≡ length (setup_in a.items).loaders
     → IsWanted wanted session.lines (Cache n)
     → RepresentsAccount
-    (record session { desk = Some new; caches = session.caches + 1; unclaimed = Some wanted })
+    (record session { stage = log.Setup new; caches = session.caches + 1; unclaimed = Some wanted })
     (with_item a (item.Cache loader))
 next-cache session a loader desk new n wanted stands good kept added fresh number is_wanted =
     let none = cache-first a loader good in
-    let was = set_up desk session.desk session.audit a stands.signer kept in
+    let was = set_up desk session.stage a stands.signer kept in
     let same = silent_events a (item.Cache loader) (events_in-more a.items (item.Cache loader)) in
     let grown : setup_in (a.items ++ item.Cache loader ∷ []) ≡ record (setup_in a.items) { loaders = (setup_in a.items).loaders ++ loader ∷ [] } = setup_in-cache a.items loader in
     let is : IsSetUp new (with_item a (item.Cache loader)) =
@@ -207,7 +176,6 @@ next-cache session a loader desk new n wanted stands good kept added fresh numbe
     ∙ ap (λ (s : Setup ScriptRule). record s { loaders = s.loaders ++ loader ∷ [] }) was.setup
     ∙ sym grown)
     fresh in
-    let P : Option (AuditState ScriptCredential ScriptRule) → Type 0 = λ audit. HasSigner (Some new) audit (with_item a (item.Cache loader)) in
     let longer : length (setup_in (a.items ++ item.Cache loader ∷ [])).loaders ≡ length (setup_in a.items).loaders + 1 =
     ap (λ (s : Setup ScriptRule). length s.loaders) grown ∙ length-append (setup_in a.items).loaders (loader ∷ []) in record {
       lines = stands.lines;
@@ -215,21 +183,21 @@ next-cache session a loader desk new n wanted stands good kept added fresh numbe
       events = stands.events ∙ ap (λ (v : List (Event ScriptCredential)). length v) (sym same);
       version = stands.version;
       unclaimed = wants wanted session.lines a (item.Cache loader) (Cache n) (Cache (length (setup_in a.items).loaders)) is_wanted stands.lines (ap (λ k. Cache k) number) refl;
-      signer = subst P (sym (no_audit_yet desk session.desk session.audit a stands.signer kept)) is;
+      signer = is;
     }
 
 -- one handle more
 pub next-handle : (session : SessionState) (a : Account) (cache : ℕ) (rule : ScriptRule)
     (desk new : DeskState ScriptCredential ScriptRule) (n : ℕ) (wanted : Unclaimed)
     → RepresentsAccount session a → audit_item_error a (item.Handle cache rule) ≡ None
-    → session.desk ≡ Some desk → new ≡ with_handle cache (place_of_rule rule) desk
+    → session.stage ≡ log.Setup desk → new ≡ with_handle cache (place_of_rule rule) desk
     → Represents script_policy new [] → n ≡ length (setup_in a.items).handles
     → IsWanted wanted session.lines (MadeHandle n)
-    → RepresentsAccount (record session { desk = Some new; unclaimed = Some wanted })
+    → RepresentsAccount (record session { stage = log.Setup new; unclaimed = Some wanted })
     (with_item a (item.Handle cache rule))
 next-handle session a cache rule desk new n wanted stands good kept added fresh number is_wanted =
     let none = handle-first a cache rule good in
-    let was = set_up desk session.desk session.audit a stands.signer kept in
+    let was = set_up desk session.stage a stands.signer kept in
     let same = silent_events a (item.Handle cache rule) (events_in-more a.items (item.Handle cache rule)) in
     let handle : Handle = record { cache = cache; rule = place_of_rule rule } in
     let grown : setup_in (a.items ++ item.Handle cache rule ∷ []) ≡ record (setup_in a.items) { handles = (setup_in a.items).handles ++ handle ∷ [] } = setup_in-handle a.items cache rule in
@@ -238,14 +206,13 @@ next-handle session a cache rule desk new n wanted stands good kept added fresh 
     (ap (λ (d : DeskState ScriptCredential ScriptRule). setup_of d) added
     ∙ ap (λ (s : Setup ScriptRule). record s { handles = s.handles ++ handle ∷ [] }) was.setup
     ∙ sym grown)
-    fresh in
-    let P : Option (AuditState ScriptCredential ScriptRule) → Type 0 = λ audit. HasSigner (Some new) audit (with_item a (item.Handle cache rule)) in record {
+    fresh in record {
       lines = stands.lines;
       caches = stands.caches ∙ ap (λ (s : Setup ScriptRule). length s.loaders) (sym grown);
       events = stands.events ∙ ap (λ (v : List (Event ScriptCredential)). length v) (sym same);
       version = stands.version;
       unclaimed = wants wanted session.lines a (item.Handle cache rule) (MadeHandle n) (MadeHandle (length (setup_in a.items).handles)) is_wanted stands.lines (ap (λ k. MadeHandle k) number) refl;
-      signer = subst P (sym (no_audit_yet desk session.desk session.audit a stands.signer kept)) is;
+      signer = is;
     }
 
 -- the caches of a desk that is set up are those of the lines, and so are its handles
@@ -325,7 +292,7 @@ begun_by a event = ap (λ (v : List (Event ScriptCredential)). is_empty v) (even
 pub first-signer : (desk : DeskState ScriptCredential ScriptRule)
     (audit : AuditState ScriptCredential ScriptRule) (a : Account) (event : Event ScriptCredential)
     → IsSetUp desk a → audit.desk ≡ desk → AuditRepresents script_policy audit []
-    → HasSigner None (Some audit) (with_item a (item.Event event))
+    → IsAudited audit (with_item a (item.Event event))
 first-signer desk audit a event stands same fresh = record {
   setup = ap (λ (d : DeskState ScriptCredential ScriptRule). setup_of d) same ∙ stands.setup ∙ sym (setup_in-event a.items event);
   begun = begun_by a event;
@@ -335,34 +302,29 @@ first-signer desk audit a event stands same fresh = record {
 }
 
 -- a later one leaves it
-pub later-signer : (audit : Option (AuditState ScriptCredential ScriptRule)) (a : Account)
-    (event : Event ScriptCredential) → HasSigner None audit a
-    → HasSigner None audit (with_item a (item.Event event))
-later-signer (Some audit) a event stands = record {
+later-signer : (audit : AuditState ScriptCredential ScriptRule) (a : Account)
+    (event : Event ScriptCredential) → IsAudited audit a → IsAudited audit (with_item a (item.Event event))
+later-signer audit a event stands = record {
   setup = stands.setup ∙ sym (setup_in-event a.items event);
   begun = begun_by a event;
   stepped = stands.stepped;
   entries = stands.entries;
   represents = stands.represents;
 }
-later-signer None a event stands = stands
 
--- so without a desk
-pub undisturbed : (desk : Option (DeskState ScriptCredential ScriptRule))
-    (audit : Option (AuditState ScriptCredential ScriptRule)) (a : Account) (event : Event ScriptCredential)
-    → HasSigner desk audit a → desk ≡ None → HasSigner None audit (with_item a (item.Event event))
-undisturbed None audit a event stands e = later-signer audit a event stands
-undisturbed (Some desk) audit a event stands e = absurd cc
+pub later-stage : (audit : AuditState ScriptCredential ScriptRule) (stage : LogStage) (a : Account)
+    (event : Event ScriptCredential) → stage ≡ log.Judging audit → HasSigner stage a
+    → HasSigner stage (with_item a (item.Event event))
+later-stage audit stage a event e h = subst (λ (s : LogStage). HasSigner s (with_item a (item.Event event))) (sym e) (later-signer audit a event (audited audit stage a h e))
 
 -- one event more, which waits for its claim
 pub next-event : (session : SessionState) (a : Account) (event : Event ScriptCredential)
-    (audit : Option (AuditState ScriptCredential ScriptRule)) (wanted : Unclaimed)
-    → RepresentsAccount session a → HasSigner None audit (with_item a (item.Event event))
-    → IsWanted wanted session.lines (Happened event)
+    (stage : LogStage) (wanted : Unclaimed) → RepresentsAccount session a
+    → HasSigner stage (with_item a (item.Event event)) → IsWanted wanted session.lines (Happened event)
     → RepresentsAccount
-    (record session { desk = None; audit = audit; events = session.events + 1; unclaimed = Some wanted })
+    (record session { stage = stage; events = session.events + 1; unclaimed = Some wanted })
     (with_item a (item.Event event))
-next-event session a event audit wanted stands signer is_wanted =
+next-event session a event stage wanted stands signer is_wanted =
     let more : length (events_in (a.items ++ item.Event event ∷ [])) ≡ length (events_in a.items) + 1 =
     ap (λ (v : List (Event ScriptCredential)). length v) (events_in-more a.items (item.Event event)) ∙ length-append (events_in a.items) (event ∷ []) in record {
       lines = stands.lines;
@@ -383,7 +345,9 @@ entry-plain : (setup : Setup ScriptRule) (a : Account) (stepped : List (Entry Sc
     (record { event = event; reply = if missed then reply.OutOfMemory else expected_reply script_policy setup (committed_entries stepped) event }
     ∷ [])
     ≡ claimed_entry a (plain_event event) claimed ∷ []
-entry-plain setup a stepped event claimed missed is_setup are says = by_claim claimed says
+entry-plain setup a stepped event claimed missed is_setup are says =
+    ap (λ (r : Reply ScriptCredential). plain (if missed then reply.OutOfMemory else r)) due
+    ∙ ap (λ (b : Bool). plain (if b then reply.OutOfMemory else reply_due a (plain_event event))) says
   where
     due : expected_reply script_policy setup (committed_entries stepped) event
         ≡ reply_due a (plain_event event)
@@ -394,28 +358,6 @@ entry-plain setup a stepped event claimed missed is_setup are says = by_claim cl
 
     plain : Reply ScriptCredential → List (Entry ScriptCredential)
     plain r = record { event = plain_event event; reply = r } ∷ []
-
-    other : missed ≡ false
-        → plain (if missed then reply.OutOfMemory else expected_reply script_policy setup
-        (committed_entries stepped) event)
-        ≡ plain (reply_due a (plain_event event))
-    other e = rw e (ap plain due)
-
-    by_claim : (c : ClaimedReply) → missed ≡ is_missed c
-        → plain (if missed then reply.OutOfMemory else expected_reply script_policy setup
-        (committed_entries stepped) event)
-        ≡ claimed_entry a (plain_event event) c ∷ []
-    by_claim claim.OutOfMemory e = rw e refl
-    by_claim (claim.Cache n) e = other e
-    by_claim (claim.Handle n) e = other e
-    by_claim claim.Begun e = other e
-    by_claim claim.Pending e = other e
-    by_claim claim.NotNow e = other e
-    by_claim (claim.Ask n) e = other e
-    by_claim (claim.Sign n wake) e = other e
-    by_claim (claim.Refused why wake) e = other e
-    by_claim (claim.Done head) e = other e
-    by_claim (claim.Cancelled wake) e = other e
 
 -- one claim of an event more
 pub next-entry : (audit new : AuditState ScriptCredential ScriptRule) (a : Account)
@@ -442,14 +384,10 @@ next-entry audit new a event claimed missed stands about says setup represents =
 
 -- ---- the line counts
 
-counted-signer : (a : Account) (version : ScriptVersion)
-    (desk : Option (DeskState ScriptCredential ScriptRule))
-    (audit : Option (AuditState ScriptCredential ScriptRule)) → HasSigner desk audit a
-    → HasSigner desk audit (counted version a)
-counted-signer a version (Some desk) None h = record { setup = h.setup; fresh = h.fresh; no_event = h.no_event; no_entries = h.no_entries; no_claim = h.no_claim }
-counted-signer a version None (Some audit) h = record { setup = h.setup; begun = h.begun; stepped = h.stepped; entries = h.entries; represents = h.represents }
-counted-signer a version (Some desk) (Some audit) h = h
-counted-signer a version None None h = h
+counted-signer : (a : Account) (version : ScriptVersion) (stage : LogStage) → HasSigner stage a
+    → HasSigner stage (counted version a)
+counted-signer a version (log.Setup desk) h = record { setup = h.setup; fresh = h.fresh; no_event = h.no_event; no_entries = h.no_entries; no_claim = h.no_claim }
+counted-signer a version (log.Judging audit) h = record { setup = h.setup; begun = h.begun; stepped = h.stepped; entries = h.entries; represents = h.represents }
 
 pub next-counted : (session : SessionState) (a : Account) (version : ScriptVersion)
     → RepresentsAccount session a
@@ -461,5 +399,5 @@ next-counted session a version stands = record {
   events = stands.events;
   version = refl;
   unclaimed = stands.unclaimed;
-  signer = counted-signer a version session.desk session.audit stands.signer;
+  signer = counted-signer a version session.stage stands.signer;
 }

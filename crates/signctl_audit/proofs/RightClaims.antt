@@ -18,8 +18,8 @@ use Rattle.signctl_format.specs.Policy.{script_policy}
 use Rattle.signctl_format.specs.ScriptEvents.{plain_event}
 use Rattle.signctl_format.specs.ScriptSetup.{setup_in}
 use Rattle.signctl_format.proofs.ReadingSteps.{same_word}
-use Rattle.signctl_audit.specs.Account.{Account, reply_due, subject_in}
-use Rattle.signctl_audit.specs.AuditReading.{is_missed, may_miss, is_right, subject_error, claim_error}
+use Rattle.signctl_audit.specs.Account.{Account, reply_due, subject_in, is_missed}
+use Rattle.signctl_audit.specs.AuditReading.{may_miss, is_right, subject_error, claim_error}
 use Rattle.signctl_audit.specs.ClaimReading.{claim_of}
 use Rattle.signctl_audit.specs.SessionState.{IsAudited}
 use Rattle.signctl_audit.specs.Taking.{IsRightClaim, IsLegalOrNoMemory}
@@ -69,13 +69,13 @@ missed-is (claim.Done head) h = absurd cc
 missed-is (claim.Cancelled wake) h = absurd cc
 
 -- a text that claims that memory ran out is this one
-missed-text : (text : List ℕ) (claimed : ClaimedReply) → claim_of text ≡ Some claimed
+pub missed-text : (text : List ℕ) (claimed : ClaimedReply) → claim_of text ≡ Some claimed
     → is_missed claimed ≡ true → text ≡ codes "out of memory"
 missed-text text claimed read missed =
     one_spelling claim.OutOfMemory text (codes "out of memory")
     (claim_of-some text claim.OutOfMemory (read ∙ ap (λ (c : ClaimedReply). Some c) (missed-is claimed missed))) (tt, refl)
 
-no_error : (b : Bool) (e : AuditError) → (if b then None else Some e) ≡ None → b ≡ true
+pub no_error : (b : Bool) (e : AuditError) → (if b then None else Some e) ≡ None → b ≡ true
 no_error true e h = refl
 no_error false e h = absurd cc
 

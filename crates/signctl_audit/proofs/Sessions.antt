@@ -15,6 +15,7 @@ use Rattle.signctl_audit.specs.Account.{Account, no_lines, account_of, counted, 
 use Rattle.signctl_audit.specs.SessionState.{SessionState, IsSetUp, RepresentsAccount, SessionRepresents}
 use Rattle.signctl_audit.specs.Taking.{HasRoom}
 use Rattle.signctl_audit.specs.declared.audit_line.AuditLine.{AuditLine}
+use Rattle.signctl_audit.specs.declared.log_stage.LogStage.TheVariants.{Setup}
 use Rattle.signctl_audit.proofs.Accounts.{account-more, lines-are, items-few, entries-few}
 use Rattle.signctl_audit.proofs.NextLine.{as_seen, next-counted}
 
@@ -29,7 +30,7 @@ first-account : (desk : DeskState ScriptCredential ScriptRule)
     → setup_of desk ≡ record { loaders = []; rules = Now ∷ Cred ∷ []; handles = [] }
     → Represents script_policy desk []
     → RepresentsAccount
-    (record { desk = Some desk; audit = None; lines = 0; caches = 0; events = 0; version = None; unclaimed = None })
+    (record { stage = Setup desk; lines = 0; caches = 0; events = 0; version = None; unclaimed = None })
     no_lines
 unfolding setup_in events_in
 first-account desk setup fresh = record { lines = refl; caches = refl; events = refl; version = refl; unclaimed = refl; signer = set_up-first desk setup fresh }
@@ -39,7 +40,7 @@ pub first-session : (desk : DeskState ScriptCredential ScriptRule)
     → setup_of desk ≡ record { loaders = []; rules = Now ∷ Cred ∷ []; handles = [] }
     → Represents script_policy desk []
     → SessionRepresents
-    (record { desk = Some desk; audit = None; lines = 0; caches = 0; events = 0; version = None; unclaimed = None })
+    (record { stage = Setup desk; lines = 0; caches = 0; events = 0; version = None; unclaimed = None })
     []
 unfolding account_of
 first-session desk setup fresh = record { account = first-account desk setup fresh; few = omega arith }

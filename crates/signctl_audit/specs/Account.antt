@@ -1,5 +1,6 @@
 -- What the lines of `audit` come to, one after another.
-use Rattle.std.specs.Prelude.{ℕ, ◌+◌, List, [], ◌∷◌, ◌++◌, Option, Some, None, option_map, fold, length, unwrap_or}
+use Rattle.std.specs.Prelude.{ℕ, ◌+◌, Bool, true, false, if◌then◌else◌, length, unwrap_or}
+use Rattle.std.specs.Prelude.{List, [], ◌∷◌, ◌++◌, fold, Option, Some, None, option_map}
 use Rattle.sequential_signer.specs.Transcript.{committed_entries}
 use Rattle.sequential_signer.specs.ExpectedReply.{expected_reply}
 use Rattle.sequential_signer.specs.declared.event.Entry.{Entry}
@@ -59,10 +60,15 @@ unclaimed_with number before (Some subject) = Some (record { line = number; subj
 abbrev pub subject_in : Account → Option Subject
 subject_in so_far = option_map (λ unclaimed. unclaimed.subject) so_far.unclaimed
 
+-- whether this says that an allocation failed
+abbrev pub is_missed : ClaimedReply → Bool
+is_missed OutOfMemory = true
+is_missed _ = false
+
 -- an event as it was claimed: an allocation failed, or it got the reply that is due
 abbrev pub claimed_entry : Account → Event ScriptCredential → ClaimedReply → Entry ScriptCredential
-claimed_entry so_far event OutOfMemory = record { event = event; reply = reply.OutOfMemory }
-claimed_entry so_far event _ = record { event = event; reply = reply_due so_far event }
+claimed_entry so_far event claimed =
+    record { event = event; reply = if is_missed claimed then reply.OutOfMemory else reply_due so_far event }
 
 -- the entries with one more claim, which is about this
 abbrev pub entries_with : Account → ClaimedReply → Option Subject → List (Entry ScriptCredential)

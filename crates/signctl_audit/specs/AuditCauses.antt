@@ -4,7 +4,8 @@ use Rattle.sign_base.specs.declared.call_id.CallId.{CallId}
 use Rattle.signctl_format.specs.Words.{spaced_words}
 use Rattle.signctl_format.specs.Lines.{call_words, cache_line, handle_line, reply_line, line_error_text}
 use Rattle.signctl_audit.specs.declared.audit_error.AuditError.{AuditError}
-use Rattle.signctl_audit.specs.declared.audit_error.AuditError.TheVariants.{Line, OutOfPlace, NoClaim, Differs}
+use Rattle.signctl_audit.specs.declared.audit_error.AuditError.TheVariants.{Line, OutOfPlace}
+use Rattle.signctl_audit.specs.declared.audit_error.AuditError.TheVariants.{NoClaim, Differs}
 use Rattle.signctl_audit.specs.declared.audit_error.Due.{Due}
 use Rattle.signctl_audit.specs.declared.audit_error.Due.TheVariants.{Cache, Handle, Reply}
 

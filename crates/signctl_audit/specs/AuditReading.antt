@@ -1,5 +1,6 @@
 -- What a line of `audit` reads as, after those before it.
-use Rattle.std.specs.Prelude.{ℕ, Bool, true, false, ◌&&◌, ◌||◌, List, Option, Some, None, is_none, Result, Ok, Err, if◌then◌else◌}
+use Rattle.std.specs.Prelude.{ℕ, Bool, false, ◌&&◌, ◌||◌, if◌then◌else◌}
+use Rattle.std.specs.Prelude.{List, Option, Some, None, is_none, Result, Ok, Err}
 use Rattle.std.specs.Str.{bytes_eq}
 use Rattle.sign_base.specs.declared.call_id.CallId.{CallId}
 use Rattle.sign_base.specs.Calls.{first_of}
@@ -16,9 +17,11 @@ use Rattle.signctl_format.specs.Grammar.{is_version_line}
 use Rattle.sign_audit.specs.Blockers.{blockers_of}
 use Rattle.signctl_audit.specs.ClaimReading.{claim_text, claim_of}
 use Rattle.signctl_audit.specs.AuditCauses.{due_line}
-use Rattle.signctl_audit.specs.Account.{Account, account_of, version_in, reply_due, subject_of, subject_in}
+use Rattle.signctl_audit.specs.Account.{Account, account_of, version_in, reply_due, is_missed}
+use Rattle.signctl_audit.specs.Account.{subject_of, subject_in}
 use Rattle.signctl_audit.specs.declared.audit_error.AuditError.{AuditError}
-use Rattle.signctl_audit.specs.declared.audit_error.AuditError.TheVariants.{Line, OutOfPlace, NoClaim, Differs}
+use Rattle.signctl_audit.specs.declared.audit_error.AuditError.TheVariants.{Line, OutOfPlace}
+use Rattle.signctl_audit.specs.declared.audit_error.AuditError.TheVariants.{NoClaim, Differs}
 use Rattle.signctl_audit.specs.declared.audit_error.Due.{Due}
 use Rattle.signctl_audit.specs.declared.audit_error.Due.TheVariants as due
 use Rattle.signctl_audit.specs.declared.audit_line.AuditLine.{AuditLine}
@@ -27,7 +30,6 @@ use Rattle.signctl_audit.specs.declared.audit_line.Subject.{Subject}
 use Rattle.signctl_audit.specs.declared.audit_line.Subject.TheVariants.{Cache, Handle, Event as Happened}
 use Rattle.signctl_audit.specs.declared.audit_line.Unclaimed.{Unclaimed}
 use Rattle.signctl_audit.specs.declared.claimed_reply.ClaimedReply.{ClaimedReply}
-use Rattle.signctl_audit.specs.declared.claimed_reply.ClaimedReply.TheVariants.{OutOfMemory}
 
 -- ---- lines of a script
 
@@ -69,11 +71,6 @@ abbrev pub due_of : Account → Subject → Due
 due_of so_far (Cache number) = due.Cache number
 due_of so_far (Handle number) = due.Handle number
 due_of so_far (Happened event) = due.Reply (reply_due so_far event)
-
--- whether this says that an allocation failed
-abbrev pub is_missed : ClaimedReply → Bool
-is_missed OutOfMemory = true
-is_missed _ = false
 
 -- whether an allocation may have failed
 abbrev pub may_miss : Account → Subject → Bool

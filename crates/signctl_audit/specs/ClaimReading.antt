@@ -7,9 +7,13 @@ use Rattle.signctl_format.specs.Words.{words, greatest_u32, greatest_u64}
 use Rattle.signctl_format.specs.Steps.{◌>>=◌, at_end_of_line}
 use Rattle.signctl_format.specs.Reading.{number_at, call_at, head_in}
 use Rattle.signctl_audit.specs.declared.claimed_reply.ClaimedReply.{ClaimedReply}
-use Rattle.signctl_audit.specs.declared.claimed_reply.ClaimedReply.TheVariants.{Cache, Handle, Begun, Pending, NotNow, OutOfMemory, Ask, Sign, Refused, Done, Cancelled}
+use Rattle.signctl_audit.specs.declared.claimed_reply.ClaimedReply.TheVariants.{Cache, Handle, Begun}
+use Rattle.signctl_audit.specs.declared.claimed_reply.ClaimedReply.TheVariants.{Pending, NotNow, OutOfMemory}
+use Rattle.signctl_audit.specs.declared.claimed_reply.ClaimedReply.TheVariants.{Ask, Sign, Refused, Done}
+use Rattle.signctl_audit.specs.declared.claimed_reply.ClaimedReply.TheVariants.{Cancelled}
 use Rattle.signctl_audit.specs.declared.claimed_reply.ClaimedWhy.{ClaimedWhy}
-use Rattle.signctl_audit.specs.declared.claimed_reply.ClaimedWhy.TheVariants.{Missing, Short, Range, Loader, Service}
+use Rattle.signctl_audit.specs.declared.claimed_reply.ClaimedWhy.TheVariants.{Missing, Short, Range, Loader}
+use Rattle.signctl_audit.specs.declared.claimed_reply.ClaimedWhy.TheVariants.{Service}
 
 -- the text of a claim line, which stands after an equals sign and a space
 abbrev pub claim_text : List ℕ → Option (List ℕ)

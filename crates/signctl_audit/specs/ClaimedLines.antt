@@ -12,9 +12,13 @@ use Rattle.signctl_format.specs.Heads.{IsLineHead, head_words}
 use Rattle.signctl_format.specs.Lines.{wake_words}
 use Rattle.signctl_format.specs.Grammar.{IsLineCall}
 use Rattle.signctl_audit.specs.declared.claimed_reply.ClaimedReply.{ClaimedReply}
-use Rattle.signctl_audit.specs.declared.claimed_reply.ClaimedReply.TheVariants.{Cache, Handle, Begun, Pending, NotNow, OutOfMemory, Ask, Sign, Refused, Done, Cancelled}
+use Rattle.signctl_audit.specs.declared.claimed_reply.ClaimedReply.TheVariants.{Cache, Handle, Begun}
+use Rattle.signctl_audit.specs.declared.claimed_reply.ClaimedReply.TheVariants.{Pending, NotNow, OutOfMemory}
+use Rattle.signctl_audit.specs.declared.claimed_reply.ClaimedReply.TheVariants.{Ask, Sign, Refused, Done}
+use Rattle.signctl_audit.specs.declared.claimed_reply.ClaimedReply.TheVariants.{Cancelled}
 use Rattle.signctl_audit.specs.declared.claimed_reply.ClaimedWhy.{ClaimedWhy}
-use Rattle.signctl_audit.specs.declared.claimed_reply.ClaimedWhy.TheVariants.{Missing, Short, Range, Loader, Service}
+use Rattle.signctl_audit.specs.declared.claimed_reply.ClaimedWhy.TheVariants.{Missing, Short, Range, Loader}
+use Rattle.signctl_audit.specs.declared.claimed_reply.ClaimedWhy.TheVariants.{Service}
 
 -- ---- what a line shows of a reply
 

@@ -7,3 +7,5 @@ pub mod AuditOutput
 pub mod SessionState
 pub mod Taking
 pub mod LegalLogs
+pub use Rattle.signctl_format.specs.Lines
+pub use Rattle.signctl_format.specs.Readers

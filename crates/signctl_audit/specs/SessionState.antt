@@ -1,5 +1,5 @@
 -- What a session of `audit` keeps of the lines that it has read.
-use Rattle.std.specs.Prelude.{◌≡◌, ◌≤◌, ℕ, false, List, [], Option, Some, None, length, map}
+use Rattle.std.specs.Prelude.{◌≡◌, ◌≤◌, ℕ, false, List, [], Option, Some, length, map}
 use Rattle.sign_io.specs.Lines.{input_limit}
 use Rattle.sequential_signer.specs.declared.event.Entry.{Entry}
 use Rattle.sign_desk.specs.DeskState.{DeskState, Represents}
@@ -16,12 +16,13 @@ use Rattle.signctl_audit.specs.declared.audit_line.AuditLine.{AuditLine}
 use Rattle.signctl_audit.specs.declared.audit_line.Subject.{Subject}
 use Rattle.signctl_audit.specs.declared.audit_line.Subject.TheVariants.{Event as Happened}
 use Rattle.signctl_audit.specs.declared.audit_line.Unclaimed.{Unclaimed}
+use Rattle.signctl_audit.specs.declared.log_stage.LogStage.{LogStage}
+use Rattle.signctl_audit.specs.declared.log_stage.LogStage.TheVariants.{Setup, Judging}
 
--- a desk until the first event comes, and an audit over it from then on; how many lines, caches and events
--- there were; the version of the input, once it has a line; and the line that still wants its claim
+-- the signer; how many lines, caches and events there were; the version of the input, once it has a line; and
+-- the line that still wants its claim
 pub record SessionState : Type 0 where
-  pub desk : Option (DeskState ScriptCredential ScriptRule)
-  pub audit : Option (AuditState ScriptCredential ScriptRule)
+  pub stage : LogStage
   pub lines : ℕ
   pub caches : ℕ
   pub events : ℕ
@@ -53,12 +54,10 @@ pub record IsAudited (audit : AuditState ScriptCredential ScriptRule) (so_far : 
   pub entries : plain_entries stepped ≡ so_far.entries
   pub represents : AuditRepresents script_policy audit stepped
 
--- the first event hands the desk to the audit
-abbrev pub HasSigner : Option (DeskState ScriptCredential ScriptRule)
-    → Option (AuditState ScriptCredential ScriptRule) → Account → Type 0
-HasSigner (Some desk) None so_far = IsSetUp desk so_far
-HasSigner None (Some audit) so_far = IsAudited audit so_far
-HasSigner _ _ so_far = ⊥
+-- a desk before the first event, and an audit from then on
+abbrev pub HasSigner : LogStage → Account → Type 0
+HasSigner (Setup desk) so_far = IsSetUp desk so_far
+HasSigner (Judging audit) so_far = IsAudited audit so_far
 
 -- the session represents lines that come to this
 pub record RepresentsAccount (session : SessionState) (so_far : Account) : Type 0 where
@@ -67,7 +66,7 @@ pub record RepresentsAccount (session : SessionState) (so_far : Account) : Type 
   pub events : session.events ≡ length (events_in so_far.items)
   pub version : session.version ≡ so_far.version
   pub unclaimed : session.unclaimed ≡ so_far.unclaimed
-  pub signer : HasSigner session.desk session.audit so_far
+  pub signer : HasSigner session.stage so_far
 
 -- the session represents these lines, of which an input has room for more
 pub record SessionRepresents (session : SessionState) (lines : List AuditLine) : Type 0 where

@@ -44,7 +44,7 @@ CanTakeClaim session claimed =
 -- the claim is about this event, and is right
 abbrev pub CanHappen : SessionState → Event ScriptCredential → ClaimedReply → Type 0
 CanHappen session event claimed =
-    (so_far : Account) × HasSigner session.desk session.audit so_far
+    (so_far : Account) × HasSigner session.stage so_far
     × (subject_in so_far ≡ Some (Happened event)) × IsRightClaim so_far claimed
 
 -- what the audit may answer to a right claim: not that another reply was due

@@ -3,8 +3,8 @@ ghost use Rattle.std.specs.Prelude.{◌≡◌, ◌&&◌, IfOk};
 ghost use Rattle.std.specs.Str.{bytes_eq};
 ghost use Rattle.sequential_signer.specs.Phase.{is_pending};
 ghost use Rattle.signctl_audit.specs.AuditCauses.{due_line};
-ghost use Rattle.signctl_audit.specs.Account.{Account, reply_due};
-ghost use Rattle.signctl_audit.specs.AuditReading.{is_missed, may_miss, behind_of, due_error, subject_error};
+ghost use Rattle.signctl_audit.specs.Account.{Account, reply_due, is_missed};
+ghost use Rattle.signctl_audit.specs.AuditReading.{may_miss, behind_of, due_error, subject_error};
 ghost use Rattle.signctl_audit.specs.SessionState.{IsAudited};
 ghost use Rattle.signctl_audit.specs.declared.audit_line.Subject.TheVariants.{Event as Happened};
 

@@ -6,7 +6,7 @@ ghost use Rattle.signctl_format.specs.Lines.{reply_line};
 ghost use Rattle.signctl_audit.specs.declared.claimed_reply.ClaimedReply.{ClaimedReply};
 ghost use Rattle.signctl_audit.specs.ClaimedLines.{shown, claimed_line, SpellsReply};
 ghost use Rattle.signctl_audit.specs.ClaimReading.{claim_of};
-ghost use Rattle.signctl_audit.specs.LegalLogs.{AcceptedClaimsAreLegal};
+ghost use Rattle.signctl_audit.specs.LegalLogs.{AcceptedClaimsAreLegal, LegalLogsAreRuns};
 
 /// A text reads as a claim exactly where it spells it.
 #[tactic(auto, using(crate::proofs::ClaimGrammar::decided))]
@@ -34,8 +34,14 @@ pub fn a_printed_reply_is_claimed_by_its_line()
     ensures { (reply : Reply ScriptCredential) → reply_line reply ≡ claimed_line (shown reply) }
 {}
 
-/// Whatever the input of `audit`, the claims before its first bad line are a legal transcript for the setup
-/// that the lines make. It is one of their events, but for the last where that still wants its claim.
+/// Whatever the input of `audit`, the claims before its first bad line are what is printed of a legal
+/// transcript of its events.
 pub fn accepted_claims_are_legal()
     ensures { AcceptedClaimsAreLegal }
+{}
+
+/// An input of `audit` that is answered by `legal` is the whole log of a run: its claims are all that is
+/// printed of a legal transcript of all its events.
+pub fn legal_logs_are_runs()
+    ensures { LegalLogsAreRuns }
 {}

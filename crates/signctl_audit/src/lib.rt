@@ -12,7 +12,10 @@ mod claim_check;
 pub mod claimed_reply;
 mod closing;
 pub mod laws;
+mod log_stage;
 mod read_claim;
+mod session_reading;
+mod taking;
 
 pub use audit_error::{AuditError, Due};
 pub use audit_line::{AuditLine, Subject, Unclaimed};

@@ -2,7 +2,10 @@
 ghost use Rattle.std.specs.Prelude.{◌≡◌, IsTrue, Some, None, MatchOption};
 ghost use Rattle.std.specs.Str.{bytes_eq};
 ghost use Rattle.signctl_format.specs.Readers.{words_after, Reads, Gives};
-ghost use Rattle.signctl_audit.specs.ClaimReading.{claim_text, woken_in, wake_in, loader_at, service_at, why_at, cache_claim, handle_claim, ask_claim, sign_claim, refused_claim, done_claim, cancelled_claim, claim_form, claim_words_say, claim_of};
+ghost use Rattle.signctl_audit.specs.ClaimReading.{claim_text, woken_in, wake_in, loader_at};
+ghost use Rattle.signctl_audit.specs.ClaimReading.{service_at, why_at, cache_claim, handle_claim};
+ghost use Rattle.signctl_audit.specs.ClaimReading.{ask_claim, sign_claim, refused_claim, done_claim};
+ghost use Rattle.signctl_audit.specs.ClaimReading.{cancelled_claim, claim_form, claim_words_say, claim_of};
 
 use crate::claimed_reply::{ClaimedReply, ClaimedWhy};
 use sign_base::CallId;

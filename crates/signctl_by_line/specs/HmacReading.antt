@@ -8,7 +8,9 @@ use Rattle.signctl_by_line.specs.declared.hmac_item.HashCall.TheVariants as of
 use Rattle.signctl_by_line.specs.declared.hmac_item.HmacItem.{HmacItem}
 use Rattle.signctl_by_line.specs.declared.hmac_item.HmacItem.TheVariants.{Unkeyed, Keyed, Base64Decode}
 use Rattle.signctl_by_line.specs.declared.hmac_item.KeyedCall.{KeyedCall}
-use Rattle.signctl_by_line.specs.declared.hmac_item.KeyedCall.TheVariants.{HmacSha256, HexHmacSha1, HexHmacSha256, Base64HmacSha1, Base64HmacSha256}
+use Rattle.signctl_by_line.specs.declared.hmac_item.KeyedCall.TheVariants.{HmacSha256, HexHmacSha1}
+use Rattle.signctl_by_line.specs.declared.hmac_item.KeyedCall.TheVariants.{HexHmacSha256, Base64HmacSha1}
+use Rattle.signctl_by_line.specs.declared.hmac_item.KeyedCall.TheVariants.{Base64HmacSha256}
 use Rattle.signctl_by_line.specs.declared.hmac_item.UnkeyedCall.{UnkeyedCall}
 use Rattle.signctl_by_line.specs.declared.hmac_item.UnkeyedCall.TheVariants.{Base64Encode, HexSha1, HexSha256}
 use Rattle.signctl_by_line.specs.BytesWords.{bytes_of, text_of}

@@ -8,3 +8,6 @@ pub mod ViewAnswers
 pub mod Sigv4Grammar
 pub mod Sigv4Reading
 pub mod Sigv4Answers
+pub use Rattle.signctl_format.specs.Heads
+pub use Rattle.signctl_format.specs.Readers
+pub use Rattle.signctl_format.specs.Words

@@ -1,6 +1,7 @@
 //! Reading a line of `hmac`: one function for each form, by the arguments of the call that it names.
 ghost use Rattle.signctl_format.specs.Readers.{words_after, Reads, Gives, NeedsMemory};
-ghost use Rattle.signctl_by_line.specs.HmacReading.{NamesCall, call_named, unkeyed_form, keyed_form, decode_form, hmac_item_of};
+ghost use Rattle.signctl_by_line.specs.HmacReading.{NamesCall, call_named, unkeyed_form, keyed_form};
+ghost use Rattle.signctl_by_line.specs.HmacReading.{decode_form, hmac_item_of};
 
 use crate::bytes_word::{bytes, text};
 use crate::{HashCall, HmacItem, KeyedCall, UnkeyedCall};

@@ -6,17 +6,17 @@ ghost use Rattle.signctl_by_line.specs.Sigv4Answers.{done_line, signing_line, pr
 
 use crate::sigv4_item::{Asked, Sigv4Item};
 use sign_base::{Head, NoMemory};
-use sign_request::HeaderKeys;
+use sign_request::HeaderSeeds;
 use signctl_format::head_text::push_head;
 use signctl_format::text::push;
-use sigv4_core::{SigError, sign_head_keyed};
-use sigv4_presign::{Checked, PresignError, presign_keyed, verify_keyed};
+use sigv4_core::{SigError, sign_head_seeded};
+use sigv4_presign::{Checked, PresignError, presign_seeded, verify_seeded};
 use std::alloc::Global;
 
 /// Adds the answer to an item.
 pub(crate) fn push_answer(
     alloc: Global,
-    keys: HeaderKeys,
+    keys: HeaderSeeds,
     item: &Sigv4Item,
     text: &mut Vec<u8>,
 ) -> Result<(), NoMemory<()>>
@@ -31,15 +31,15 @@ pub(crate) fn push_answer(
     } = item;
     match asked {
         Asked::Sign(payload) => {
-            let signed = sign_head_keyed(alloc, head, credential, scope, payload, *moment, keys);
+            let signed = sign_head_seeded(alloc, head, credential, scope, payload, *moment, keys);
             push_signed(text, signed)
         }
         Asked::Presign(seconds) => {
-            let made = presign_keyed(alloc, head, credential, scope, *seconds, *moment, keys);
+            let made = presign_seeded(alloc, head, credential, scope, *seconds, *moment, keys);
             push_presigned(text, made)
         }
         Asked::Verify => {
-            let found = verify_keyed(alloc, head, credential, scope, *moment, keys)?;
+            let found = verify_seeded(alloc, head, credential, scope, *moment, keys)?;
             push_line(text, checked_word(found))
         }
     }

@@ -5,15 +5,16 @@ ghost use Rattle.signctl_by_line.specs.Sigv4Answers.{sigv4_answer};
 use crate::sigv4_answer::push_answer;
 use crate::{EachLine, Sigv4Item, read_sigv4_line};
 use sign_base::NoMemory;
-use sign_request::HeaderKeys;
+use sign_request::HeaderSeeds;
 use signctl_format::ReadError;
 use std::alloc::Global;
 
-/// The command `sigv4`. The names of headers come from outside, so the maps that are made of them have these
-/// keys; no answer depends on them.
+/// The command `sigv4`. The names of headers come from outside, so it hands these keys on, for the map that a
+/// head is tested by which has more headers than one may have names. No line has so many, and no answer
+/// depends on the keys.
 #[derive(Clone, Copy, Debug)]
 pub struct Sigv4Command {
-    pub keys: HeaderKeys,
+    pub keys: HeaderSeeds,
 }
 
 impl EachLine for Sigv4Command {

@@ -5,10 +5,12 @@ ghost use Rattle.sign_request.specs.PlainView.{view_query};
 ghost use Rattle.sign_request.specs.Query.{text_pair, text_pairs};
 ghost use Rattle.signctl_format.specs.Lines.{with_newline};
 ghost use Rattle.signctl_format.specs.Words.{spaced_words, line_of};
-ghost use Rattle.signctl_by_line.specs.ViewAnswers.{named_line, target_lines, pair_word, pair_line, query_words, summary_lines, view_lines, refusal_line, view_answer};
+ghost use Rattle.signctl_by_line.specs.ViewAnswers.{named_line, target_lines, pair_word, pair_line};
+ghost use Rattle.signctl_by_line.specs.ViewAnswers.{query_words, summary_lines, view_lines, refusal_line};
+ghost use Rattle.signctl_by_line.specs.ViewAnswers.{view_answer};
 
 use sign_base::{Head, NoMemory};
-use sign_request::{HeadView, HeaderKeys, ViewRefusal};
+use sign_request::{HeadView, HeaderSeeds, ViewRefusal};
 use signctl_format::escape::{Escaping, push_escaped};
 use signctl_format::text::{push, push_number, push_word};
 use std::alloc::Global;
@@ -16,13 +18,13 @@ use std::alloc::Global;
 /// Adds the answer to a head.
 pub(crate) fn push_answer(
     alloc: Global,
-    keys: HeaderKeys,
+    keys: HeaderSeeds,
     head: &Head,
     text: &mut Vec<u8>,
 ) -> Result<(), NoMemory<()>>
     ensures { OnOk result (text.new.items ≡ text.old.items ++ view_answer head.now) }
 {
-    match HeadView::build_keyed(alloc, head, keys) {
+    match HeadView::build_seeded(alloc, head, keys) {
         Ok(view) => push_view(alloc, view, text),
         Err(ViewRefusal::Head) => push_line(text, b"refused head"),
         Err(ViewRefusal::Authority) => push_line(text, b"refused authority"),

@@ -5,7 +5,7 @@ ghost use Rattle.signctl_by_line.specs.ViewAnswers.{view_answer};
 use crate::EachLine;
 use crate::view_answer::push_answer;
 use sign_base::{Head, NoMemory};
-use sign_request::HeaderKeys;
+use sign_request::HeaderSeeds;
 use signctl_format::ReadError;
 use signctl_format::head::head_line;
 use std::alloc::Global;
@@ -14,7 +14,7 @@ use std::alloc::Global;
 /// keys; no answer depends on them.
 #[derive(Clone, Copy, Debug)]
 pub struct ViewCommand {
-    pub keys: HeaderKeys,
+    pub keys: HeaderSeeds,
 }
 
 impl EachLine for ViewCommand {

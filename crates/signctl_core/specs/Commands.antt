@@ -1,5 +1,6 @@
 -- The commands of the program: by their words, and what a run of each does.
-use Rattle.std.specs.Prelude.{◌≡◌, ◌≤◌, ◌+◌, ◌↔◌, ℕ, List, [], ◌∷◌, Option, Some, None, IfSome, if◌then◌else◌, length, codes, option_map}
+use Rattle.std.specs.Prelude.{◌≡◌, ◌≤◌, ◌+◌, ◌↔◌, ℕ, List, [], ◌∷◌, Option, Some, None, IfSome, if◌then◌else◌}
+use Rattle.std.specs.Prelude.{length, codes, option_map}
 use Rattle.std.specs.Str.{bytes_eq}
 use Rattle.std.specs.Io.KnownBytes.{Appends, Consumes}
 use Rattle.sign_io.specs.Faults.{CountsFault}
@@ -8,17 +9,19 @@ use Rattle.signctl_audit.specs.AuditOutput.{audit_command}
 use Rattle.signctl_driver.specs.Command.{Command}
 use Rattle.signctl_driver.specs.Run.{RunAdds}
 use Rattle.signctl_driver.specs.Status.{is_read_fault, is_write_fault}
+use Rattle.signctl_driver.specs.Streams.{Stream, Adds}
 use Rattle.signctl_driver.specs.declared.status.Status.{Status}
 use Rattle.signctl_driver.specs.declared.status.Status.TheVariants.{Usage}
 use Rattle.signctl_format.specs.Words.{number_of}
 use Rattle.signctl_grant.specs.GrantOutput.{grant_command}
 use Rattle.signctl_by_line.specs.HmacAnswers.{hmac_command}
 use Rattle.signctl_by_line.specs.ViewAnswers.{view_command}
-use Rattle.signctl_script.specs.Load.{most_calls, LoadAdds}
+use Rattle.signctl_load.specs.Load.{most_calls, LoadAdds}
 use Rattle.signctl_script.specs.ScriptOutput.{script_command}
 use Rattle.signctl_by_line.specs.Sigv4Answers.{sigv4_command}
 use Rattle.signctl_core.specs.declared.commands.CommandName.{CommandName}
-use Rattle.signctl_core.specs.declared.commands.CommandName.TheVariants.{Script, Hmac, View, Grant, Sigv4, Audit, Load}
+use Rattle.signctl_core.specs.declared.commands.CommandName.TheVariants.{Script, Hmac, View, Grant, Sigv4}
+use Rattle.signctl_core.specs.declared.commands.CommandName.TheVariants.{Audit, Load}
 
 -- ---- by their words
 
@@ -45,18 +48,6 @@ command_named (word ∷ (number ∷ [])) = command_by_number word number
 command_named _ = None
 
 -- ---- what a run does
-
--- a source or a sink, before and after a run: the bytes that it still holds, or all that it
--- holds, and how often it failed
-pub record Stream (A : Type 0) : Type 0 where
-  pub holds : A → Option (List ℕ)
-  pub faults : A → ℕ
-  pub old : A
-  pub new : A
-
--- a sink has grown by such bytes
-abbrev pub Adds : {D : Type 0} → Stream D → (List ℕ → Type 0) → Type 0
-Adds sink Fits = (added : List ℕ) × Appends (sink.holds sink.old) (sink.holds sink.new) added × Fits added
 
 -- a command over lines took some bytes, at most one more than are looked at, and added
 -- the output that belongs to them

@@ -1,21 +1,17 @@
 -- The program: what its words ask for, what it writes where, and its exit status.
-use Rattle.std.specs.Prelude.{◌≡◌, ◌⊎◌, ℕ, List, [], ◌∷◌, ◌++◌, Option, Some, None, if◌then◌else◌, codes, drop, option_map}
+use Rattle.std.specs.Prelude.{◌≡◌, ℕ, List, [], ◌∷◌, ◌++◌, Option, Some, None, if◌then◌else◌, codes}
+use Rattle.std.specs.Prelude.{drop, option_map}
 use Rattle.std.specs.Str.{bytes_eq}
 use Rattle.std.specs.Io.{StartsWith}
-use Rattle.std.specs.Io.KnownBytes.{Appends}
-use Rattle.sign_io.specs.Faults.{IsOneFault}
-use Rattle.signctl_driver.specs.Output.{AppendsPrefix}
+use Rattle.signctl_driver.specs.Reasons.{usage_line}
 use Rattle.signctl_driver.specs.Status.{exit_status}
 use Rattle.signctl_driver.specs.declared.status.Status.{Status}
-use Rattle.signctl_driver.specs.declared.status.Status.TheVariants.{Done, Usage, Refused, ReadFault, WriteFault, OutOfMemory}
-use Rattle.signctl_core.specs.Commands.{Stream, Adds, Runs, command_named}
+use Rattle.signctl_driver.specs.declared.status.Status.TheVariants.{Done, WriteFault}
+use Rattle.signctl_driver.specs.Streams.{Stream, Adds}
+use Rattle.signctl_core.specs.Commands.{Runs, command_named}
 use Rattle.signctl_core.specs.declared.commands.CommandName.{CommandName}
 
 -- ---- texts
-
--- the usage line
-abbrev pub usage_line : List ℕ
-usage_line = codes "usage: signctl script|view|hmac|grant|load N|pool W J\n"
 
 -- the text of `--help`
 abbrev pub help_text : List ℕ
@@ -42,16 +38,7 @@ help_text =
 
 -- the text of `--version`
 abbrev pub version_text : List ℕ
-version_text = codes "signctl 0.2.0\n"
-
--- what stands on standard error for the way in which a run ended: the line that says what the output can't
-abbrev pub reason_line : Status → List ℕ
-reason_line Done = []
-reason_line Refused = []
-reason_line Usage = usage_line
-reason_line ReadFault = codes "signctl: a read failed\n"
-reason_line WriteFault = codes "signctl: a write failed\n"
-reason_line OutOfMemory = codes "signctl: out of memory\n"
+version_text = codes "signctl 0.3.0\n"
 
 -- ---- what is asked for
 
@@ -98,13 +85,6 @@ TextAdds text _ added = ⊥
 abbrev pub Answers : {S D : Type 0} → Request → Status → Stream S → Stream D → Type 0
 Answers (Show text) status source sink = (source.new ≡ source.old) × Adds sink (TextAdds text status)
 Answers (Run name) status source sink = Runs name status source sink
-
--- all of the text was written, or one write failed, and left a prefix of it
-abbrev pub WritesOnce : {E : Type 0} → List ℕ → Stream E → Type 0
-WritesOnce text sink =
-    (Appends (sink.holds sink.old) (sink.holds sink.new) text × (sink.faults sink.new ≡ sink.faults sink.old))
-    ⊎ (AppendsPrefix (sink.holds sink.old) (sink.holds sink.new) text
-    × IsOneFault (sink.faults sink.old) (sink.faults sink.new))
 
 -- the exit status is that of a run that ended so. No two ends of a run have the same
 abbrev pub ExitsWith : ℕ → (Status → Type 0) → Type 0

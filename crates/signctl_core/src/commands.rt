@@ -3,17 +3,19 @@ ghost use Rattle.std.specs.Prelude.{◌≡◌, [], map, string_bytes};
 ghost use Rattle.std.specs.Result.{ForOk};
 ghost use Rattle.sign_io.specs.Faults.{CountsFault};
 ghost use Rattle.signctl_driver.specs.Status.{is_read_fault, is_write_fault};
-ghost use Rattle.signctl_core.specs.Commands.{command_by_word, command_by_number, command_named, RunsOver, Runs, IsRun};
+ghost use Rattle.signctl_core.specs.Commands.{command_by_word, command_by_number, command_named, RunsOver};
+ghost use Rattle.signctl_core.specs.Commands.{Runs, IsRun};
 
 use sign_base::NoMemory;
 use sign_io::{Sink, Source};
-use sign_request::HeaderKeys;
+use sign_request::HeaderSeeds;
 use signctl_audit::AuditSession;
 use signctl_by_line::{HmacCommand, LineByLine, Sigv4Command, ViewCommand};
 use signctl_driver::{LineCommand, Status, drive};
 use signctl_format::word::number;
 use signctl_grant::GrantSession;
-use signctl_script::{Session, run_load};
+use signctl_load::run_load;
+use signctl_script::Session;
 use std::alloc::Global;
 
 /// The most calls that `load` runs.
@@ -40,7 +42,7 @@ pub fn run<S: Source, D: Sink>(
     words: &[String],
     source: &mut S,
     sink: &mut D,
-    keys: HeaderKeys,
+    keys: HeaderSeeds,
 ) -> Status
     ensures { IsRun Runs (command_named (map string_bytes words.now)) result
         (record { holds = S.left; faults = S.faults; old = source.old; new = source.new })

@@ -7,5 +7,5 @@ pub mod program;
 
 pub use commands::run;
 pub use program::run_program;
-pub use sign_request::HeaderKeys;
+pub use sign_request::HeaderSeeds;
 pub use signctl_driver::Status;

@@ -1,16 +1,19 @@
 //! The whole program, as a function over its words and streams: `main` hands it the real ones.
-ghost use Rattle.std.specs.Prelude.{◌≡◌, ◌≢◌, map, drop, string_bytes, option_map, false};
+ghost use Rattle.std.specs.Prelude.{◌≡◌, ◌≢◌, map, string_bytes, option_map, false};
 ghost use Rattle.sign_io.specs.Faults.{CountsFault};
 ghost use Rattle.signctl_driver.specs.Status.{is_read_fault, is_write_fault};
-ghost use Rattle.signctl_core.specs.Commands.{Adds, IsRun};
-ghost use Rattle.signctl_core.specs.Program.{usage_line, help_text, version_text, reason_line, text_by_word, text_named};
-ghost use Rattle.signctl_core.specs.Program.{request_by, request_of, TextAdds, Answers, WritesOnce, ExitsWith};
+ghost use Rattle.signctl_driver.specs.Reasons.{reason_line};
+ghost use Rattle.signctl_driver.specs.Streams.{Adds, WritesOnce};
+ghost use Rattle.signctl_core.specs.Commands.{IsRun};
+ghost use Rattle.signctl_core.specs.Program.{help_text, version_text, text_by_word, text_named};
+ghost use Rattle.signctl_core.specs.Program.{request_by, request_of, TextAdds, Answers, ExitsWith};
 
 use crate::commands::run;
 use sign_io::{Sink, Source};
-use sign_request::HeaderKeys;
-use signctl_driver::Status;
+use sign_request::HeaderSeeds;
 use signctl_driver::output::write_all;
+use signctl_driver::reason::{after_name, report};
+use signctl_driver::{Status, usage_line};
 use std::alloc::Global;
 
 /// Answers a command line, whose first word is the program's name, and gives the exit status. `None` is
@@ -25,7 +28,7 @@ pub fn run_program<S: Source, D: Sink, E: Sink>(
     source: &mut S,
     output: &mut D,
     errors: &mut E,
-    keys: HeaderKeys,
+    keys: HeaderSeeds,
 ) -> u8
     // What the words ask for is done, and standard error says why it ended early.
     ensures { ExitsWith result (λ status.
@@ -43,23 +46,13 @@ pub fn run_program<S: Source, D: Sink, E: Sink>(
     status.exit_status()
 }
 
-/// The words after the program's name.
-pub fn after_name(all: &[String]) -> &[String]
-    ensures { map string_bytes result.now ≡ drop 1 (map string_bytes all.now) }
-{
-    match all {
-        [_, words @ ..] => words,
-        [] => all,
-    }
-}
-
 /// Shows the text that the words ask for, or runs the command that they name.
 fn answer<S: Source, D: Sink>(
     alloc: Global,
     words: &[String],
     source: &mut S,
     output: &mut D,
-    keys: HeaderKeys,
+    keys: HeaderSeeds,
 ) -> Status
     ensures { IsRun Answers (request_by (map string_bytes words.now)) result
         (record { holds = S.left; faults = S.faults; old = source.old; new = source.new })
@@ -105,43 +98,10 @@ fn show<D: Sink>(text: &str, output: &mut D) -> Status
     }
 }
 
-/// Writes the line that says why a run ended early, where there is one.
-pub fn report<E: Sink>(status: Status, errors: &mut E)
-    ensures { WritesOnce (reason_line status)
-        (record { holds = E.holds; faults = E.faults; old = errors.old; new = errors.new }) }
-{
-    let _ = write_all(errors, reason_line(status).as_bytes());
-}
-
-fn reason_line(status: Status) -> &'static str
-    ensures { result.now ≡ reason_line status }
-{
-    match status {
-        Status::Done | Status::Refused => "",
-        Status::Usage => usage_line(),
-        Status::ReadFault => "signctl: a read failed\n",
-        Status::WriteFault => "signctl: a write failed\n",
-        Status::OutOfMemory => "signctl: out of memory\n",
-    }
-}
-
-/// The usage line, and what stands after it.
-macro_rules! usage_line {
-    ($($more:literal)?) => {
-        concat!("usage: signctl script|view|hmac|grant|load N|pool W J\n" $(, $more)?)
-    };
-}
-
-fn usage_line() -> &'static str
-    ensures { result.now ≡ usage_line }
-{
-    usage_line!()
-}
-
 fn version_text() -> &'static str
     ensures { result.now ≡ version_text }
 {
-    "signctl 0.2.0\n"
+    "signctl 0.3.0\n"
 }
 
 fn help_text() -> &'static str

@@ -77,8 +77,9 @@ module _ {Item Cause : Type 0} (command : Command Item Cause) where
   turn-nothing items (Err close.End) status closing t h = absurd (cc)
   turn-nothing items (Err close.Fault) status closing t h = sym (closing-is {Item = Item} _ _ _ _ t)
 
-  module _ (left next : Option (List ℕ)) (items : List Item) (bytes : List ℕ) (input new : LineInput) (answer : Result (List ℕ) Close)
-      (read : IsReadSoFar command left items bytes input) (answers : AnswersNext input left next answer new) where
+  module _ (left next : Option (List ℕ)) (items : List Item) (bytes : List ℕ) (input new : LineInput)
+      (answer : Result (List ℕ) Close) (read : IsReadSoFar command left items bytes input)
+      (answers : AnswersNext input left next answer new) where
     -- where a read failed, one was needed
     pub needs-fault : is_fault answer ≡ true → NeedsRead input
     needs-fault h = by_read read

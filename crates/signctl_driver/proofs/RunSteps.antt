@@ -37,7 +37,8 @@ stops-starts command left taken text part (inr s) f = inr (s.0, starts-trans par
 -- what a run took and added, by how it ended
 abbrev pub RunEnds : {Item Cause : Type 0} → Command Item Cause → Since → Since → Status → Type 0
 RunEnds command source sink status =
-    (taken : List ℕ) × (added : List ℕ) × Consumes source.before source.now taken × (length taken ≤ input_limit + 1)
+    (taken : List ℕ) × (added : List ℕ)
+    × Consumes source.before source.now taken × (length taken ≤ input_limit + 1)
     × Appends sink.before sink.now added × RunAdds command source.now status taken added
 
 -- the bytes that a run has taken

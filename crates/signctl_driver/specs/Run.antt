@@ -8,7 +8,8 @@ use Rattle.signctl_driver.specs.Lines.{Ending, End, Fault}
 use Rattle.signctl_driver.specs.LinesRead.{lines_read, first_bad}
 use Rattle.signctl_driver.specs.Output.{output}
 use Rattle.signctl_driver.specs.declared.status.Status.{Status}
-use Rattle.signctl_driver.specs.declared.status.Status.TheVariants.{Done, Usage, Refused, ReadFault, WriteFault, OutOfMemory}
+use Rattle.signctl_driver.specs.declared.status.Status.TheVariants.{Done, Usage, Refused, ReadFault}
+use Rattle.signctl_driver.specs.declared.status.Status.TheVariants.{WriteFault, OutOfMemory}
 
 -- some line of the bytes is bad, or, where all was read, their end is
 abbrev pub HasBadLine : {Item Cause : Type 0} → Command Item Cause → List ℕ → Ending → Type 0

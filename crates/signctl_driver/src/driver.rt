@@ -19,8 +19,6 @@ use std::alloc::Global;
 ///
 /// It never answers `Usage`. At `Done`, `Refused` and `ReadFault` the whole output to the bytes taken
 /// was written; at `WriteFault` and `OutOfMemory` a prefix of it was.
-///
-/// Requires a command that has read no line.
 pub fn drive<C: LineCommand, S: Source, D: Sink>(
     alloc: Global,
     command: C,

@@ -6,9 +6,11 @@ pub mod driver;
 pub mod laws;
 pub mod output;
 mod printing;
+pub mod reason;
 mod service;
 pub mod status;
 
 pub use command::LineCommand;
 pub use driver::drive;
+pub use printing::end_line;
 pub use status::Status;

@@ -1,5 +1,5 @@
-//! The lines of output that the driver adds itself: that a line is bad, and that the input is too
-//! long. Where an allocation fails, a part of a line may stand at the end of the text.
+//! The lines of output that the driver adds itself, that a line is bad and that the input is too long, and
+//! the end of any line. Where an allocation fails, a part of a line may stand at the end of the text.
 ghost use Rattle.std.specs.Prelude.{◌≡◌, ◌++◌, ◌∷◌, [], OnOk, codes, decimal};
 ghost use Rattle.sign_base.specs.Bytes.{newline};
 ghost use Rattle.signctl_driver.specs.Output.{too_much_line};
@@ -18,8 +18,8 @@ pub(crate) fn begin_bad_line(text: &mut Vec<u8>, number: u64) -> Result<(), NoMe
     Ok(())
 }
 
-/// Ends a line.
-pub(crate) fn end_line(text: &mut Vec<u8>) -> Result<(), NoMemory<()>>
+/// Ends a line of the text.
+pub fn end_line(text: &mut Vec<u8>) -> Result<(), NoMemory<()>>
     ensures { OnOk result (text.new.items ≡ text.old.items ++ newline ∷ []) }
 {
     text.push(b'\n')?;

@@ -1,5 +1,6 @@
 //! A command in the middle of an input, with the answers that wait to be written.
-ghost use Rattle.std.specs.Prelude.{◌≡◌, ◌++◌, ◌∷◌, ◌+◌, ◌<◌, ◌≤◌, [], List, ℕ, Ok, Err, Some, None, true, length, codes, decimal, OnOk, OnErr, IfOk, IfSome, IsOk, is_err, false};
+ghost use Rattle.std.specs.Prelude.{◌≡◌, ◌++◌, ◌∷◌, ◌+◌, ◌<◌, ◌≤◌, [], List, ℕ, Ok, Err, Some, None, true};
+ghost use Rattle.std.specs.Prelude.{length, codes, decimal, OnOk, OnErr, IfOk, IfSome, IsOk, is_err, false};
 ghost use Rattle.std.specs.Io.KnownBytes.{Appends};
 ghost use Rattle.sign_io.specs.Faults.{CountsFault};
 ghost use Rattle.sign_io.specs.LineReader.{is_fault};
@@ -34,8 +35,6 @@ impl<C: LineCommand> Service<C> {
     ghost use Rattle.signctl_driver.specs.Serving.{HasServed};
 
     /// A command before the first line.
-    ///
-    /// Requires a command that has read no line.
     pub fn new(alloc: Global, command: C) -> Service<C>
         requires { C.represents command [] }
         ensures served { HasServed C.represents result [] }

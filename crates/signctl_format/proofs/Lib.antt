@@ -15,8 +15,7 @@ pub mod Calls
 pub mod Forms
 pub mod Grammars
 pub mod Spellings
-pub mod Texts
-pub mod ShortTexts
+pub mod Printing
 pub mod Escaped
 pub mod LineWords
 pub mod PlainEvents

@@ -13,7 +13,8 @@ use Rattle.signctl_format.specs.ScriptEvents.{plain_event}
 as_nanos-plain : (d : Duration) → as_nanos (plain_duration d) ≡ as_nanos d
 as_nanos-plain d = omega arith
 
-pub same_nanos : (d : Option Duration) → option_map as_nanos (option_map plain_duration d) ≡ option_map as_nanos d
+pub same_nanos : (d : Option Duration)
+    → option_map as_nanos (option_map plain_duration d) ≡ option_map as_nanos d
 same_nanos None = refl
 same_nanos (Some d) = ap (λ n. Some n) (as_nanos-plain d)
 

@@ -1,5 +1,6 @@
 -- Classes of bytes, and how far the bytes of a class go.
-use Rattle.std.specs.Prelude.{◌≡◌, ◌+◌, ◌<◌, ◌≤◌, ℕ, Bool, true, false, not, ◌==◌, List, [], ◌∷◌, slice_index, if◌then◌else◌}
+use Rattle.std.specs.Prelude.{◌≡◌, ◌+◌, ◌<◌, ◌≤◌, ℕ, Bool, true, false, not, ◌==◌, List, [], ◌∷◌, slice_index}
+use Rattle.std.specs.Prelude.{if◌then◌else◌}
 use Rattle.std.specs.Int.{w64, trailing_zeros}
 use Rattle.signctl_format.specs.declared.run.ByteClass.{ByteClass}
 use Rattle.signctl_format.specs.declared.run.ByteClass.TheVariants.{Word, Visible, Name, Value, Pair}

@@ -1,5 +1,6 @@
 -- Bytes that can't stand for themselves, written as `%` and two digits.
-use Rattle.std.specs.Prelude.{ℕ, ◌+◌, ◌*◌, ◌/◌, ◌%◌, Bool, true, not, ◌&&◌, ◌==◌, List, [], ◌∷◌, flat_map, Option, Some, None, if◌then◌else◌, option_map, option_and_then}
+use Rattle.std.specs.Prelude.{ℕ, ◌+◌, ◌*◌, ◌/◌, ◌%◌, Bool, true, not, ◌&&◌, ◌==◌, List, [], ◌∷◌, flat_map}
+use Rattle.std.specs.Prelude.{Option, Some, None, if◌then◌else◌, option_map, option_and_then}
 use Rattle.std.specs.Fmt.{digit_glyph}
 use Rattle.signctl_format.specs.declared.escape.Escaping.{Escaping}
 use Rattle.signctl_format.specs.declared.escape.Escaping.TheVariants.{Value, Pair}

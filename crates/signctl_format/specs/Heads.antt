@@ -1,5 +1,6 @@
 -- Request heads: method, URI and version, then each header as `name:value`.
-use Rattle.std.specs.Prelude.{ℕ, ◌+◌, Bool, not, ◌&&◌, ◌==◌, List, ◌∷◌, ◌++◌, map, take, drop, Option, Some, None, if◌then◌else◌, option_map, IsTrue, codes}
+use Rattle.std.specs.Prelude.{ℕ, ◌+◌, Bool, not, ◌&&◌, ◌==◌, List, ◌∷◌, ◌++◌, map, take, drop, Option, Some}
+use Rattle.std.specs.Prelude.{None, if◌then◌else◌, option_map, IsTrue, codes}
 use Rattle.std.specs.List.{list_all, list_any, position}
 use Rattle.std.specs.Str.{bytes_eq}
 use Rattle.sign_base.specs.declared.head.Field.{Field}

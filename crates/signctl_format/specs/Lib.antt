@@ -7,6 +7,7 @@ pub mod Escapes
 pub mod Classes
 pub mod Heads
 pub mod ScriptEvents
+pub mod Printing
 pub mod Lines
 pub mod ScriptSetup
 pub mod Grammar

@@ -1,11 +1,11 @@
 -- The lines that a script prints, without their newline, and a line with it.
-use Rattle.std.specs.Prelude.{◌≡◌, ◌<◌, ◌+◌, ℕ, length, List, [], ◌∷◌, ◌++◌, Option, Some, None, codes, vec_capacity}
-use Rattle.std.specs.Global.{Vec}
+use Rattle.std.specs.Prelude.{ℕ, List, [], ◌∷◌, ◌++◌, Option, Some, None, codes}
 use Rattle.std.specs.Fmt.{decimal}
 use Rattle.sign_base.specs.Bytes.{newline}
 use Rattle.sign_base.specs.declared.call_id.CallId.{CallId}
 use Rattle.sequential_signer.specs.declared.event.Reply.{Reply}
-use Rattle.sequential_signer.specs.declared.event.Reply.TheVariants.{Begun, Pending, NotNow, OutOfMemory, Ask, Sign, Refused, Done, Cancelled}
+use Rattle.sequential_signer.specs.declared.event.Reply.TheVariants.{Begun, Pending, NotNow, OutOfMemory, Ask}
+use Rattle.sequential_signer.specs.declared.event.Reply.TheVariants.{Sign, Refused, Done, Cancelled}
 use Rattle.sequential_signer.specs.declared.event.Why.{Why}
 use Rattle.sequential_signer.specs.declared.event.Why.TheVariants.{Missing, Short, Range, Loader, Service}
 use Rattle.signctl_format.specs.declared.credential.ScriptCredential.{ScriptCredential}
@@ -81,16 +81,3 @@ abbrev pub line_error_text : LineError → List ℕ
 line_error_text NotUnderstood = codes "not understood"
 line_error_text Late = codes "late"
 line_error_text NoSuchCache = codes "no such cache"
-
--- a text has something more at its end, or nothing
-pub record Grows (old new : List ℕ) : Type 0 where
-  pub more : List ℕ
-  pub is : new ≡ old ++ more
-
--- a text had not the room for all of these bytes, and holds a prefix of them after what it held
-pub record RunsShort (old new : Vec ℕ) (bytes : List ℕ) : Type 0 where
-  pub part : List ℕ
-  pub rest : List ℕ
-  pub parts : bytes ≡ part ++ rest
-  pub text : new.items ≡ old.items ++ part
-  pub room : vec_capacity old < length old.items + length bytes

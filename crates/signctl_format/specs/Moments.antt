@@ -1,5 +1,7 @@
 -- Moments and durations: whole seconds, which have a fraction in version 2 where they need one.
-use Rattle.std.specs.Prelude.{◌≡◌, ℕ, suc, zero, ◌+◌, ◌-◌, ◌*◌, ◌/◌, ◌%◌, ◌^◌, ◌<◌, ◌≤◌, min, Bool, not, ◌&&◌, ◌==◌, ℤ, pos, negsuc, int_div, List, [], ◌∷◌, ◌++◌, take, drop, Option, Some, None, if◌then◌else◌, option_map}
+use Rattle.std.specs.Prelude.{◌≡◌, ℕ, suc, zero, ◌+◌, ◌-◌, ◌*◌, ◌/◌, ◌%◌, ◌^◌, ◌<◌, ◌≤◌, min, Bool, not, ◌&&◌}
+use Rattle.std.specs.Prelude.{◌==◌, ℤ, pos, negsuc, int_div, List, [], ◌∷◌, ◌++◌, take, drop, Option, Some}
+use Rattle.std.specs.Prelude.{None, if◌then◌else◌, option_map}
 use Rattle.std.specs.List.{position}
 use Rattle.std.specs.Str.{bytes_eq}
 use Rattle.std.specs.Fmt.{decimal, signed_decimal}

@@ -1,6 +1,7 @@
 -- How the cache and handle lines of a script, or of `grant`, set caches and handles
 -- up, whatever their events are.
-use Rattle.std.specs.Prelude.{ℕ, Bool, true, false, not, List, [], ◌∷◌, Option, Some, None, if◌then◌else◌, nat_lt, length, filter_map}
+use Rattle.std.specs.Prelude.{ℕ, Bool, true, false, not, List, [], ◌∷◌, Option, Some, None, if◌then◌else◌}
+use Rattle.std.specs.Prelude.{nat_lt, length, filter_map}
 use Rattle.sequential_signer.specs.Setup.{Setup, Handle}
 use Rattle.sequential_signer.specs.declared.event.Loader.{Loader}
 use Rattle.signctl_format.specs.declared.credential.ScriptRule.{ScriptRule}

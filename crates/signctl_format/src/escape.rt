@@ -1,10 +1,9 @@
 //! Bytes that can't stand for themselves, added to a text as `%` and two digits.
-#![tactic(auto, using(crate::proofs::Texts::grows_then, crate::proofs::Texts::grows_by, crate::proofs::Texts::grows_not))]
 
-ghost use Rattle.std.specs.Prelude.{◌≡◌, ◌++◌, ◌≤◌, length, IfOk, OnOk, OnErr, vec_capacity};
+ghost use Rattle.std.specs.Prelude.{◌≡◌};
 ghost use Rattle.signctl_format.specs.Classes.{has};
 ghost use Rattle.signctl_format.specs.Escapes.{stands, byte_or_escape, with_escapes};
-ghost use Rattle.signctl_format.specs.Lines.{Grows, RunsShort};
+ghost use Rattle.signctl_format.specs.Printing.{Prints};
 
 use crate::byte::{is_plain, upper_hex};
 use crate::run::{ByteClass, split_run};
@@ -26,42 +25,21 @@ pub fn push_escaped(
     escaping: Escaping,
     bytes: &[u8],
 ) -> Result<(), NoMemory<()>>
-    ensures ok { OnOk result (text.new.items ≡ text.old.items ++ with_escapes (stands escaping) bytes.now) }
-    ensures err { OnErr result (RunsShort text.old text.new (with_escapes (stands escaping) bytes.now)) }
-    ensures capacity { vec_capacity text.old ≤ vec_capacity text.new }
-    ensures grows { Grows text.old.items text.new.items }
+    ensures { Prints text.old text.new result (with_escapes (stands escaping) bytes.now) }
 {
-    let mut rest = push_run(text, escaping, bytes)?;
+    let (run, mut rest) = split_run(class(escaping), bytes);
+    push(text, run)?;
     while let [b, after @ ..] = rest {
         push_byte(text, escaping, *b)?;
-        rest = push_run(text, escaping, after)?;
+        let (run, behind) = split_run(class(escaping), after);
+        push(text, run)?;
+        rest = behind;
     }
     Ok(())
 }
 
-/// Adds the bytes in front that stand for themselves, and gives the others.
-fn push_run<'b>(
-    text: &mut Vec<u8>,
-    escaping: Escaping,
-    bytes: &'b [u8],
-) -> Result<&'b [u8], NoMemory<()>>
-    ensures ok { IfOk result (λ rest. text.new.items ++ with_escapes (stands escaping) rest.now
-        ≡ text.old.items ++ with_escapes (stands escaping) bytes.now) }
-    ensures shorter { IfOk result (λ rest. length rest.now ≤ length bytes.now) }
-    ensures err { OnErr result (RunsShort text.old text.new (with_escapes (stands escaping) bytes.now)) }
-    ensures capacity { vec_capacity text.old ≤ vec_capacity text.new }
-    ensures grows { Grows text.old.items text.new.items }
-{
-    let (run, rest) = split_run(class(escaping), bytes);
-    push(text, run)?;
-    Ok(rest)
-}
-
 fn push_byte(text: &mut Vec<u8>, escaping: Escaping, b: u8) -> Result<(), NoMemory<()>>
-    ensures ok { OnOk result (text.new.items ≡ text.old.items ++ byte_or_escape (stands escaping) b) }
-    ensures err { OnErr result (RunsShort text.old text.new (byte_or_escape (stands escaping) b)) }
-    ensures capacity { vec_capacity text.old ≤ vec_capacity text.new }
-    ensures grows { Grows text.old.items text.new.items }
+    ensures { Prints text.old text.new result (byte_or_escape (stands escaping) b) }
 {
     if stands(escaping, b) {
         push(text, &[b])

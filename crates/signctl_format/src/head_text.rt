@@ -1,11 +1,10 @@
 //! The words of a request head, added at the end of a text.
-#![tactic(auto, using(crate::proofs::Texts::grows_then, crate::proofs::Texts::grows_by, crate::proofs::Texts::grows_not))]
 
-ghost use Rattle.std.specs.Prelude.{◌≡◌, ◌++◌, ◌∷◌, ◌≤◌, OnOk, OnErr, map, vec_capacity};
+ghost use Rattle.std.specs.Prelude.{◌∷◌, map};
 ghost use Rattle.signctl_format.specs.Bytes.{space};
 ghost use Rattle.signctl_format.specs.Words.{spaced_words};
 ghost use Rattle.signctl_format.specs.Heads.{field_word, head_words, version_word};
-ghost use Rattle.signctl_format.specs.Lines.{Grows, RunsShort};
+ghost use Rattle.signctl_format.specs.Printing.{Prints};
 
 use crate::escape::{Escaping, push_escaped};
 use crate::text::{push, push_word};
@@ -13,10 +12,7 @@ use sign_base::{Field, Head, NoMemory, Version};
 
 /// Adds the words of a head, each after a space.
 pub fn push_head(text: &mut Vec<u8>, head: &Head) -> Result<(), NoMemory<()>>
-    ensures ok { OnOk result (text.new.items ≡ text.old.items ++ spaced_words (head_words head.now)) }
-    ensures err { OnErr result (RunsShort text.old text.new (spaced_words (head_words head.now))) }
-    ensures capacity { vec_capacity text.old ≤ vec_capacity text.new }
-    ensures grows { Grows text.old.items text.new.items }
+    ensures { Prints text.old text.new result (spaced_words (head_words head.now)) }
 {
     push_word(text, head.method.as_slice())?;
     push_word(text, head.uri.as_slice())?;
@@ -25,10 +21,7 @@ pub fn push_head(text: &mut Vec<u8>, head: &Head) -> Result<(), NoMemory<()>>
 }
 
 fn push_fields(text: &mut Vec<u8>, fields: &[Field]) -> Result<(), NoMemory<()>>
-    ensures ok { OnOk result (text.new.items ≡ text.old.items ++ spaced_words (map field_word fields.now)) }
-    ensures err { OnErr result (RunsShort text.old text.new (spaced_words (map field_word fields.now))) }
-    ensures capacity { vec_capacity text.old ≤ vec_capacity text.new }
-    ensures grows { Grows text.old.items text.new.items }
+    ensures { Prints text.old text.new result (spaced_words (map field_word fields.now)) }
 {
     for field in fields {
         push_field(text, field)?;
@@ -37,10 +30,7 @@ fn push_fields(text: &mut Vec<u8>, fields: &[Field]) -> Result<(), NoMemory<()>>
 }
 
 fn push_version(text: &mut Vec<u8>, version: Version) -> Result<(), NoMemory<()>>
-    ensures ok { OnOk result (text.new.items ≡ text.old.items ++ space ∷ version_word version) }
-    ensures err { OnErr result (RunsShort text.old text.new (space ∷ version_word version)) }
-    ensures capacity { vec_capacity text.old ≤ vec_capacity text.new }
-    ensures grows { Grows text.old.items text.new.items }
+    ensures { Prints text.old text.new result (space ∷ version_word version) }
 {
     match version {
         Version::V09 => push_word(text, b"0.9"),
@@ -52,10 +42,7 @@ fn push_version(text: &mut Vec<u8>, version: Version) -> Result<(), NoMemory<()>
 }
 
 fn push_field(text: &mut Vec<u8>, field: &Field) -> Result<(), NoMemory<()>>
-    ensures ok { OnOk result (text.new.items ≡ text.old.items ++ space ∷ field_word field.now) }
-    ensures err { OnErr result (RunsShort text.old text.new (space ∷ field_word field.now)) }
-    ensures capacity { vec_capacity text.old ≤ vec_capacity text.new }
-    ensures grows { Grows text.old.items text.new.items }
+    ensures { Prints text.old text.new result (space ∷ field_word field.now) }
 {
     push_word(text, field.name.as_slice())?;
     push(text, b":")?;

@@ -1,9 +1,11 @@
 //! Moments and durations, read from words of seconds.
-ghost use Rattle.std.specs.Prelude.{◌≡◌, ◌+◌, ◌-◌, ◌*◌, ◌^◌, ◌<◌, ◌≤◌, length, pos, IsTrue, IfOk, IfSome, option_map};
+ghost use Rattle.std.specs.Prelude.{◌≡◌, ◌+◌, ◌-◌, ◌*◌, ◌^◌, ◌<◌, ◌≤◌, length, pos, IsTrue, IfOk, IfSome};
+ghost use Rattle.std.specs.Prelude.{option_map};
 ghost use Rattle.std.specs.List.{position};
 ghost use Rattle.std.specs.Duration.{as_nanos};
 ghost use Rattle.signctl_format.specs.Bytes.{zero_digit, is_digit};
-ghost use Rattle.signctl_format.specs.Moments.{moment_of, duration_of, time_of, point_in, is_point, fraction_of, plain_duration, last_second, nanos_of_second};
+ghost use Rattle.signctl_format.specs.Moments.{moment_of, duration_of, time_of, point_in, is_point};
+ghost use Rattle.signctl_format.specs.Moments.{fraction_of, plain_duration, last_second, nanos_of_second};
 ghost use Rattle.signctl_format.specs.Readers.{Reads};
 
 use crate::ScriptVersion;

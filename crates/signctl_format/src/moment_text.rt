@@ -1,10 +1,10 @@
 //! The words of moments, added at the end of a text.
-#![tactic(auto, using(crate::proofs::Texts::grows_then, crate::proofs::Texts::grows_by, crate::proofs::Texts::grows_not))]
 
-ghost use Rattle.std.specs.Prelude.{◌≡◌, ◌++◌, ◌∷◌, ◌^◌, ◌<◌, ◌≤◌, OnOk, OnErr, vec_capacity};
+ghost use Rattle.std.specs.Prelude.{◌∷◌, ◌^◌, ◌<◌, ◌≤◌};
 ghost use Rattle.signctl_format.specs.Bytes.{space};
-ghost use Rattle.signctl_format.specs.Moments.{moment_word, time_word, plain_duration, fraction_digits, fraction_word, nanos_of_second};
-ghost use Rattle.signctl_format.specs.Lines.{Grows, RunsShort};
+ghost use Rattle.signctl_format.specs.Moments.{moment_word, time_word, plain_duration, fraction_digits};
+ghost use Rattle.signctl_format.specs.Moments.{fraction_word, nanos_of_second};
+ghost use Rattle.signctl_format.specs.Printing.{Prints};
 
 use crate::ScriptVersion;
 use crate::text::{push, push_word};
@@ -21,10 +21,7 @@ pub fn push_moment(
     version: ScriptVersion,
     moment: Timestamp,
 ) -> Result<(), NoMemory<()>>
-    ensures ok { OnOk result (text.new.items ≡ text.old.items ++ space ∷ moment_word version moment) }
-    ensures err { OnErr result (RunsShort text.old text.new (space ∷ moment_word version moment)) }
-    ensures capacity { vec_capacity text.old ≤ vec_capacity text.new }
-    ensures grows { Grows text.old.items text.new.items }
+    ensures { Prints text.old text.new result (space ∷ moment_word version moment) }
 {
     match version {
         ScriptVersion::One => push_word(text, Buffer::new().format(moment.as_second()).as_bytes()),
@@ -33,11 +30,7 @@ pub fn push_moment(
 }
 
 fn push_exact_moment(text: &mut Vec<u8>, moment: Timestamp) -> Result<(), NoMemory<()>>
-    ensures ok { OnOk result
-        (text.new.items ≡ text.old.items ++ space ∷ moment_word ScriptVersion.Two moment) }
-    ensures err { OnErr result (RunsShort text.old text.new (space ∷ moment_word ScriptVersion.Two moment)) }
-    ensures capacity { vec_capacity text.old ≤ vec_capacity text.new }
-    ensures grows { Grows text.old.items text.new.items }
+    ensures { Prints text.old text.new result (space ∷ moment_word ScriptVersion.Two moment) }
 {
     let nanos = moment.as_nanos();
     push(text, b" ")?;
@@ -57,10 +50,7 @@ pub fn push_time(
     version: ScriptVersion,
     time: Duration,
 ) -> Result<(), NoMemory<()>>
-    ensures ok { OnOk result (text.new.items ≡ text.old.items ++ time_word version (plain_duration time)) }
-    ensures err { OnErr result (RunsShort text.old text.new (time_word version (plain_duration time))) }
-    ensures capacity { vec_capacity text.old ≤ vec_capacity text.new }
-    ensures grows { Grows text.old.items text.new.items }
+    ensures { Prints text.old text.new result (time_word version (plain_duration time)) }
 {
     push(text, Buffer::new().format(time.as_secs()).as_bytes())?;
     match version {
@@ -72,10 +62,7 @@ pub fn push_time(
 /// Adds a point and the fraction of a second, or nothing.
 fn push_fraction(text: &mut Vec<u8>, nanos: u32) -> Result<(), NoMemory<()>>
     requires { nanos < nanos_of_second }
-    ensures ok { OnOk result (text.new.items ≡ text.old.items ++ fraction_word nanos) }
-    ensures err { OnErr result (RunsShort text.old text.new (fraction_word nanos)) }
-    ensures capacity { vec_capacity text.old ≤ vec_capacity text.new }
-    ensures grows { Grows text.old.items text.new.items }
+    ensures { Prints text.old text.new result (fraction_word nanos) }
 {
     if nanos == 0 {
         return Ok(());
@@ -88,10 +75,7 @@ fn push_fraction(text: &mut Vec<u8>, nanos: u32) -> Result<(), NoMemory<()>>
 fn push_digits(text: &mut Vec<u8>, places: u32, n: u32) -> Result<(), NoMemory<()>>
     requires few { places ≤ 9 }
     requires below { n < 10 ^ places }
-    ensures ok { OnOk result (text.new.items ≡ text.old.items ++ fraction_digits places n) }
-    ensures err { OnErr result (RunsShort text.old text.new (fraction_digits places n)) }
-    ensures capacity { vec_capacity text.old ≤ vec_capacity text.new }
-    ensures grows { Grows text.old.items text.new.items }
+    ensures { Prints text.old text.new result (fraction_digits places n) }
 {
     let mut places = places;
     let mut rest = n;

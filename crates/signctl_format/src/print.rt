@@ -2,11 +2,11 @@
 //!
 //! Out of memory comes only where the text has not the room for the line. Then what stood in the text
 //! still stands in it, and a prefix of the line may stand after it.
-#![tactic(auto, using(crate::proofs::Texts::grows_then, crate::proofs::Texts::grows_by, crate::proofs::Texts::grows_not))]
 
-ghost use Rattle.std.specs.Prelude.{◌≡◌, ◌++◌, ◌≤◌, OnOk, OnErr, vec_capacity};
 ghost use Rattle.signctl_format.specs.Words.{spaced_words};
-ghost use Rattle.signctl_format.specs.Lines.{Grows, RunsShort, call_words, credential_words, wake_words, why_words, reply_line, cache_line, handle_line, final_line};
+ghost use Rattle.signctl_format.specs.Printing.{Prints};
+ghost use Rattle.signctl_format.specs.Lines.{call_words, credential_words, wake_words, why_words, reply_line};
+ghost use Rattle.signctl_format.specs.Lines.{cache_line, handle_line, final_line};
 
 use crate::head_text::push_head;
 use crate::moment_text::push_moment;
@@ -17,10 +17,7 @@ use sign_base::{CallId, NoMemory};
 
 /// Adds the line of a reply.
 pub fn push_reply(text: &mut Vec<u8>, reply: &Reply<ScriptCredential>) -> Result<(), NoMemory<()>>
-    ensures ok { OnOk result (text.new.items ≡ text.old.items ++ reply_line reply.now) }
-    ensures err { OnErr result (RunsShort text.old text.new (reply_line reply.now)) }
-    ensures capacity { vec_capacity text.old ≤ vec_capacity text.new }
-    ensures grows { Grows text.old.items text.new.items }
+    ensures { Prints text.old text.new result (reply_line reply.now) }
 {
     match reply {
         Reply::Begun => push(text, b"begun"),
@@ -54,10 +51,7 @@ pub fn push_reply(text: &mut Vec<u8>, reply: &Reply<ScriptCredential>) -> Result
 
 /// Adds the line of a new cache, by its number.
 pub fn push_cache(text: &mut Vec<u8>, number: u64) -> Result<(), NoMemory<()>>
-    ensures ok { OnOk result (text.new.items ≡ text.old.items ++ cache_line number) }
-    ensures err { OnErr result (RunsShort text.old text.new (cache_line number)) }
-    ensures capacity { vec_capacity text.old ≤ vec_capacity text.new }
-    ensures grows { Grows text.old.items text.new.items }
+    ensures { Prints text.old text.new result (cache_line number) }
 {
     push(text, b"cache")?;
     push_number(text, number)
@@ -65,10 +59,7 @@ pub fn push_cache(text: &mut Vec<u8>, number: u64) -> Result<(), NoMemory<()>>
 
 /// Adds the line of a new handle, by its number.
 pub fn push_handle(text: &mut Vec<u8>, number: u64) -> Result<(), NoMemory<()>>
-    ensures ok { OnOk result (text.new.items ≡ text.old.items ++ handle_line number) }
-    ensures err { OnErr result (RunsShort text.old text.new (handle_line number)) }
-    ensures capacity { vec_capacity text.old ≤ vec_capacity text.new }
-    ensures grows { Grows text.old.items text.new.items }
+    ensures { Prints text.old text.new result (handle_line number) }
 {
     push(text, b"handle")?;
     push_number(text, number)
@@ -81,10 +72,7 @@ pub fn push_final(
     cache: u64,
     cached: Option<ScriptCredential>,
 ) -> Result<(), NoMemory<()>>
-    ensures ok { OnOk result (text.new.items ≡ text.old.items ++ final_line version cache cached) }
-    ensures err { OnErr result (RunsShort text.old text.new (final_line version cache cached)) }
-    ensures capacity { vec_capacity text.old ≤ vec_capacity text.new }
-    ensures grows { Grows text.old.items text.new.items }
+    ensures { Prints text.old text.new result (final_line version cache cached) }
 {
     push(text, b"final")?;
     push_number(text, cache)?;
@@ -95,20 +83,14 @@ pub fn push_final(
 }
 
 pub(crate) fn push_call(text: &mut Vec<u8>, call: CallId) -> Result<(), NoMemory<()>>
-    ensures ok { OnOk result (text.new.items ≡ text.old.items ++ spaced_words (call_words call)) }
-    ensures err { OnErr result (RunsShort text.old text.new (spaced_words (call_words call))) }
-    ensures capacity { vec_capacity text.old ≤ vec_capacity text.new }
-    ensures grows { Grows text.old.items text.new.items }
+    ensures { Prints text.old text.new result (spaced_words (call_words call)) }
 {
     push_number(text, u64::from(call.handle))?;
     push_number(text, call.number)
 }
 
 fn push_wake(text: &mut Vec<u8>, wake: Option<CallId>) -> Result<(), NoMemory<()>>
-    ensures ok { OnOk result (text.new.items ≡ text.old.items ++ spaced_words (wake_words wake)) }
-    ensures err { OnErr result (RunsShort text.old text.new (spaced_words (wake_words wake))) }
-    ensures capacity { vec_capacity text.old ≤ vec_capacity text.new }
-    ensures grows { Grows text.old.items text.new.items }
+    ensures { Prints text.old text.new result (spaced_words (wake_words wake)) }
 {
     match wake {
         None => Ok(()),
@@ -120,10 +102,7 @@ fn push_wake(text: &mut Vec<u8>, wake: Option<CallId>) -> Result<(), NoMemory<()
 }
 
 fn push_why(text: &mut Vec<u8>, why: &Why) -> Result<(), NoMemory<()>>
-    ensures ok { OnOk result (text.new.items ≡ text.old.items ++ spaced_words (why_words why.now)) }
-    ensures err { OnErr result (RunsShort text.old text.new (spaced_words (why_words why.now))) }
-    ensures capacity { vec_capacity text.old ≤ vec_capacity text.new }
-    ensures grows { Grows text.old.items text.new.items }
+    ensures { Prints text.old text.new result (spaced_words (why_words why.now)) }
 {
     match why {
         Why::Missing => push_word(text, b"missing"),
@@ -145,10 +124,7 @@ pub(crate) fn push_credential(
     version: ScriptVersion,
     c: ScriptCredential,
 ) -> Result<(), NoMemory<()>>
-    ensures ok { OnOk result (text.new.items ≡ text.old.items ++ spaced_words (credential_words version c)) }
-    ensures err { OnErr result (RunsShort text.old text.new (spaced_words (credential_words version c))) }
-    ensures capacity { vec_capacity text.old ≤ vec_capacity text.new }
-    ensures grows { Grows text.old.items text.new.items }
+    ensures { Prints text.old text.new result (spaced_words (credential_words version c)) }
 {
     push_number(text, c.generation)?;
     push_moment(text, version, c.fresh)?;

@@ -7,7 +7,10 @@ ghost use Rattle.std.specs.Prelude.{◌≡◌, IsTrue, false};
 ghost use Rattle.signctl_format.specs.declared.item.Item.TheVariants as item;
 ghost use Rattle.signctl_format.specs.Steps.{first_word};
 ghost use Rattle.signctl_format.specs.ScriptEvents.{plain_event};
-ghost use Rattle.signctl_format.specs.Reading.{rule_in, call_at, credential_in, chain_form, cache_form, handle_form, begin_form, poll_form, found_form, missing_form, failed_form, accept_form, reject_form, cancel_form, item_form, item_of};
+ghost use Rattle.signctl_format.specs.Reading.{rule_in, call_at, credential_in, chain_form, cache_form};
+ghost use Rattle.signctl_format.specs.Reading.{handle_form, begin_form, poll_form, found_form, missing_form};
+ghost use Rattle.signctl_format.specs.Reading.{failed_form, accept_form, reject_form, cancel_form, item_form};
+ghost use Rattle.signctl_format.specs.Reading.{item_of};
 ghost use Rattle.signctl_format.specs.Readers.{words_after, Reads, Gives, NeedsMemory};
 ghost use Rattle.signctl_format.specs.Carrying.{names_head, CarriesHead};
 

@@ -1,11 +1,13 @@
 //! The words of a line, from left to right.
 //!
 //! What stands after a word is empty, or begins with the space before the next word.
-ghost use Rattle.std.specs.Prelude.{◌≡◌, ◌≤◌, ◌<◌, [], ◌∷◌, length, ℕ, ◌^◌, ◌+◌, ◌*◌, ◌≢◌, IfOk, None, MatchOption, MatchResult, IfSome, decimal};
+ghost use Rattle.std.specs.Prelude.{◌≡◌, ◌≤◌, ◌<◌, [], ◌∷◌, length, ℕ, ◌^◌, ◌+◌, ◌*◌, ◌≢◌, IfOk, None};
+ghost use Rattle.std.specs.Prelude.{MatchOption, MatchResult, IfSome, decimal};
 ghost use Rattle.std.specs.List.{position_or_len};
 ghost use Rattle.std.specs.Char.{digit_value};
 ghost use Rattle.std.specs.Str.Parse.{AllDigits, digits_value};
-ghost use Rattle.signctl_format.specs.Words.{is_silent, is_space, words, begins_a_number, number_of, greatest_u32};
+ghost use Rattle.signctl_format.specs.Words.{is_silent, is_space, words, begins_a_number, number_of};
+ghost use Rattle.signctl_format.specs.Words.{greatest_u32};
 ghost use Rattle.signctl_format.specs.Steps.{first_word, at_end_of_line};
 ghost use Rattle.signctl_format.specs.Reading.{number_at};
 ghost use Rattle.signctl_format.specs.Readers.{words_after, Reads};

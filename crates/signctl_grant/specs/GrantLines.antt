@@ -2,9 +2,12 @@
 use Rattle.std.specs.Prelude.{ℕ, List, [], ◌∷◌, codes}
 use Rattle.std.specs.Fmt.{decimal}
 use Rattle.sequential_signer.specs.declared.grant_event.GrantReply.{GrantReply}
-use Rattle.sequential_signer.specs.declared.grant_event.GrantReply.TheVariants.{Begun, Pending, NotNow, OutOfMemory, Ask, Grant, Refused, Given, Cancelled}
+use Rattle.sequential_signer.specs.declared.grant_event.GrantReply.TheVariants.{Begun, Pending, NotNow}
+use Rattle.sequential_signer.specs.declared.grant_event.GrantReply.TheVariants.{OutOfMemory, Ask, Grant}
+use Rattle.sequential_signer.specs.declared.grant_event.GrantReply.TheVariants.{Refused, Given, Cancelled}
 use Rattle.sequential_signer.specs.declared.grant_event.GrantWhy.{GrantWhy}
-use Rattle.sequential_signer.specs.declared.grant_event.GrantWhy.TheVariants.{Missing, Short, Range, Loader, Service, Stale}
+use Rattle.sequential_signer.specs.declared.grant_event.GrantWhy.TheVariants.{Missing, Short, Range, Loader}
+use Rattle.sequential_signer.specs.declared.grant_event.GrantWhy.TheVariants.{Service, Stale}
 use Rattle.signctl_format.specs.declared.credential.ScriptCredential.{ScriptCredential}
 use Rattle.signctl_format.specs.Words.{line_of}
 

@@ -1,14 +1,13 @@
 //! `signctl grant`, line by line: the desk that the cache and handle lines set up, and what is kept
 //! of the lines so far.
-ghost use Rattle.std.specs.Prelude.{◌≡◌, ◌++◌, ◌∷◌, ◌<◌, [], List, length, not, OnOk, IfOk};
-ghost use Rattle.sign_base.specs.Bytes.{newline};
+ghost use Rattle.std.specs.Prelude.{◌≡◌, ◌++◌, ◌<◌, [], List, length, OnOk, IfOk};
 ghost use Rattle.sequential_signer.specs.GrantTranscript.{as_reply};
 ghost use Rattle.sequential_signer.specs.Transcript.{is_out_of_memory};
 ghost use Rattle.desk_parts.specs.Adding.{with_rule};
 ghost use Rattle.grant_desk.specs.GrantDeskState.{GrantRepresents};
 ghost use Rattle.signctl_format.specs.declared.item.Item.TheVariants as item;
 ghost use Rattle.signctl_format.specs.Policy.{script_policy};
-ghost use Rattle.signctl_format.specs.ScriptSetup.{is_empty, events_in, setup_error, item_error};
+ghost use Rattle.signctl_format.specs.ScriptSetup.{item_error};
 ghost use Rattle.signctl_grant.specs.GrantEvents.{GrantItem};
 ghost use Rattle.signctl_grant.specs.GrantOutput.{final_lines};
 ghost use Rattle.signctl_grant.specs.GrantAnswering.{CanAnswer, AnswersItem};
@@ -17,7 +16,7 @@ use crate::{GrantScriptEvent, push_grant_reply, read_grant_line};
 use grant_desk::{AddError, GrantDesk};
 use sequential_signer::{GrantReply, Loader};
 use sign_base::NoMemory;
-use signctl_driver::LineCommand;
+use signctl_driver::{LineCommand, end_line};
 use signctl_format::{
     Item, LineError, ScriptCredential, ScriptRule, ScriptVersion, push_cache, push_final,
     push_handle, setup_error,
@@ -63,17 +62,9 @@ impl GrantSession {
     {
         match item {
             Item::Silent | Item::Event(_) => None,
-            Item::Cache(_) => self.setup_error(true),
-            Item::Handle { cache, .. } => self.setup_error(*cache < self.desk.caches()),
+            Item::Cache(_) => setup_error(self.had_event, true),
+            Item::Handle { cache, .. } => setup_error(self.had_event, *cache < self.desk.caches()),
         }
-    }
-
-    /// Why a line that sets the granter up is bad, where it is.
-    fn setup_error(&self, there: bool) -> Option<LineError>
-        ensures { (items : List GrantItem) → GrantSessionRepresents self.now items
-            → result ≡ setup_error (not (is_empty (events_in items))) there }
-    {
-        setup_error(self.had_event, there)
     }
 
     /// Adds a cache, and its line to the text.
@@ -235,11 +226,4 @@ fn is_out_of_memory(reply: &GrantReply<ScriptCredential>) -> bool
     ensures { result ≡ is_out_of_memory (as_reply reply.now) }
 {
     matches!(reply, GrantReply::OutOfMemory)
-}
-
-/// Ends a line of the text.
-fn end_line(text: &mut Vec<u8>) -> Result<(), NoMemory<()>>
-    ensures { OnOk result (text.new.items ≡ text.old.items ++ newline ∷ []) }
-{
-    Ok(text.push(b'\n')?)
 }

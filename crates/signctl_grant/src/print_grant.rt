@@ -2,11 +2,9 @@
 //!
 //! Out of memory comes only where the text has not the room for the line. Then what stood in the text
 //! still stands in it, and a prefix of the line may stand after it.
-#![tactic(auto, using(signctl_format::proofs::Texts::grows_then, signctl_format::proofs::Texts::grows_by, signctl_format::proofs::Texts::grows_not))]
 
-ghost use Rattle.std.specs.Prelude.{◌≡◌, ◌++◌, ◌≤◌, OnOk, OnErr, vec_capacity};
 ghost use Rattle.signctl_format.specs.Words.{spaced_words};
-ghost use Rattle.signctl_format.specs.Lines.{Grows, RunsShort};
+ghost use Rattle.signctl_format.specs.Printing.{Prints};
 ghost use Rattle.signctl_grant.specs.GrantLines.{grant_why_words, grant_reply_line};
 
 use sequential_signer::{GrantReply, GrantWhy};
@@ -19,10 +17,7 @@ pub fn push_grant_reply(
     text: &mut Vec<u8>,
     reply: &GrantReply<ScriptCredential>,
 ) -> Result<(), NoMemory<()>>
-    ensures ok { OnOk result (text.new.items ≡ text.old.items ++ grant_reply_line reply.now) }
-    ensures err { OnErr result (RunsShort text.old text.new (grant_reply_line reply.now)) }
-    ensures capacity { vec_capacity text.old ≤ vec_capacity text.new }
-    ensures grows { Grows text.old.items text.new.items }
+    ensures { Prints text.old text.new result (grant_reply_line reply.now) }
 {
     match reply {
         GrantReply::Begun => push(text, b"begun"),
@@ -50,10 +45,7 @@ pub fn push_grant_reply(
 }
 
 fn push_why(text: &mut Vec<u8>, why: &GrantWhy) -> Result<(), NoMemory<()>>
-    ensures ok { OnOk result (text.new.items ≡ text.old.items ++ spaced_words (grant_why_words why.now)) }
-    ensures err { OnErr result (RunsShort text.old text.new (spaced_words (grant_why_words why.now))) }
-    ensures capacity { vec_capacity text.old ≤ vec_capacity text.new }
-    ensures grows { Grows text.old.items text.new.items }
+    ensures { Prints text.old text.new result (spaced_words (grant_why_words why.now)) }
 {
     match why {
         GrantWhy::Missing => push_word(text, b"missing"),

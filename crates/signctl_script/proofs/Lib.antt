@@ -1,9 +1,5 @@
 mod ItemsIn
 mod PlainEvents
-mod PlayedEvents
 mod LineGood
 mod NextLine
 mod Closing
-mod LoadSteps
-mod LoadLengths
-mod LoadCounts

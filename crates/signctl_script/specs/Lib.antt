@@ -2,6 +2,4 @@ pub mod Script
 pub mod ScriptOutput
 pub mod SessionState
 pub mod Answering
-pub mod LoadRound
-pub mod Load
-pub mod LoadState
+pub use Rattle.signctl_format.specs.ScriptSetup

@@ -1,5 +1,6 @@
 -- How the lines of a script are read.
-use Rattle.std.specs.Prelude.{ℕ, ◌&&◌, List, [], ◌∷◌, Option, Some, None, Result, Ok, Err, if◌then◌else◌, filter_map, unwrap_or}
+use Rattle.std.specs.Prelude.{ℕ, ◌&&◌, List, [], ◌∷◌, Option, Some, None, Result, Ok, Err, if◌then◌else◌}
+use Rattle.std.specs.Prelude.{filter_map, unwrap_or}
 use Rattle.signctl_format.specs.declared.line_error.LineError.{LineError}
 use Rattle.signctl_format.specs.declared.line_error.LineError.TheVariants.{NotUnderstood}
 use Rattle.signctl_format.specs.declared.script_version.ScriptVersion.{ScriptVersion}

@@ -11,7 +11,8 @@ use Rattle.signctl_format.specs.declared.credential.ScriptCredential.{ScriptCred
 use Rattle.signctl_format.specs.declared.item.Item.TheVariants as item
 use Rattle.signctl_format.specs.declared.line_error.LineError.{LineError}
 use Rattle.signctl_format.specs.Policy.{script_policy}
-use Rattle.signctl_format.specs.Lines.{with_newline, reply_line, cache_line, handle_line, final_line, line_error_text}
+use Rattle.signctl_format.specs.Lines.{with_newline, reply_line, cache_line, handle_line, final_line}
+use Rattle.signctl_format.specs.Lines.{line_error_text}
 use Rattle.signctl_format.specs.ScriptEvents.{ScriptItem}
 use Rattle.signctl_format.specs.ScriptSetup.{setup_in, events_in}
 use Rattle.signctl_script.specs.Script.{items_in, version_in, script_reading}

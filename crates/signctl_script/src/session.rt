@@ -1,14 +1,13 @@
 //! `signctl script`, line by line: the desk that the cache and handle lines set up, and what is kept
 //! of the lines so far.
-ghost use Rattle.std.specs.Prelude.{◌≡◌, ◌++◌, ◌∷◌, ◌<◌, [], List, length, not, OnOk, IfOk, unwrap_or};
+ghost use Rattle.std.specs.Prelude.{◌≡◌, ◌++◌, ◌<◌, [], List, length, OnOk, IfOk, unwrap_or};
 ghost use Rattle.sign_desk.specs.DeskState.{Represents};
 ghost use Rattle.desk_parts.specs.Adding.{with_rule};
-ghost use Rattle.sign_base.specs.Bytes.{newline};
 ghost use Rattle.signctl_format.specs.Policy.{script_policy};
 ghost use Rattle.signctl_format.specs.declared.item.Item.TheVariants as item;
 ghost use Rattle.signctl_format.specs.declared.script_version.ScriptVersion.TheVariants.{One};
 ghost use Rattle.signctl_format.specs.ScriptEvents.{ScriptItem};
-ghost use Rattle.signctl_format.specs.ScriptSetup.{is_empty, events_in, setup_error, item_error};
+ghost use Rattle.signctl_format.specs.ScriptSetup.{item_error};
 ghost use Rattle.signctl_script.specs.ScriptOutput.{final_lines};
 ghost use Rattle.signctl_script.specs.SessionState.{RepresentsItems};
 ghost use Rattle.signctl_script.specs.Answering.{CanAnswer, AnswersItem};
@@ -18,7 +17,7 @@ use crate::script_line::ScriptLine;
 use sequential_signer::Loader;
 use sign_base::NoMemory;
 use sign_desk::{AddError, Desk};
-use signctl_driver::LineCommand;
+use signctl_driver::{LineCommand, end_line};
 use signctl_format::{
     Item, LineError, ReadError, ScriptCredential, ScriptEvent, ScriptRule, ScriptVersion,
     is_version_line, push_cache, push_final, push_handle, push_reply, read_line, setup_error,
@@ -73,17 +72,9 @@ impl Session {
     {
         match item {
             Item::Silent | Item::Event(_) => None,
-            Item::Cache(_) => self.setup_error(true),
-            Item::Handle { cache, .. } => self.setup_error(*cache < self.desk.caches()),
+            Item::Cache(_) => setup_error(self.had_event, true),
+            Item::Handle { cache, .. } => setup_error(self.had_event, *cache < self.desk.caches()),
         }
-    }
-
-    /// Why a line that sets the signer up is bad, where it is.
-    fn setup_error(&self, there: bool) -> Option<LineError>
-        ensures { (items : List ScriptItem) → RepresentsItems self.now items
-            → result ≡ setup_error (not (is_empty (events_in items))) there }
-    {
-        setup_error(self.had_event, there)
     }
 
     /// Adds a cache, and its line to the text.
@@ -264,11 +255,4 @@ fn out_of_memory(refusal: AddError) -> NoMemory<()>
 {
     let _ = refusal;
     NoMemory { back: () }
-}
-
-/// Ends a line of the text.
-fn end_line(text: &mut Vec<u8>) -> Result<(), NoMemory<()>>
-    ensures { OnOk result (text.new.items ≡ text.old.items ++ newline ∷ []) }
-{
-    Ok(text.push(b'\n')?)
 }

@@ -79,5 +79,5 @@ module _ (gate : GateMeaning ScriptCredential) where
         → IsPassOf queue after.seat → Works gate 1 before after did
         → IsWorker queue gate after × (after.handle ≡ before.handle)
     works before after (work.Served ticket) h seat did = (served before after did.0 h seat did.3, did.3.handle)
-    works before after work.Empty h seat did = (same before after h seat did.1, did.1.handle)
+    works before after work.Empty h seat did = (same before after h seat did, did.handle)
     works before after work.OutOfMemory h seat did = (same before after h seat did, did.handle)

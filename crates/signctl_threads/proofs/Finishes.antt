@@ -1,9 +1,7 @@
 -- How a queue with all its seats is finished.
-use Rattle.std.proofs.Common.{◌≡◌, ℕ, List, [], ◌∷◌, ◌++◌, Option, length, map, refl, sym, subst, arith}
+use Rattle.std.proofs.Common.{◌≡◌, ℕ, List, [], ◌∷◌, ◌++◌, length, map, refl, sym, subst, arith}
 use Rattle.std.proofs.lemmas.List.{length-append, length-map}
 use Rattle.std.proofs.lemmas.List.Sorted.{length_permutation}
-use Rattle.crossbeam_queue.specs.declared.array_queue.Doing.{Doing}
-use Rattle.crossbeam_queue.specs.declared.array_queue.Slotted.{Slotted}
 use Rattle.desk_parts.specs.Tables.{setup_of}
 use Rattle.sign_desk.specs.DeskState.{DeskState}
 use Rattle.signctl_format.specs.Policy.{script_policy}
@@ -14,7 +12,6 @@ use Rattle.sign_pool.specs.Cleared.{answered_tickets, joined, lists_of, tickets_
 use Rattle.sign_pool.specs.Finish.{HandsOut, IsClearedPool, IsClosed}
 use Rattle.sign_pool.specs.declared.answer.Answer.{Answer}
 use Rattle.sign_pool.specs.declared.finished.Finished.{Finished}
-use Rattle.sign_pool.specs.declared.job.Hand.{Hand}
 use Rattle.sign_pool.specs.declared.job.PoolJob.{PoolJob}
 use Rattle.sign_pool.specs.declared.seats.Submitter.{Submitter}
 use Rattle.sign_pool.specs.declared.seats.Worker.{Worker}
@@ -22,15 +19,15 @@ use Rattle.pool_jobs.specs.Setup.{pool_setup}
 use Rattle.signctl_threads.specs.Served.{AreSubmitted, ServesQueue}
 use Rattle.signctl_threads.specs.Run.{IsClosedQueue}
 
-module _ {Q A : Type 0} (queue : Slotted (Option PoolJob) (Doing PoolJob Hand) Q A) (gate : GateMeaning ScriptCredential) (count jobs : ℕ)
+module _ (gate : GateMeaning ScriptCredential) (count jobs : ℕ)
     (submitters : List Submitter) (workers : List (Worker ScriptCredential)) where
   -- the signer is closed with the seats' passes
   pub closes : (plan : DeskState ScriptCredential ScriptRule)
       (finished : Finished ScriptCredential ScriptRule) → setup_of plan ≡ pool_setup count
       → ServesQueue gate count jobs (map (λ w. w.pass) workers) (lists_of (map (λ w. w.answers) workers))
       → AreSubmitted jobs (lists_of (map (λ s. s.jobs) submitters)) → IsClosed script_policy plan finished
-      → HandsOut queue submitters workers finished.settled.passes.items finished.answers.items
-      finished.left.items finished.submitted.items
+      → HandsOut submitters workers finished.settled.passes.items finished.answers.items
+      finished.submitted.items
       → IsClosedQueue gate count jobs finished
   closes plan finished setup serves submitted closed out = record {
     plan = plan;

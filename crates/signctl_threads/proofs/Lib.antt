@@ -9,3 +9,5 @@ pub mod Counts
 pub mod PoolRuns
 pub mod QueueRuns
 pub mod PoolLines
+pub mod PromptRuns
+pub mod Checks

@@ -10,7 +10,7 @@ use Rattle.sequential_signer.specs.declared.event.Reply.TheVariants as reply
 use Rattle.sign_desk.specs.ReplyKinds.{is_reply_to}
 use Rattle.signer_book.specs.declared.pass.Receipt.{Receipt}
 use Rattle.signer_shared.specs.Gates.{GateMeaning}
-use Rattle.signer_shared.specs.Serving.{next_after, IsLive, IsNext, IsGivenUp, IsStep, goes_on, gives_up, runs_out, IsCourse, ServesAll, StopsAtAJob, ran_out, replies}
+use Rattle.signer_shared.specs.Serving.{next_after, IsLive, IsNext, IsGivenUp, IsStep, goes_on, gives_up, runs_out, IsEventSequence, ServesAll, StopsAtAJob, ran_out, replies}
 use Rattle.signer_shared.specs.declared.job.Job.{Job}
 use Rattle.sign_pool.specs.Work.{last_reply, outcome_of}
 use Rattle.sign_pool.specs.declared.answer.Outcome.TheVariants as outcome
@@ -45,20 +45,20 @@ module _ {K : Type 0} (gate : GateMeaning K) (turns : ℕ) (job : Job) where
   -- one step of a course that ran out of memory, and what comes after it
   step-last : (at after : _) (x : Receipt K) (rest : List (Receipt K)) (end : _)
       → IsTrue (is_reply_to x.entry.event x.entry.reply) → IsStep gate turns job at x.entry after
-      → IsCourse gate turns job after rest end
-      → (IsCourse gate turns job (next_after x.entry.reply) rest end → RanOut (Some (last_after x.entry.reply rest)))
+      → IsEventSequence gate turns job after rest end
+      → (IsEventSequence gate turns job (next_after x.entry.reply) rest end → RanOut (Some (last_after x.entry.reply rest)))
       → RanOut (Some (last_after x.entry.reply rest))
   step-last at after x rest end kind (goes_on n a) course later =
-      later (subst (λ s. IsCourse gate turns job s rest end) a course)
+      later (subst (λ s. IsEventSequence gate turns job s rest end) a course)
   step-last at after x rest end kind (gives_up u e a) course later =
-      later (subst (λ s. IsCourse gate turns job s rest end) a course)
+      later (subst (λ s. IsEventSequence gate turns job s rest end) a course)
   step-last at after x rest end kind (runs_out l e a) course later =
-      let over = subst (λ s. IsCourse gate turns job s rest end) a course in
+      let over = subst (λ s. IsEventSequence gate turns job s rest end) a course in
       let ends : RanOut (Some x.entry.reply) = after_cancel x.entry.reply (subst (λ v. IsTrue (is_reply_to v x.entry.reply)) e kind) in
       subst (λ l. RanOut (Some (last_after x.entry.reply l))) (sym over.0) ends
 
   -- a course that ran out of memory, after this reply
-  after_reply : (r : Reply K) (own : List (Receipt K)) (end : _) → IsCourse gate turns job (next_after r) own end
+  after_reply : (r : Reply K) (own : List (Receipt K)) (end : _) → IsEventSequence gate turns job (next_after r) own end
       → ran_out end ≡ true → RanOut (Some (last_after r own))
   after_reply reply.Begun [] end c t = inl refl
   after_reply reply.Pending [] end c t = inl refl

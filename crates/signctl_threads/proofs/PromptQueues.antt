@@ -30,7 +30,7 @@ use Rattle.sign_pool.specs.declared.answer.Outcome.TheVariants as outcome
 use Rattle.sign_pool.specs.declared.job.PoolJob.{PoolJob}
 use Rattle.pool_jobs.specs.Laws.{SignsAll}
 use Rattle.pool_jobs.specs.Meaning.{pool_credential, pool_meaning}
-use Rattle.pool_jobs.specs.PromptGates.{AreWorkerJobs, AreWorkerLists, jobs_in}
+use Rattle.prompt_law.specs.PromptGates.{AreWorkerJobs, AreWorkerLists, jobs_in}
 use Rattle.pool_jobs.specs.Setup.{pool_setup}
 use Rattle.pool_jobs.proofs.PoolLaw.{prompt_calls_are_signed}
 use Rattle.pool_jobs.proofs.PoolLists.{prompt, worker_job}

@@ -10,4 +10,9 @@ pub mod Written
 pub mod Queue
 pub mod Pool
 pub mod LineLaws
+pub mod PromptLine
 pub mod CommandLine
+pub use Rattle.pool_jobs.specs.Meaning
+pub use Rattle.signctl_driver.specs.Reasons
+pub use Rattle.signctl_driver.specs.Status
+pub use Rattle.signctl_driver.specs.Streams

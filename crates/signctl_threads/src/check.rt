@@ -1,6 +1,7 @@
 //! Whether an allocation failed, in a thread or in a job.
-ghost use Rattle.std.specs.Prelude.{◌≡◌, true, false, All};
-ghost use Rattle.signctl_threads.specs.Slots.{DidNotStop, NoAnswerRanOut};
+ghost use Rattle.std.specs.Prelude.{◌≡◌, false, All};
+ghost use Rattle.std.specs.List.{list_any};
+ghost use Rattle.signctl_threads.specs.Slots.{NoAnswerRanOut};
 ghost use Rattle.signctl_threads.specs.Served.{DidNotRunOut};
 
 use crate::slots::Slot;
@@ -8,14 +9,9 @@ use sign_pool::{Answer, Outcome};
 
 /// Whether some thread stopped.
 pub(crate) fn any_stopped(slots: &[Slot]) -> bool
-    ensures { result ≡ false → All DidNotStop slots.now }
+    ensures { result ≡ list_any (λ slot. slot.out_of_memory) slots.now }
 {
-    for slot in slots {
-        if slot.out_of_memory {
-            return true;
-        }
-    }
-    false
+    slots.iter().any(|slot| slot.out_of_memory)
 }
 
 /// Whether some job met an allocation that failed.

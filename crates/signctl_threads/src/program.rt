@@ -1,18 +1,21 @@
 //! The whole program on the commands that threads serve, as a function over its words and streams.
-ghost use Rattle.std.specs.Prelude.{◌≡◌, map, string_bytes, option_map};
-ghost use Rattle.signctl_core.specs.Program.{reason_line, WritesOnce};
+ghost use Rattle.std.specs.Prelude.{◌≡◌, map, string_bytes, option_map, IfSome};
+ghost use Rattle.signctl_driver.specs.Reasons.{reason_line};
 ghost use Rattle.signctl_driver.specs.Status.{exit_status};
+ghost use Rattle.signctl_driver.specs.Streams.{WritesOnce};
 ghost use Rattle.pool_jobs.specs.Meaning.{pool_meaning};
 ghost use Rattle.signctl_threads.specs.declared.end.PoolEnd.{PoolEnd};
 ghost use Rattle.signctl_threads.specs.Ends.{status_of};
 ghost use Rattle.signctl_threads.specs.Pool.{IsThreadsRun};
+ghost use Rattle.signctl_threads.specs.PromptLine.{WritesPromptLine};
+ghost use Rattle.signctl_threads.specs.Words.{IsPoolSize};
 ghost use Rattle.signctl_threads.specs.CommandLine.{is_for_threads, asked_of};
 
 use crate::{PoolEnd, names_pool, run_pool};
 use pool_jobs::PoolGate;
 use sign_io::Sink;
-use signctl_core::Status;
-use signctl_core::program::{after_name, report};
+use signctl_driver::Status;
+use signctl_driver::reason::{after_name, report};
 use std::alloc::Global;
 use std::sync::Wait;
 use std::thread::Threads;
@@ -42,6 +45,8 @@ pub fn run_threads<D: Sink, E: Sink, R: Threads + Wait + Sync>(
     ensures { (ended : PoolEnd) × (result ≡ exit_status (status_of ended))
         × IsThreadsRun pool_meaning (asked_of (option_map (λ all. map string_bytes all.items) words)) ended
         (record { holds = D.holds; faults = D.faults; old = output.old; new = output.new })
+        × WritesPromptLine (asked_of (option_map (λ all. map string_bytes all.items) words)) ended
+        (record { holds = D.holds; faults = D.faults; old = output.old; new = output.new })
         × WritesOnce (reason_line (status_of ended))
         (record { holds = E.holds; faults = E.faults; old = errors.old; new = errors.new }) }
 {
@@ -58,7 +63,8 @@ fn serve<D: Sink, R: Threads + Wait + Sync>(
     words: Option<Vec<String>>,
     output: &mut D,
 ) -> PoolEnd
-    ensures { IsThreadsRun pool_meaning
+    ensures size { IfSome (asked_of (option_map (λ all. map string_bytes all.items) words)) IsPoolSize }
+    ensures run { IsThreadsRun pool_meaning
         (asked_of (option_map (λ all. map string_bytes all.items) words)) result
         (record { holds = D.holds; faults = D.faults; old = output.old; new = output.new }) }
 {

@@ -1,6 +1,6 @@
 //! The commands that threads serve, run to their ends.
-ghost use Rattle.std.specs.Prelude.{map, string_bytes};
-ghost use Rattle.signctl_threads.specs.Words.{pool_named};
+ghost use Rattle.std.specs.Prelude.{map, string_bytes, IfSome};
+ghost use Rattle.signctl_threads.specs.Words.{pool_named, IsPoolSize};
 ghost use Rattle.signctl_threads.specs.Pool.{IsThreadsRun};
 
 use crate::end::PoolEnd;
@@ -28,7 +28,8 @@ pub fn run_pool<G: Gate<ScriptCredential> + Sync, D: Sink, R: Threads + Wait + S
     gate: &G,
     sink: &mut D,
 ) -> PoolEnd
-    ensures { IsThreadsRun (G.meaning gate.now) (pool_named (map string_bytes words.now)) result
+    ensures size { IfSome (pool_named (map string_bytes words.now)) IsPoolSize }
+    ensures run { IsThreadsRun (G.meaning gate.now) (pool_named (map string_bytes words.now)) result
         (record { holds = D.holds; faults = D.faults; old = sink.old; new = sink.new }) }
 {
     match command_of(words) {

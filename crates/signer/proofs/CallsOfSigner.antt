@@ -1,5 +1,7 @@
 -- Calls that are kept by their numbers stay those of their signer, whatever is done with one of them.
-use Rattle.std.proofs.Common.{◌≡◌, ◌+◌, ℕ, List, [], ◌∷◌, ◌++◌, Option, Some, None, slice_get, slice_set, ap, subst}
+use Rattle.std.proofs.Common.{◌≡◌, ◌+◌, ℕ, List, [], ◌∷◌, ◌++◌, Option, Some, None, IfSome, slice_get}
+use Rattle.std.proofs.Common.{slice_set, ap}
+use Rattle.std.proofs.Common.{subst}
 use Rattle.http.specs.declared.request.Parts.{Parts}
 use Rattle.sign_base.specs.declared.call_id.CallId.{CallId}
 use Rattle.sequential_signer.specs.Policy.{Policy}
@@ -11,7 +13,6 @@ use Rattle.signer.specs.SignerInvariant.{SignerState}
 use Rattle.signer.specs.SignerObjects.{Meanings}
 use Rattle.signer.specs.declared.sign.Sign.{Sign}
 use Rattle.signer.specs.declared.sign_poll.SignAnswer.{SignAnswer}
-use Rattle.signer.specs.declared.sign_poll.SignAnswer.TheVariants as answer
 
 module _ {P S K C L W : Type 0} (m : Meanings P S K C L W) where
   -- the call of a state
@@ -42,18 +43,6 @@ module _ {P S K C L W : Type 0} (m : Meanings P S K C L W) where
   calls-cancelled old new calls n sign all is same keeps =
       numbered-set call_of calls sign all keeps n is (ap (λ (s : SignerState P S K C). s.begun) same) None (λ left none. absurd (cc))
 
-  handed_back : (signer : SignerState P S K C) (call : CallId) (a : SignAnswer P S K C L C W K)
-      → IsAnswerIssuedBy m signer call a → (sign : Sign P S K C L C W K) → state_back a ≡ Some sign
-      → (sign.begun.id ≡ call) × IsIssuedBy m signer sign
-  handed_back signer call (answer.Pending back) issued sign is =
-      let same : back ≡ sign = cc in
-      subst (λ (x : Sign P S K C L C W K). (x.begun.id ≡ call) × IsIssuedBy m signer x) same issued
-  handed_back signer call (answer.OutOfMemory back) issued sign is =
-      let same : back ≡ sign = cc in
-      subst (λ (x : Sign P S K C L C W K). (x.begun.id ≡ call) × IsIssuedBy m signer x) same issued
-  handed_back signer call answer.Done issued sign is = absurd (cc)
-  handed_back signer call (answer.Refused why) issued sign is = absurd (cc)
-
   -- `poll` of one of them leaves the state that it hands back
   pub calls-polled : (old new : SignerState P S K C) (calls : List (Option (Sign P S K C L C W K))) (n : ℕ)
       (sign : Sign P S K C L C W K) (a : SignAnswer P S K C L C W K) → AreCallsOf m old calls
@@ -61,4 +50,4 @@ module _ {P S K C L W : Type 0} (m : Meanings P S K C L W) where
       → KeepsOthers m sign.begun.id (record { old = old; new = new }) → IsAnswerIssuedBy m new sign.begun.id a
       → AreCallsOf m new (slice_set calls n (state_back a))
   calls-polled old new calls n sign a all is same keeps issued =
-      numbered-set call_of calls sign all keeps n is (ap (λ (s : SignerState P S K C). s.begun) same) (state_back a) (λ left back. handed_back new sign.begun.id a issued left back)
+      numbered-set call_of calls sign all keeps n is (ap (λ (s : SignerState P S K C). s.begun) same) (state_back a) (λ left back. subst (λ o. IfSome o (λ (x : Sign P S K C L C W K). (x.begun.id ≡ sign.begun.id) × IsIssuedBy m new x)) back issued)

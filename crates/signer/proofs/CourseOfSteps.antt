@@ -14,8 +14,10 @@ use Rattle.sign_desk.specs.Steps.{IsStep}
 use Rattle.desk_driver.specs.CallAt.{LeavesOthers}
 use Rattle.desk_driver.proofs.CallSteps.{leaves-same, leaves-trans}
 use Rattle.signer.specs.IssuedBy.{IsStateIssued}
-use Rattle.signer.specs.Course.{PollEnd, PollRun, PolledCall, IsGiven, IsCourse, stops, ends, goes_on, StopsAt, EndsBy, candidate_of, state_after, wake_in, wakes_in}
-use Rattle.signer.specs.StepOutcome.{StepChange, ComesLater, NamesNobody, IsStepEnd, IsEndIssued, GoesOn, Ends}
+use Rattle.signer.specs.PollEvents.{PollEnd, PollRun, PolledCall, IsGiven, IsEventSequence, stops, ends, goes_on}
+use Rattle.signer.specs.PollEvents.{StopsAt, EndsBy, candidate_of, state_after, wake_in, wakes_in}
+use Rattle.signer.specs.StepOutcome.{StepChange, ComesLater, NamesNobody, IsStepEnd, IsEndIssued, GoesOn}
+use Rattle.signer.specs.StepOutcome.{Ends}
 use Rattle.sequential_signer.specs.declared.event.Reply.TheVariants as reply
 use Rattle.signer.specs.declared.sign.SignState.{SignState}
 use Rattle.signer.specs.declared.sign.SignState.TheVariants.{Waiting, Loading, Signing}
@@ -30,7 +32,7 @@ module _ {K : Type 0} where
 module _ {K D L W : Type 0} (v : PolledCall K D L W) where
   -- a desk that represents a transcript represents it with the events of the course after it
   pub course-represents : (state : SignState K L W) (old new : DeskState K D) (run : PollRun K L W)
-      → IsCourse v state old run new → (entries : List (Entry K)) → Represents v.policy old entries
+      → IsEventSequence v state old run new → (entries : List (Entry K)) → Represents v.policy old entries
       → Represents v.policy new (entries ++ run.entries)
   course-represents state old new run (stops s desk end stop) entries stood = subst (Represents v.policy desk) (sym (append-nil entries)) stood
   course-represents state old new run (ends s o n event answered end given step memory by) entries stood = step.represents entries stood
@@ -46,7 +48,7 @@ module _ {K D L W : Type 0} (v : PolledCall K D L W) where
       → Ends v state change None end
   ends-without state desk change end by was is stop ended issued = record {
     run = record { entries = []; end = by };
-    course = subst (λ d. IsCourse v state d (record { entries = []; end = by }) change.new) (sym was) (subst (λ d. IsCourse v state desk (record { entries = []; end = by }) d) (sym is) (stops state desk by stop));
+    course = subst (λ d. IsEventSequence v state d (record { entries = []; end = by }) change.new) (sym was) (subst (λ d. IsEventSequence v state desk (record { entries = []; end = by }) d) (sym is) (stops state desk by stop));
     ended = ended;
     named = refl;
     quiet = names-nobody state;
@@ -134,11 +136,12 @@ module _ {K L W : Type 0} where
 
 module _ {K D L W : Type 0} (v : PolledCall K D L W) where
   -- a poll that began in this state, with this desk, has come to this place
-  pub record Reached (start : SignState K L W) (old : DeskState K D) (place : PollPlace K D L W) : Type 0 where
+  pub record Reached (start : SignState K L W) (old : DeskState K D)
+      (place : PollPlace K D L W) : Type 0 where
     pub entries : List (Entry K)
     pub named : wakes_in entries ≡ option_to_list place.wake
-    pub leads : (run : PollRun K L W) (new : DeskState K D) → IsCourse v place.state place.desk run new
-        → IsCourse v start old (record { entries = entries ++ run.entries; end = run.end }) new
+    pub leads : (run : PollRun K L W) (new : DeskState K D) → IsEventSequence v place.state place.desk run new
+        → IsEventSequence v start old (record { entries = entries ++ run.entries; end = run.end }) new
     pub before : NamedBefore place.state place.wake
     pub others : LeavesOthers v.begun.id old place.desk
     pub issued : IsStateIssued v.meaning v.begun place.desk place.state
@@ -170,7 +173,7 @@ module _ {K D L W : Type 0} (v : PolledCall K D L W) where
         entries = r.entries ++ e ∷ [];
         named = wakes-append r.entries (e ∷ []) ∙ ap (λ l. l ++ wakes_in (e ∷ [])) r.named ∙ ap (λ l. option_to_list place.wake ++ l) last ∙ first;
         leads = λ run new course.
-            subst (λ l. IsCourse v start old (record { entries = l; end = run.end }) new) (sym (append_assoc r.entries (e ∷ []) run.entries))
+            subst (λ l. IsEventSequence v start old (record { entries = l; end = run.end }) new) (sym (append_assoc r.entries (e ∷ []) run.entries))
             (r.leads (record { entries = e ∷ run.entries; end = run.end }) new (goes_on place.state next place.desk change.new new g.event g.answered run g.given step g.after course));
         before = subst (λ w. NamedBefore next (option_or w wake)) (sym none) (subst (NamedBefore next) (sym g.named) (named-by (candidate_of place.state) g.answered next g.after));
         others = leaves-trans r.others others;
@@ -178,9 +181,10 @@ module _ {K D L W : Type 0} (v : PolledCall K D L W) where
       }
 
   -- a poll that has come to its last step
-  pub record CourseEnds (start : SignState K L W) (change : StepChange K D) (wake : Option CallId) (end : StepEnd K L W) : Type 0 where
+  pub record CourseEnds (start : SignState K L W) (change : StepChange K D) (wake : Option CallId)
+      (end : StepEnd K L W) : Type 0 where
     pub run : PollRun K L W
-    pub course : IsCourse v start change.old run change.new
+    pub course : IsEventSequence v start change.old run change.new
     pub ended : IsStepEnd end change.before change.after run.end
     pub named : wakes_in run.entries ≡ option_to_list wake
     pub issued : IsEndIssued v change.new end
@@ -192,7 +196,7 @@ module _ {K D L W : Type 0} (v : PolledCall K D L W) where
       → CourseEnds start (record change { old = old }) (option_or place.wake wake) end
   reached-end start old place r change from wake end e = record {
     run = record { entries = r.entries ++ e.run.entries; end = e.run.end };
-    course = r.leads e.run change.new (subst (λ d. IsCourse v place.state d e.run change.new) from e.course);
+    course = r.leads e.run change.new (subst (λ d. IsEventSequence v place.state d e.run change.new) from e.course);
     ended = e.ended;
     named = wakes-append r.entries e.run.entries ∙ ap (λ l. l ++ wakes_in e.run.entries) r.named ∙ ap (λ l. option_to_list place.wake ++ l) e.named ∙ named-first place.state place.wake wake r.before e.quiet;
     issued = e.issued;

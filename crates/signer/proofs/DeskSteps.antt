@@ -1,6 +1,7 @@
 -- What the steps of a call that a signer drives do to the call, and that they leave the others.
 use Rattle.std.specs.Duration.{as_nanos}
-use Rattle.std.proofs.Common.{◌≡◌, ◌⊎◌, inl, inr, ℕ, ℤ, ◌<◌, ◌+◌, true, false, Bool, Option, Some, None, IsSome, is_some, IfSome, option_map, slice_get, refl, sym, ◌∙◌, ap, subst}
+use Rattle.std.proofs.Common.{◌≡◌, ◌⊎◌, inl, inr, ℕ, ℤ, ◌<◌, ◌+◌, true, false, Bool, Option, Some, None}
+use Rattle.std.proofs.Common.{IsSome, is_some, IfSome, option_map, slice_get, refl, sym, ◌∙◌, ap, subst}
 use Rattle.sign_base.specs.declared.head.Head.{Head}
 use Rattle.sign_base.specs.declared.call_id.CallId.{CallId}
 use Rattle.sequential_signer.specs.Policy.{Policy}
@@ -15,7 +16,7 @@ use Rattle.sequential_signer.specs.declared.event.Reply.TheVariants.{Refused, Ca
 use Rattle.sequential_signer.specs.declared.event.Verdict.TheVariants as verdict
 use Rattle.sequential_signer.specs.declared.event.Why.{Why}
 use Rattle.sequential_signer.specs.declared.event.Why.TheVariants as why
-use Rattle.desk_parts.specs.Queue.{line_at, is_held_line}
+use Rattle.desk_parts.specs.Queue.{queue_at, is_held_queue}
 use Rattle.sign_base.specs.Calls.{is_first}
 use Rattle.sign_desk.specs.DeskState.{DeskState}
 use Rattle.desk_parts.specs.Tables.{find_call}
@@ -25,7 +26,9 @@ use Rattle.desk_parts.specs.Places.{HasPlaces, provider_count}
 use Rattle.sign_desk.specs.Action.{Action, Performs}
 use Rattle.sign_desk.specs.HoldAction.{Hold, first_hold, waited_hold, loading_hold, hold_action}
 use Rattle.desk_parts.specs.HoldProgress.{desk_lookup, desk_load, next_load, desk_look_input, with_answer}
-use Rattle.sign_desk.specs.Transition.{Transition, poll_action, first_poll_action, later_poll_action, load_action, provided_action, signed_action, accept_action, cancel_action, live_action}
+use Rattle.sign_desk.specs.Transition.{Transition, poll_action, first_poll_action, later_poll_action}
+use Rattle.sign_desk.specs.Transition.{load_action, provided_action, signed_action, accept_action}
+use Rattle.sign_desk.specs.Transition.{cancel_action, live_action}
 use Rattle.desk_driver.specs.CallAt.{record_of, IsAt, IsWaiting, IsSigning, IsAsking}
 use Rattle.signer.specs.DeskReplies.{AfterPoll, AfterFound, AfterNone, AfterAccepted}
 use Rattle.sign_desk.specs.Records.{CallRecord}
@@ -34,8 +37,10 @@ use Rattle.desk_parts.specs.declared.call_record.Stage.TheVariants as stage
 use Rattle.signer.specs.BegunCall.{BegunCall}
 use Rattle.desk_parts.specs.declared.tables.LiveCallView.{LiveCallView}
 use Rattle.desk_parts.proofs.Views.{find_view-is}
-use Rattle.desk_driver.proofs.CallSteps.{SameCalls, same-self, DeskStep, leaves, leaves-same, at, asks, for-places}
-use Rattle.desk_driver.proofs.Looks.{IsLook, IsFoundLoad, IsOtherLoad, look-is, check-found, next-other, some_load}
+use Rattle.desk_driver.proofs.CallSteps.{SameCalls, same-self, DeskStep, leaves, leaves-same, at, asks}
+use Rattle.desk_driver.proofs.CallSteps.{for-places}
+use Rattle.desk_driver.proofs.Looks.{IsLook, IsFoundLoad, IsOtherLoad, look-is, check-found, next-other}
+use Rattle.desk_driver.proofs.Looks.{some_load}
 
 -- a hold whose desks differ in their caches and queues alone
 record HoldsCalls {K D : Type 0} (old : DeskState K D) (hold : Hold K D) : Type 0 where
@@ -44,7 +49,8 @@ record HoldsCalls {K D : Type 0} (old : DeskState K D) (hold : Hold K D) : Type 
   ended_desk : SameCalls old hold.ended_desk
 
 module _ {K D : Type 0} (old new : DeskState K D) (reply : Reply K) (begun : BegunCall) where
-  module _ (h : Handle) (under : slice_get old.handles begun.id.handle ≡ Some h) (loader : Loader) (loads : slice_get old.loaders h.cache ≡ Some loader) where
+  module _ (h : Handle) (under : slice_get old.handles begun.id.handle ≡ Some h) (loader : Loader)
+      (loads : slice_get old.loaders h.cache ≡ Some loader) where
     poll-hold : (hold : Hold K D) → HoldsCalls old hold → (s : Stage) → IsAt begun s 0 old
         → IsWaiting begun old → (v : LiveCallView) → v.call ≡ begun.id → v.answers ≡ 0 → (p : Progress K)
         → IsLook loader p → Performs (hold_action hold v (Some p)) begun.id old reply new
@@ -144,7 +150,8 @@ same-loading old view = record {
   ended_desk = record { loaders = refl; rules = refl; handles = refl; greatest = refl; calls = refl };
 }
 
-module _ {K D : Type 0} (policy : Policy K D) (old new : DeskState K D) (reply : Reply K) (begun : BegunCall) (sound : StepPrecondition old) (there : IsSome (slice_get old.handles begun.id.handle)) where
+module _ {K D : Type 0} (policy : Policy K D) (old new : DeskState K D) (reply : Reply K) (begun : BegunCall)
+    (sound : StepPrecondition old) (there : IsSome (slice_get old.handles begun.id.handle)) where
   -- what a transition does at the live call
   at_live : (action : LiveCallView → Action K D) (h : Handle) → slice_get old.handles begun.id.handle ≡ Some h
       → (s : Stage) (n : ℕ) → IsAt begun s n old
@@ -152,7 +159,8 @@ module _ {K D : Type 0} (policy : Policy K D) (old new : DeskState K D) (reply :
       → Performs (action (stored_view begun.id h (record_of begun s n))) begun.id old reply new
   at_live action h under s n found m = subst (λ o. Performs (live_action action o) begun.id old reply new) (find_view-is old begun.id h (record_of begun s n) under found) m
 
-  module _ (now : ℤ) (h : Handle) (under : slice_get old.handles begun.id.handle ≡ Some h) (loader : Loader) (loads : slice_get old.loaders h.cache ≡ Some loader)
+  module _ (now : ℤ) (h : Handle) (under : slice_get old.handles begun.id.handle ≡ Some h) (loader : Loader)
+      (loads : slice_get old.loaders h.cache ≡ Some loader)
       (cached : Option K) (caches : slice_get old.caches h.cache ≡ Some cached) (rule : D) (ruled : slice_get old.rules h.rule ≡ Some rule) where
     abbrev view : Stage → ℕ → LiveCallView
     view s n = stored_view begun.id h (record_of begun s n)
@@ -192,12 +200,13 @@ module _ {K D : Type 0} (policy : Policy K D) (old new : DeskState K D) (reply :
     later_polled true found m = polled stage.Queued (waited_hold old (view stage.Queued 0)) (same-waited old (view stage.Queued 0)) found (inr found) m
     later_polled false found m =
         let found-new : IsAt begun stage.Queued 0 new = ap (λ (d : DeskState K D). find_call begun.id d.calls) m.1 ∙ found in
-        record { after = subst (λ r. AfterPoll begun r new) (sym m.0) (inr found-new); others = leaves-same m.1 }
+        record
+        { after = subst (λ r. AfterPoll begun r new) (sym m.0) (inr found-new); others = leaves-same m.1 }
 
     by_waiting : IsWaiting begun old → Transition policy (Poll begun.id now) old reply new
         → DeskStep begun.id old new (AfterPoll begun reply new)
-    by_waiting (inl found) m = first_polled (is_held_line (line_at h.cache old.queues)) found (at_live (λ v. poll_action policy old now v v.stage) h under stage.Unpolled 0 found m)
-    by_waiting (inr found) m = later_polled (is_first begun.id (line_at h.cache old.queues)) found (at_live (λ v. poll_action policy old now v v.stage) h under stage.Queued 0 found m)
+    by_waiting (inl found) m = first_polled (is_held_queue (queue_at h.cache old.queues)) found (at_live (λ v. poll_action policy old now v v.stage) h under stage.Unpolled 0 found m)
+    by_waiting (inr found) m = later_polled (is_first begun.id (queue_at h.cache old.queues)) found (at_live (λ v. poll_action policy old now v v.stage) h under stage.Queued 0 found m)
 
     checks : (n : ℕ) (c : K)
         → desk_load policy old now (view stage.Loading n) (Found c)
@@ -282,7 +291,8 @@ module _ {K D : Type 0} (policy : Policy K D) (old new : DeskState K D) (reply :
   accepted candidate answers found h under (Some r) e (inl m) = record { after = subst (λ x. AfterAccepted begun x new) (sym m.0) tt; others = leaves (same-self old) m.1 }
   accepted candidate answers found h under (Some r) e (inr m) =
       let still : IsAt begun stage.Signing answers new = ap (λ (d : DeskState K D). find_call begun.id d.calls) m.1 ∙ found in
-      record { after = subst (λ x. AfterAccepted begun x new) (sym m.0) (answers, still); others = leaves-same m.1 }
+      record
+      { after = subst (λ x. AfterAccepted begun x new) (sym m.0) (answers, still); others = leaves-same m.1 }
 
   pub after-accepted : (candidate : Head) → IsSigning begun old
       → Transition policy (Signed begun.id (verdict.Accepted candidate)) old reply new

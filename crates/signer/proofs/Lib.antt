@@ -3,7 +3,6 @@ pub mod CourseOfSteps
 pub mod StepOutcomes
 pub mod PollEnds
 pub mod SignerOthers
-pub mod ObjectMeanings
 pub mod PollInvariant
 pub mod SignerObjectsAt
 pub mod SignerSetup

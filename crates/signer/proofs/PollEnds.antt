@@ -7,7 +7,8 @@ use Rattle.sign_desk.specs.DeskState.{DeskState}
 use Rattle.desk_parts.specs.Places.{provider_count}
 use Rattle.desk_driver.specs.CallAt.{HasProvider, loader_of}
 use Rattle.signer.specs.IssuedBy.{IsStateIssued}
-use Rattle.signer.specs.Course.{PollEnd, Pends, Finishes, Refuses, RunsOut, PolledCall, IsDriven, IsEnd, IsAnswerIssued}
+use Rattle.signer.specs.PollEvents.{PollEnd, Pends, Finishes, Refuses, RunsOut, PolledCall, IsDriven, IsEnd}
+use Rattle.signer.specs.PollEvents.{IsAnswerIssued}
 use Rattle.signer.specs.StepOutcome.{StepChange, ComesLater, IsStepEnd, IsEndIssued, answer_by}
 use Rattle.signer.specs.BegunCall.{BegunCall}
 use Rattle.signer.specs.declared.sign.SignState.{SignState}
@@ -63,7 +64,8 @@ steps_left loader (Waiting candidate) = suc (suc (provider_count loader))
 steps_left loader (Loading candidate provider l) = suc (provider_count loader - provider)
 steps_left loader (Signing credential w) = 0
 
-module _ {K D L W : Type 0} (v : PolledCall K D L W) (desk : DeskState K D) (loader : Loader) (loads : loader_of desk v.begun.id.handle ≡ Some loader) where
+module _ {K D L W : Type 0} (v : PolledCall K D L W) (desk : DeskState K D) (loader : Loader)
+    (loads : loader_of desk v.begun.id.handle ≡ Some loader) where
   few : (provider : ℕ) → HasProvider desk v.begun.id.handle provider → provider < provider_count loader
   few provider h = subst (λ o. IsSomeAnd o (λ (l : Loader). provider < provider_count l)) loads h
 

@@ -5,17 +5,18 @@ use Rattle.http.specs.declared.request.Parts.{Parts}
 use Rattle.sign_desk.specs.DeskState.{DeskState}
 use Rattle.desk_driver.specs.CallAt.{loader_of, service_of}
 use Rattle.desk_driver.specs.ProviderList.{loader_for}
-use Rattle.signer.specs.Course.{IsDriven}
+use Rattle.signer.specs.PollEvents.{IsDriven}
 use Rattle.signer.specs.StepOutcome.{StepChange, Goes, GoesOn, Ends, answer_by}
-use Rattle.signer.specs.PollContext.{PollContext, call_with, IsService, IsIssuedFor, IsOutcomeWith, IsDrivenFrom}
+use Rattle.signer.specs.PollContext.{PollContext, IsIssuedFor, IsOutcomeWith, IsDrivenFrom}
+use Rattle.desk_driver.specs.PolledCall.{call_with, IsService}
 use Rattle.signer.specs.declared.sign.SignState.{SignState}
 use Rattle.signer.specs.declared.step_outcome.StepEnd.{StepEnd}
 use Rattle.signer.specs.declared.step_outcome.StepOutcome.{StepOutcome}
-use Rattle.signer.specs.declared.step_outcome.StepFlow.TheVariants.{On, Over}
+use Rattle.signer.specs.declared.step_outcome.StepFlow.TheVariants.{Continue, Stop}
 use Rattle.desk_driver.proofs.CallSteps.{SameObjects, leaves-objects}
 use Rattle.signer.proofs.CourseOfSteps.{PollPlace, Reached, reached-start, reached-on, reached-end}
 use Rattle.signer.proofs.PollEnds.{driven, steps_left, fewer}
-use Rattle.signer.proofs.ObjectMeanings.{for-service}
+use Rattle.desk_driver.proofs.ObjectMeanings.{for-service}
 
 -- what a poll begins with
 pub record PollStart (K S L W : Type 0) : Type 0 where
@@ -39,7 +40,8 @@ module _ {P S K C L W : Type 0} (d : PollContext P S K C L W) (start : PollStart
     objects = record { service = refl; loader = refl };
   }
 
-  module _ (place : PollPlace K S L W) (request : Parts) (u : PollInvariant place request) (there : IsSome (service_of start.desk d.begun.id.handle)) where
+  module _ (place : PollPlace K S L W) (request : Parts) (u : PollInvariant place request)
+      (there : IsSome (service_of start.desk d.begun.id.handle)) where
     -- the service is still the call's
     still : (service : S) → IsService d start.desk service → IsService d place.desk service
     still service is = u.objects.service ∙ is
@@ -48,7 +50,7 @@ module _ {P S K C L W : Type 0} (d : PollContext P S K C L W) (start : PollStart
     issued-here service is = (u.reached service (sym u.objects.service ∙ is)).issued
 
     module _ (new : DeskState K S) (after : Parts) where
-      pub invariant-on : (taken : StepOutcome K L W) (next : SignState K L W) → taken.flow ≡ On next
+      pub invariant-on : (taken : StepOutcome K L W) (next : SignState K L W) → taken.flow ≡ Continue next
           → IsOutcomeWith d place.state
           (record { old = place.desk; new = new; before = request; after = after }) taken
           → PollInvariant (record { state = next; desk = new; wake = option_or place.wake taken.wake }) after
@@ -66,21 +68,21 @@ module _ {P S K C L W : Type 0} (d : PollContext P S K C L W) (start : PollStart
           })
 
       -- and the poll has fewer steps before it
-      pub invariant-fewer : loader_of start.desk d.begun.id.handle ≡ Some (loader_for d.objects.providers.now)
-          → (taken : StepOutcome K L W) (next : SignState K L W) → taken.flow ≡ On next
+      pub invariant-fewer : loader_of start.desk d.begun.id.handle ≡ Some (loader_for d.providers)
+          → (taken : StepOutcome K L W) (next : SignState K L W) → taken.flow ≡ Continue next
           → IsOutcomeWith d place.state
           (record { old = place.desk; new = new; before = request; after = after }) taken
-          → steps_left (loader_for d.objects.providers.now) next
-          < steps_left (loader_for d.objects.providers.now) place.state
+          → steps_left (loader_for d.providers) next
+          < steps_left (loader_for d.providers) place.state
       invariant-fewer loads taken next flow step =
           let change : StepChange K S = record { old = place.desk; new = new; before = request; after = after } in
-          for-service (service_of start.desk d.begun.id.handle) (steps_left (loader_for d.objects.providers.now) next < steps_left (loader_for d.objects.providers.now) place.state) there
+          for-service (service_of start.desk d.begun.id.handle) (steps_left (loader_for d.providers) next < steps_left (loader_for d.providers) place.state) there
           (λ service is.
           let goes : GoesOn (call_with d service) place.state change taken.wake next = subst (Goes (call_with d service) place.state change taken.wake) flow (step service (still service is)) in
           let o = leaves-objects goes.others d.begun.id.handle in
-          fewer (call_with d service) new (loader_for d.objects.providers.now) (o.loader ∙ u.objects.loader ∙ loads) place.state next goes.issued goes.later)
+          fewer (call_with d service) new (loader_for d.providers) (o.loader ∙ u.objects.loader ∙ loads) place.state next goes.issued goes.later)
 
-      pub invariant-end : (taken : StepOutcome K L W) (end : StepEnd K L W) → taken.flow ≡ Over end
+      pub invariant-end : (taken : StepOutcome K L W) (end : StepEnd K L W) → taken.flow ≡ Stop end
           → IsOutcomeWith d place.state
           (record { old = place.desk; new = new; before = request; after = after }) taken
           → IsDrivenFrom d start.state start.desk new

@@ -13,7 +13,8 @@ use Rattle.signer.specs.DeskReplies.{IsBegun}
 use Rattle.signer.specs.IssuedBy.{IsStateIssued, IsIssuedBy}
 use Rattle.signer.specs.SignerCalls.{Begins}
 use Rattle.signer.specs.SignerInvariant.{SignerState, IsSigner}
-use Rattle.signer.specs.SignerObjects.{Meanings, call_meaning, objects_of}
+use Rattle.signer.specs.SignerObjects.{Meanings, objects_of}
+use Rattle.desk_driver.specs.Meanings.{call_meaning}
 use Rattle.desk_driver.specs.Objects.{Objects}
 use Rattle.signer.specs.BegunCall.{BegunCall}
 use Rattle.signer.specs.declared.sign.Sign.{Sign}
@@ -23,7 +24,8 @@ use Rattle.desk_driver.proofs.KeptCalls.{KeepsCall, differs}
 use Rattle.signer.proofs.SignerOthers.{keeps-issued}
 use Rattle.signer.proofs.SignerSetup.{signer-desk, has-objects-at}
 
-module _ {P S K C L W : Type 0} (m : Meanings P S K C L W) (old : SignerState P S K C) (s : IsSigner old) (begun : BegunCall) (desk : DeskState K S) (b : IsBegun begun old.desk desk) where
+module _ {P S K C L W : Type 0} (m : Meanings P S K C L W) (old : SignerState P S K C) (s : IsSigner old)
+    (begun : BegunCall) (desk : DeskState K S) (b : IsBegun begun old.desk desk) where
   keeps-apart : (other : CallId) → (other ≡ begun.id → ⊥) → KeepsCall other old.desk desk
   keeps-apart other apart = record {
     loaders = b.loaders;

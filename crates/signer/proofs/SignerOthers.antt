@@ -6,10 +6,11 @@ use Rattle.desk_driver.specs.CallAt.{IsLive, IsWaiting, LeavesOthers}
 use Rattle.desk_driver.proofs.KeptCalls.{KeepsCall, keeps-other, keeps-provider}
 use Rattle.signer.specs.IssuedBy.{IsStateIssued, IsIssuedBy}
 use Rattle.signer.specs.SignerInvariant.{SignerState}
-use Rattle.signer.specs.SignerObjects.{Meanings, CallMeaning, call_meaning, objects_of}
+use Rattle.signer.specs.SignerObjects.{Meanings, CallMeaning, objects_of}
+use Rattle.desk_driver.specs.Meanings.{call_meaning}
 use Rattle.desk_driver.specs.Objects.{Objects}
 use Rattle.signer.specs.SignerCalls.{KeepsOthers, IsAnswerIssuedBy}
-use Rattle.signer.specs.Course.{IsAnswerIssued}
+use Rattle.signer.specs.PollEvents.{IsAnswerIssued}
 use Rattle.signer.specs.declared.sign_poll.SignAnswer.{SignAnswer}
 use Rattle.signer.specs.declared.sign_poll.SignAnswer.TheVariants as answer
 use Rattle.desk_parts.specs.declared.call_record.Stage.TheVariants as stage

@@ -1,22 +1,26 @@
 -- What holds of every signer holds of a new one, of one with a handle more, and of one that has begun a call.
-use Rattle.std.proofs.Common.{◌≡◌, ℕ, suc, ◌+◌, ◌<◌, true, List, [], ◌∷◌, ◌++◌, length, map, Some, slice_get, refl, sym, ◌∙◌, ap, arith}
+use Rattle.std.proofs.Common.{◌≡◌, ℕ, suc, ◌+◌, ◌<◌, true, List, [], ◌∷◌, ◌++◌, length, map, Some, slice_get}
+use Rattle.std.proofs.Common.{refl, sym, ◌∙◌, ap, arith}
 use Rattle.std.specs.List.{slice_index_or}
 use Rattle.std.proofs.lemmas.List.{length-append}
 use Rattle.credentials.specs.declared.providers.Providers.{Providers}
-use Rattle.sign_request.specs.declared.header_keys.HeaderKeys.{HeaderKeys}
+use Rattle.sign_request.specs.declared.header_seeds.HeaderSeeds.{HeaderSeeds}
 use Rattle.sequential_signer.specs.Policy.{Policy}
 use Rattle.sequential_signer.specs.Setup.{Setup, Handle}
 use Rattle.sign_desk.specs.DeskState.{DeskState, Represents, with_cache}
 use Rattle.desk_parts.specs.Tables.{setup_of}
 use Rattle.desk_parts.specs.Adding.{with_rule, with_handle}
-use Rattle.signer.specs.SignerInvariant.{SignerState, IsSigner, with_context_handle, with_service_handle, with_cache_handle}
+use Rattle.signer.specs.SignerInvariant.{SignerState, IsSigner, with_context_handle, with_service_handle}
+use Rattle.signer.specs.SignerInvariant.{with_cache_handle}
 use Rattle.desk_driver.specs.ProviderList.{loader_for}
 use Rattle.signer.specs.SignerObjects.{objects_of}
 use Rattle.desk_driver.specs.Objects.{Objects}
 use Rattle.desk_driver.specs.CallNumbers.{is_above_all}
 use Rattle.desk_driver.proofs.CallNumbers.{above-none-more}
-use Rattle.desk_driver.proofs.Rows.{both-longer, both-few, still-few, of-there, there-at, none-there, index-is, first-place, first-handle}
-use Rattle.desk_parts.proofs.IsWellFormedSetup.{longer, each-more, each-by, set_up-cache, set_up-rule, set_up-handle}
+use Rattle.desk_driver.proofs.Rows.{both-longer, both-few, still-few, of-there, there-at, none-there}
+use Rattle.desk_driver.proofs.Rows.{index-is, first-place, first-handle}
+use Rattle.desk_parts.proofs.IsWellFormedSetup.{longer, each-more, each-by, set_up-cache, set_up-rule}
+use Rattle.desk_parts.proofs.IsWellFormedSetup.{set_up-handle}
 
 map-more : {A B : Type 0} (f : A → B) (xs : List A) (x : A) → map f (xs ++ x ∷ []) ≡ map f xs ++ f x ∷ []
 map-more f [] x = refl
@@ -26,7 +30,8 @@ length-map : {A B : Type 0} (f : A → B) (xs : List A) → length (map f xs) �
 length-map f [] = refl
 length-map f (x ∷ xs) = ap suc (length-map f xs)
 
-module _ {P S K C : Type 0} (old : SignerState P S K C) (s : IsSigner old) (handle : ℕ) (like : Handle) (there : slice_get old.desk.handles handle ≡ Some like) where
+module _ {P S K C : Type 0} (old : SignerState P S K C) (s : IsSigner old) (handle : ℕ) (like : Handle)
+    (there : slice_get old.desk.handles handle ≡ Some like) where
   its-cache : like.cache < length old.desk.loaders
   its-cache = (of-there (λ (x : Handle). (x.cache < length old.desk.loaders) × (x.rule < length old.desk.rules)) (slice_get old.desk.handles handle) like there (s.set_up.handles handle)).0
 
@@ -121,7 +126,8 @@ module _ {P S K C : Type 0} (old : SignerState P S K C) (s : IsSigner old) where
       there-at old.desk.rules at.rule (its-rule old s handle at at_is) _ (λ service service_is.
       (record { providers = providers; ctx = ctx; service = service }, rw (at_is, place_is, ctx_is, providers_is, service_is) refl))))))
 
-module _ {P S K C : Type 0} (policy : Policy K S) (desk : DeskState K S) (loader : Providers P) (ctx : C) (service : S) (keys : HeaderKeys) where
+module _ {P S K C : Type 0} (policy : Policy K S) (desk : DeskState K S) (loader : Providers P) (ctx : C)
+    (service : S) (keys : HeaderSeeds) where
   -- a desk with one cache and no calls, with its first handle, has a signer round it
   pub signer-new : setup_of desk ≡ record { loaders = loader_for loader ∷ []; rules = []; handles = [] }
       → Represents policy desk []

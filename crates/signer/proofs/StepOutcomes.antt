@@ -22,10 +22,13 @@ use Rattle.signer.specs.DeskReplies.{AfterPoll, AfterFound, AfterNone}
 use Rattle.desk_driver.specs.Causes.{is_of_look, is_of_check}
 use Rattle.desk_driver.specs.LoadAnswer.{IsLoadPending, KeepsLoad, IsLoadOpen, LoadRunsOut}
 use Rattle.signer.specs.ObjectAnswer.{IsWorkPending, KeepsWork, IsWorkOpen, WorkRunsOut}
-use Rattle.signer.specs.IssuedBy.{IsLoadMade, IsWorkMade}
-use Rattle.signer.specs.Course.{PolledCall, Pends, Finishes, Refuses, RunsOut, IsVerdictGiven, IsRefusal, FailsWith}
+use Rattle.signer.specs.IssuedBy.{IsWorkMade}
+use Rattle.desk_driver.specs.Meanings.{IsLoadMade}
+use Rattle.signer.specs.PollEvents.{PolledCall, Pends, Finishes, Refuses, RunsOut, IsVerdictGiven, IsRefusal}
+use Rattle.signer.specs.PollEvents.{FailsWith}
 use Rattle.signer.specs.StepOutcome.{StepChange, IsStepOutcome, Ends}
-use Rattle.signer.specs.OutcomeByReply.{plain_refusal, outcome_after_poll, outcome_after_found, outcome_after_none}
+use Rattle.signer.specs.OutcomeByReply.{plain_refusal, outcome_after_poll, outcome_after_found}
+use Rattle.signer.specs.OutcomeByReply.{outcome_after_none}
 use Rattle.signer.specs.declared.refusal.Refusal.TheVariants as refusal
 use Rattle.desk_driver.specs.declared.load_state.LoadState.{LoadState}
 use Rattle.desk_driver.specs.declared.load_state.LoadState.TheVariants as load
@@ -60,7 +63,8 @@ module _ {W : Type 0} (gives : SignOutcome → Type 0) where
   fails-by-target (work.Started x head) candidate e h keeps refused = inr (candidate, h, refused)
   fails-by-target (work.Signed kept) candidate e h keeps refused = let same : candidate ≡ kept = cc in subst (λ head. RefusedAs (RefusesTarget head) e) same refused
 
-module _ {K D L W : Type 0} (v : PolledCall K D L W) (change : StepChange K D) (candidate : Head) (copied : candidate ≡ v.begun.head) where
+module _ {K D L W : Type 0} (v : PolledCall K D L W) (change : StepChange K D) (candidate : Head)
+    (copied : candidate ≡ v.begun.head) where
   -- memory runs out by a clone of a credential that may take some, or of a head
   abbrev HasCause : Event K → Reply K → Type 0
   HasCause event answered = ClonesAreFree v.clones_freely → RunsOutAtHeads event answered
@@ -270,7 +274,9 @@ module _ {K D L W : Type 0} (v : PolledCall K D L W) (change : StepChange K D) w
         (refl, (e, fails)) step (λ free out. absurd (cc)) fails refl refl (refl, same) tt others
 
     -- a head that the service signed
-    module _ (candidate : Head) (gives : v.meaning.work_gives credential (record { answer = polled.Ready tt; candidate = candidate })) (keeps : KeepsWork w (work.Signed candidate)) where
+    module _ (candidate : Head)
+        (gives : v.meaning.work_gives credential (record { answer = polled.Ready tt; candidate = candidate }))
+        (keeps : KeepsWork w (work.Signed candidate)) where
       given : IsVerdictGiven (v.meaning.work_gives credential) w (verdict.Accepted candidate)
       given = accepted-given (v.meaning.work_gives credential) w candidate gives keeps
 

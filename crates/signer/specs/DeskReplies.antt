@@ -7,7 +7,8 @@ use Rattle.sequential_signer.specs.declared.event.Answer.TheVariants as answer
 use Rattle.sequential_signer.specs.declared.event.Event.{Event}
 use Rattle.sequential_signer.specs.declared.event.Event.TheVariants.{Begin, Provided, Signed}
 use Rattle.sequential_signer.specs.declared.event.Reply.{Reply}
-use Rattle.sequential_signer.specs.declared.event.Reply.TheVariants.{Pending, OutOfMemory, Ask, Sign, Refused, Done}
+use Rattle.sequential_signer.specs.declared.event.Reply.TheVariants.{Pending, OutOfMemory, Ask, Sign, Refused}
+use Rattle.sequential_signer.specs.declared.event.Reply.TheVariants.{Done}
 use Rattle.sequential_signer.specs.declared.event.Verdict.{Verdict}
 use Rattle.sequential_signer.specs.declared.event.Verdict.TheVariants as verdict
 use Rattle.sequential_signer.specs.declared.event.Why.{Why}

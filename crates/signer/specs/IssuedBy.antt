@@ -1,23 +1,18 @@
 -- The states of calls that a signer issued.
-use Rattle.std.specs.Prelude.{◌≡◌, ℕ, IsSomeAnd}
+use Rattle.std.specs.Prelude.{◌≡◌, IsSomeAnd}
 use Rattle.sign_desk.specs.DeskState.{DeskState}
 use Rattle.desk_driver.specs.CallAt.{IsWaiting, IsAsking, IsSigning}
-use Rattle.desk_driver.specs.LoadAnswer.{IsLoadKept}
+use Rattle.desk_driver.specs.Meanings.{call_meaning, IsLoadMade}
 use Rattle.signer.specs.ObjectAnswer.{IsWorkKept}
 use Rattle.signer.specs.SignerInvariant.{SignerState}
-use Rattle.signer.specs.SignerObjects.{Meanings, CallMeaning, call_meaning, objects_of}
+use Rattle.signer.specs.SignerObjects.{Meanings, CallMeaning, objects_of}
 use Rattle.signer.specs.BegunCall.{BegunCall}
-use Rattle.desk_driver.specs.declared.load_state.LoadState.{LoadState}
 use Rattle.signer.specs.declared.sign.WorkState.{WorkState}
 use Rattle.signer.specs.declared.sign.SignState.{SignState}
 use Rattle.signer.specs.declared.sign.SignState.TheVariants.{Waiting, Loading, Signing}
 use Rattle.signer.specs.declared.sign.Sign.{Sign}
 
 module _ {K L W : Type 0} (m : CallMeaning K L W) where
-  -- the load was started by the provider last asked, and an answer that is kept is one that it gives
-  abbrev pub IsLoadMade : ℕ → LoadState K L → Type 0
-  IsLoadMade provider l = IsLoadKept (m.load_started provider) (m.load_gives provider) l
-
   -- the work was started with the credential, the candidate is one for the begun head, and an answer that is
   -- kept is one that the service gives
   abbrev pub IsWorkMade : BegunCall → K → WorkState W → Type 0
@@ -29,7 +24,7 @@ module _ {K L W : Type 0} (m : CallMeaning K L W) where
   abbrev pub IsStateIssued : {D : Type 0} → BegunCall → DeskState K D → SignState K L W → Type 0
   IsStateIssued begun desk (Waiting candidate) = IsWaiting begun desk × (candidate ≡ begun.head)
   IsStateIssued begun desk (Loading candidate provider l) =
-      IsAsking begun provider desk × IsLoadMade provider l × (candidate ≡ begun.head)
+      IsAsking begun provider desk × IsLoadMade m provider l × (candidate ≡ begun.head)
   IsStateIssued begun desk (Signing credential w) = IsSigning begun desk × IsWorkMade begun credential w
 
 -- this signer issued this state

@@ -1,5 +1,5 @@
 -- What the calls of a signer do.
-use Rattle.std.specs.Prelude.{◌≡◌, ◌⊎◌, ℕ, ◌+◌}
+use Rattle.std.specs.Prelude.{◌≡◌, ◌⊎◌, ℕ, ◌+◌, IfSome}
 use Rattle.http.specs.declared.request.Parts.{Parts}
 use Rattle.sign_base.specs.Error.{ErrorParts}
 use Rattle.sign_base.specs.declared.call_id.CallId.{CallId}
@@ -9,12 +9,12 @@ use Rattle.sequential_signer.specs.declared.event.Reply.TheVariants.{Begun}
 use Rattle.sign_request.specs.PlainHead.{IsHeadOf, IsUnknownVersion}
 use Rattle.sign_request.specs.Refusal.{IsOutOfMemory, RefusedFor, unknown_version}
 use Rattle.sign_desk.specs.Steps.{IsStep}
+use Rattle.signer.specs.PollEvents.{state_back}
 use Rattle.signer.specs.IssuedBy.{IsIssuedBy}
 use Rattle.signer.specs.SignerInvariant.{SignerState}
 use Rattle.signer.specs.SignerObjects.{Meanings}
 use Rattle.signer.specs.declared.sign.Sign.{Sign}
 use Rattle.signer.specs.declared.sign_poll.SignAnswer.{SignAnswer}
-use Rattle.signer.specs.declared.sign_poll.SignAnswer.TheVariants as answer
 use Rattle.desk_driver.specs.CallNumbers.{used_up}
 
 -- why no call is begun: an allocation failed, the version is unknown, or there is no further number
@@ -37,10 +37,8 @@ module _ {P S K C L W : Type 0} (m : Meanings P S K C L W) where
 
   -- a state that a poll hands back is of the same call, and one that the signer issued
   abbrev pub IsAnswerIssuedBy : SignerState P S K C → CallId → SignAnswer P S K C L C W K → Type 0
-  IsAnswerIssuedBy signer call (answer.Pending sign) = (sign.begun.id ≡ call) × IsIssuedBy m signer sign
-  IsAnswerIssuedBy signer call (answer.OutOfMemory sign) = (sign.begun.id ≡ call) × IsIssuedBy m signer sign
-  IsAnswerIssuedBy signer call answer.Done = Unit {0}
-  IsAnswerIssuedBy signer call (answer.Refused refused) = Unit {0}
+  IsAnswerIssuedBy signer call given =
+      IfSome (state_back given) (λ sign. (sign.begun.id ≡ call) × IsIssuedBy m signer sign)
 
   -- a call that was begun: the next number, the request's head, and the event of the desk
   pub record Begins (policy : Policy K S) (change : SignerChange P S K C) (parts : Parts)

@@ -2,7 +2,7 @@
 use Rattle.std.specs.Prelude.{◌≡◌, ℕ, ◌<◌, ◌≤◌, ◌++◌, List, [], ◌∷◌, true, length, map, slice_get, IfSome}
 use Rattle.credentials.specs.declared.providers.Providers.{Providers}
 use Rattle.sign_request.specs.Keys.{no_keys}
-use Rattle.sign_request.specs.declared.header_keys.HeaderKeys.{HeaderKeys}
+use Rattle.sign_request.specs.declared.header_seeds.HeaderSeeds.{HeaderSeeds}
 use Rattle.sequential_signer.specs.Setup.{Handle}
 use Rattle.sequential_signer.specs.Policy.{Policy}
 use Rattle.sign_desk.specs.DeskState.{DeskState, Represents, with_cache}
@@ -20,7 +20,7 @@ pub record SignerState (P S K C : Type 0) : Type 0 where
   pub contexts : List C
   pub context_places : List ℕ
   pub begun : ℕ
-  pub keys : HeaderKeys
+  pub keys : HeaderSeeds
 
 -- each cache has its providers, each handle its cache, its service and its context, and the number
 -- of the next call is above all
@@ -38,7 +38,11 @@ module _ {P S K C : Type 0} where
   -- a signer with one handle: an empty cache with these providers, this context and this service
   pub record IsNewSigner (policy : Policy K S) (ctx : C) (loader : Providers P) (service : S)
       (signer : SignerState P S K C) : Type 0 where
-    pub setup : setup_of signer.desk ≡ record { loaders = loader_for loader ∷ []; rules = service ∷ []; handles = record { cache = 0; rule = 0 } ∷ [] }
+    pub setup : setup_of signer.desk ≡ record {
+      loaders = loader_for loader ∷ [];
+      rules = service ∷ [];
+      handles = record { cache = 0; rule = 0 } ∷ [];
+    }
     pub represents : Represents policy signer.desk []
     pub providers_are : signer.providers ≡ loader ∷ []
     pub contexts_are : signer.contexts ≡ ctx ∷ []

@@ -9,7 +9,8 @@ use Rattle.sign_desk.specs.DeskState.{DeskState}
 use Rattle.sign_desk.specs.Steps.{IsStep}
 use Rattle.desk_driver.specs.CallAt.{LeavesOthers}
 use Rattle.signer.specs.IssuedBy.{IsStateIssued}
-use Rattle.signer.specs.Course.{PollEnd, Pends, Finishes, Refuses, RunsOut, PollRun, PolledCall, IsGiven, IsCourse, candidate_of, state_after, wake_in, wakes_in}
+use Rattle.signer.specs.PollEvents.{PollEnd, Pends, Finishes, Refuses, RunsOut, PollRun, PolledCall, IsGiven}
+use Rattle.signer.specs.PollEvents.{IsEventSequence, candidate_of, state_after, wake_in, wakes_in}
 use Rattle.signer.specs.BegunCall.{BegunCall}
 use Rattle.signer.specs.declared.sign.SignState.{SignState}
 use Rattle.signer.specs.declared.sign.SignState.TheVariants.{Waiting, Loading, Signing}
@@ -18,7 +19,7 @@ use Rattle.signer.specs.declared.sign_poll.SignAnswer.TheVariants as answer
 use Rattle.signer.specs.declared.step_outcome.StepEnd.{StepEnd}
 use Rattle.signer.specs.declared.step_outcome.StepEnd.TheVariants.{Pending, Done, Refused, OutOfMemory}
 use Rattle.signer.specs.declared.step_outcome.StepFlow.{StepFlow}
-use Rattle.signer.specs.declared.step_outcome.StepFlow.TheVariants.{On, Over}
+use Rattle.signer.specs.declared.step_outcome.StepFlow.TheVariants.{Continue, Stop}
 use Rattle.signer.specs.declared.step_outcome.StepOutcome.{StepOutcome}
 
 -- the desk and the request, before and after a step
@@ -84,7 +85,7 @@ module _ {K D L W : Type 0} (v : PolledCall K D L W) where
   pub record Ends (state : SignState K L W) (change : StepChange K D) (wake : Option CallId)
       (end : StepEnd K L W) : Type 0 where
     pub run : PollRun K L W
-    pub course : IsCourse v state change.old run change.new
+    pub course : IsEventSequence v state change.old run change.new
     pub ended : IsStepEnd end change.before change.after run.end
     pub named : wakes_in run.entries ≡ option_to_list wake
     pub quiet : NamesNobody state wake
@@ -93,8 +94,8 @@ module _ {K D L W : Type 0} (v : PolledCall K D L W) where
 
   -- what the step came to
   abbrev pub Goes : SignState K L W → StepChange K D → Option CallId → StepFlow K L W → Type 0
-  Goes state change wake (On next) = GoesOn state change wake next
-  Goes state change wake (Over end) = Ends state change wake end
+  Goes state change wake (Continue next) = GoesOn state change wake next
+  Goes state change wake (Stop end) = Ends state change wake end
 
   -- the step of a call in this state
   abbrev pub IsStepOutcome : SignState K L W → StepChange K D → StepOutcome K L W → Type 0

@@ -1,7 +1,7 @@
 //! The objects that a call works with, beside its service, which is a rule of the desk.
 
 use credentials::Providers;
-use sign_request::HeaderKeys;
+use sign_request::HeaderSeeds;
 use std::alloc::Global;
 
 /// The providers and the context of a call, and the keys of the header maps that are made for it.
@@ -10,5 +10,5 @@ pub(crate) struct CallObjects<'a, P, C> {
     pub(crate) alloc: Global,
     pub(crate) providers: &'a Providers<P>,
     pub(crate) ctx: &'a C,
-    pub(crate) keys: HeaderKeys,
+    pub(crate) keys: HeaderSeeds,
 }

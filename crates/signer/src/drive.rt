@@ -1,31 +1,72 @@
 //! The steps that a signer makes of a call. It knows where the call is, so each step has few replies.
-ghost use Rattle.std.specs.Prelude.{◌≡◌, IsSome, IfOk, IfSome, OnOk, OnErr, None, true, slice_get};
+ghost use Rattle.std.specs.Prelude.{◌≡◌, ◌⊎◌, IsSome, IfOk, IfErr, IfSome, OnOk, OnErr, None, true};
+ghost use Rattle.std.specs.Prelude.{slice_get};
 ghost use Rattle.sequential_signer.specs.Policy.{policy_of};
 ghost use Rattle.sequential_signer.specs.declared.event.Answer.TheVariants as answer;
-ghost use Rattle.sequential_signer.specs.declared.event.Event.TheVariants.{Begin, Cancel, Poll, Provided, Signed};
+ghost use Rattle.sequential_signer.specs.declared.event.Event.TheVariants.{Begin, Cancel, Poll, Provided};
+ghost use Rattle.sequential_signer.specs.declared.event.Event.TheVariants.{Signed};
 ghost use Rattle.sequential_signer.specs.declared.event.Reply.TheVariants.{Begun, Cancelled, Refused};
 ghost use Rattle.sequential_signer.specs.declared.event.Verdict.TheVariants as verdict;
 ghost use Rattle.sequential_signer.specs.declared.event.Why.TheVariants as why;
 ghost use Rattle.sign_desk.specs.Steps.{IsStep};
+ghost use Rattle.sign_request.specs.PlainHead.{IsHeadOf, IsUnknownVersion};
+ghost use Rattle.sign_request.specs.Refusal.{IsOutOfMemory, RefusedFor, unknown_version};
 ghost use Rattle.desk_parts.specs.Memory.{ClonesAreFree};
 ghost use Rattle.sign_desk.specs.Memory.{RunsOutAtHeads};
 ghost use Rattle.desk_driver.specs.CallAt.{IsLive, IsWaiting, IsAsking, IsSigning, LeavesOthers};
-ghost use Rattle.signer.specs.DeskReplies.{IsBegun, AfterPoll, AfterFound, AfterNone, AfterAccepted, begun_in_event, found_in_event, found_in_answer, accepted_in_event, accepted_in_verdict};
+ghost use Rattle.signer.specs.DeskReplies.{IsBegun, AfterPoll, AfterFound, AfterNone, AfterAccepted};
+ghost use Rattle.signer.specs.DeskReplies.{begun_in_event, found_in_event, found_in_answer};
+ghost use Rattle.signer.specs.DeskReplies.{accepted_in_event, accepted_in_verdict};
 ghost use Rattle.sequential_signer.specs.LiveCall.{is_above};
 
 use desk_driver::BegunCall;
+use http::request::Parts;
 use sequential_signer::{Answer, DeadlineRule, Event, Reply, SigningCredential, Verdict};
-use sign_base::{CallId, Head, NoMemory, Timestamp};
+use sign_base::{CallId, Error, Head, NoMemory, Timestamp};
 use sign_desk::Desk;
+use sign_request::head_of;
+use std::alloc::Global;
 use std::time::Duration;
 
 /// The number of an error in the desk's events. The error itself stays with the signer.
 const ERROR: u64 = 0;
 
-/// Begins the call of this name, with a number above all of its handle. The head is handed back.
+/// Begins the call of this name with the head of the request, and hands out a copy of it for the service.
+/// An error begins nothing.
+pub(crate) fn begin_request<K: SigningCredential, D: DeadlineRule<Credential = K>>(
+    desk: &mut Desk<K, D>,
+    alloc: Global,
+    call: CallId,
+    req: &Parts,
+    expires_in: Option<Duration>,
+) -> Result<(BegunCall<Head>, Head), Error>
+    requires there { IsSome (slice_get desk.old.handles call.handle) }
+    requires above { IfSome (slice_get desk.old.greatest call.handle)
+        (λ greatest. is_above call.number greatest ≡ true) }
+    ensures named { IfOk result (λ r. (r.0.id ≡ call) × (r.0.expires_in ≡ expires_in)) }
+    ensures head { IfOk result (λ r. IsHeadOf req.now r.0.head × (r.1 ≡ r.0.head)) }
+    ensures step { IfOk result (λ r. IsStep (policy_of K.valid K.valid_at D.deadline)
+        (Begin r.0.id r.0.head r.0.expires_in) desk.old Begun desk.new) }
+    ensures begun { IfOk result (λ r. IsBegun r.0 desk.old desk.new) }
+    ensures err { IfErr result (λ e. IsOutOfMemory e
+        ⊎ RefusedFor unknown_version (IsUnknownVersion req.now.version) e) }
+    ensures unchanged { OnErr result (desk.new ≡ desk.old) }
+{
+    let head = head_of(alloc, req)?;
+    let candidate = head.try_clone(alloc)?;
+    let head = begin_call(desk, call, head, expires_in)?;
+    let begun = BegunCall {
+        id: call,
+        head,
+        expires_in,
+    };
+    Ok((begun, candidate))
+}
+
+/// Begins the call of this name. The head is handed back.
 ///
 /// Where there is no memory, nothing changes.
-pub(crate) fn begin_call<K: SigningCredential, D: DeadlineRule<Credential = K>>(
+fn begin_call<K: SigningCredential, D: DeadlineRule<Credential = K>>(
     desk: &mut Desk<K, D>,
     call: CallId,
     head: Head,
@@ -98,7 +139,7 @@ pub(crate) fn poll_call<K: SigningCredential, D: DeadlineRule<Credential = K>>(
 }
 
 /// A credential that the asked provider found, which is handed back beside the reply.
-pub(crate) fn give_found<K: SigningCredential, D: DeadlineRule<Credential = K>>(
+pub(crate) fn report_found<K: SigningCredential, D: DeadlineRule<Credential = K>>(
     desk: &mut Desk<K, D>,
     begun: &BegunCall<Head>,
     provider: u32,
@@ -126,7 +167,7 @@ pub(crate) fn give_found<K: SigningCredential, D: DeadlineRule<Credential = K>>(
 }
 
 /// The asked provider has no credential.
-pub(crate) fn give_missing<K: SigningCredential, D: DeadlineRule<Credential = K>>(
+pub(crate) fn report_missing<K: SigningCredential, D: DeadlineRule<Credential = K>>(
     desk: &mut Desk<K, D>,
     begun: &BegunCall<Head>,
     provider: u32,
@@ -150,7 +191,7 @@ pub(crate) fn give_missing<K: SigningCredential, D: DeadlineRule<Credential = K>
 }
 
 /// The asked provider failed.
-pub(crate) fn give_failed<K: SigningCredential, D: DeadlineRule<Credential = K>>(
+pub(crate) fn report_failed_load<K: SigningCredential, D: DeadlineRule<Credential = K>>(
     desk: &mut Desk<K, D>,
     begun: &BegunCall<Head>,
     provider: u32,
@@ -174,7 +215,7 @@ pub(crate) fn give_failed<K: SigningCredential, D: DeadlineRule<Credential = K>>
 }
 
 /// The service signed this head, which is handed back beside the reply.
-pub(crate) fn give_accepted<K: SigningCredential, D: DeadlineRule<Credential = K>>(
+pub(crate) fn report_signed<K: SigningCredential, D: DeadlineRule<Credential = K>>(
     desk: &mut Desk<K, D>,
     begun: &BegunCall<Head>,
     candidate: Head,
@@ -196,7 +237,7 @@ pub(crate) fn give_accepted<K: SigningCredential, D: DeadlineRule<Credential = K
 }
 
 /// The service failed.
-pub(crate) fn give_rejected<K: SigningCredential, D: DeadlineRule<Credential = K>>(
+pub(crate) fn report_failed_sign<K: SigningCredential, D: DeadlineRule<Credential = K>>(
     desk: &mut Desk<K, D>,
     begun: &BegunCall<Head>,
 )

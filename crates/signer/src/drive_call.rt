@@ -43,8 +43,8 @@ where
         let taken = step(desk, objects, &begun, now, state, req);
         wake = wake.or(taken.wake);
         match taken.flow {
-            StepFlow::On(next) => state = next,
-            StepFlow::Over(end) => {
+            StepFlow::Continue(next) => state = next,
+            StepFlow::Stop(end) => {
                 return SignPoll {
                     answer: answer_of(begun, end),
                     wake,

@@ -1,4 +1,6 @@
 //! What a signer keeps of a call between its polls. Its caller holds it, and hands it in at each poll.
+ghost use Rattle.std.specs.Prelude.{Some, codes};
+ghost use Rattle.std.specs.Fmt.{DisplaysOnOk, WritesStyledOnOk};
 
 use credentials::{ProvideCredential, SignRequest};
 use desk_driver::{BegunCall, LoadState};
@@ -23,7 +25,11 @@ pub(crate) enum SignState<K, L, W> {
     /// It waits for its turn.
     Waiting(Head),
     /// The provider with this number was asked.
-    Loading(Head, u32, LoadState<K, L>),
+    Loading {
+        candidate: Head,
+        provider: u32,
+        load: LoadState<K, L>,
+    },
     /// The service signs with this credential.
     Signing(K, WorkState<W>),
 }
@@ -36,11 +42,14 @@ pub struct Sign<P: ProvideCredential, S: SignRequest> {
     pub(crate) state: SignState<P::Credential, P::Load, S::Work>,
 }
 
-/// Shows which call it is, and neither its head nor a credential.
+/// Shows neither its head nor a credential, whatever the formatter.
 impl<P: ProvideCredential, S: SignRequest> fmt::Debug for Sign<P, S> {
-    fn fmt<W: fmt::Write>(&self, f: &mut fmt::Formatter<W>) -> fmt::Result {
-        let mut parts = f.debug_struct("Sign");
-        parts.field("call", &self.begun.id);
-        parts.finish()
+    ghost debug_output = { λ _. Some (codes "Sign(***)") };
+
+    fn fmt<W: fmt::Write>(&self, f: &mut fmt::Formatter<W>) -> fmt::Result
+        ensures writes { DisplaysOnOk W.write_str_gives f.old result (Some (codes "Sign(***)")) f.new }
+        ensures styled { WritesStyledOnOk W.write_str_gives f.old result (codes "Sign(***)") f.new }
+    {
+        f.write_str("Sign(***)")
     }
 }

@@ -1,4 +1,6 @@
 //! What a poll of a signer answers.
+ghost use Rattle.std.specs.Fmt.{DisplaysOnOk, DisplaysStyledOnOk};
+ghost use Rattle.signer.specs.DebugText.{answer_text};
 
 use crate::refusal::Refusal;
 use crate::sign::Sign;
@@ -27,14 +29,19 @@ pub struct SignPoll<P: ProvideCredential, S: SignRequest> {
     pub wake: Option<CallId>,
 }
 
-/// Shows which call it is, and neither its head nor a credential.
+/// Shows neither a head nor a credential, whatever the formatter.
 impl<P: ProvideCredential, S: SignRequest> fmt::Debug for SignAnswer<P, S> {
-    fn fmt<W: fmt::Write>(&self, f: &mut fmt::Formatter<W>) -> fmt::Result {
+    ghost debug_output = { answer_text };
+
+    fn fmt<W: fmt::Write>(&self, f: &mut fmt::Formatter<W>) -> fmt::Result
+        ensures writes { DisplaysOnOk W.write_str_gives f.old result (answer_text self.now) f.new }
+        ensures styled { DisplaysStyledOnOk W.write_str_gives f.old result (answer_text self.now) f.new }
+    {
         match self {
-            SignAnswer::Pending(sign) => f.debug_tuple("Pending").field(sign).finish(),
+            SignAnswer::Pending(_) => f.write_str("Pending(***)"),
             SignAnswer::Done => f.write_str("Done"),
             SignAnswer::Refused(why) => f.debug_tuple("Refused").field(why).finish(),
-            SignAnswer::OutOfMemory(sign) => f.debug_tuple("OutOfMemory").field(sign).finish(),
+            SignAnswer::OutOfMemory(_) => f.write_str("OutOfMemory(***)"),
         }
     }
 }

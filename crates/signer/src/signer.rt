@@ -2,35 +2,37 @@
 //!
 //! Contracts see a signer as the record `SignerState`. A call's state is in its caller's hands between
 //! polls; `IsIssuedBy` says that this signer issued it.
-ghost use Rattle.std.specs.Prelude.{◌≡◌, ◌<◌, Some, None, [], length, OnOk, OnErr, IfOk, IfErr, IfSome, IsSome, option_and_then, option_copied, slice_get, slice_index};
+ghost use Rattle.std.specs.Prelude.{◌≡◌, ◌<◌, Some, None, [], length, OnOk, OnErr, IfOk, IfErr, IfSome};
+ghost use Rattle.std.specs.Prelude.{IsSome, option_and_then, option_copied, slice_get, slice_index};
 ghost use Rattle.sequential_signer.specs.Policy.{policy_of};
 ghost use Rattle.sequential_signer.specs.declared.event.Event.TheVariants.{Cancel};
 ghost use Rattle.sequential_signer.specs.declared.event.Reply.TheVariants.{Cancelled};
 ghost use Rattle.desk_parts.specs.Adding.{late_refusal, AddAnswer, AddAnswerBack, with_handle, with_rule};
 ghost use Rattle.sign_desk.specs.DeskState.{with_cache, Represents};
-ghost use Rattle.signer.specs.Course.{IsPoll, polled_call};
+ghost use Rattle.signer.specs.PollEvents.{IsPoll, polled_call};
 ghost use Rattle.signer.specs.IssuedBy.{IsIssuedBy};
 ghost use Rattle.signer.specs.SignerCalls.{Begins, RefusesToBegin, KeepsOthers, IsAnswerIssuedBy};
 ghost use Rattle.desk_driver.specs.ProviderList.{AreFew, loader_for};
-ghost use Rattle.signer.specs.SignerInvariant.{IsNewSigner, with_context_handle, with_service_handle, with_cache_handle};
+ghost use Rattle.signer.specs.SignerInvariant.{IsNewSigner, with_context_handle, with_service_handle};
+ghost use Rattle.signer.specs.SignerInvariant.{with_cache_handle};
 ghost use Rattle.signer.specs.SignerObjects.{meanings_of, objects_of};
 ghost use Rattle.desk_driver.specs.Objects.{Objects};
 ghost use Rattle.sign_desk.specs.Steps.{IsStep};
 
 use crate::call_objects::CallObjects;
-use crate::drive::{begin_call, cancel_call};
+use crate::drive::{begin_request, cancel_call};
 use crate::drive_call::drive;
 use crate::handle_room::{FirstRoom, make_room};
 use crate::sign::{Sign, SignState};
 use crate::sign_poll::SignPoll;
 use credentials::{ProvideCredential, Providers, SignRequest};
-use desk_driver::{BegunCall, loader_of};
+use desk_driver::loader_of;
 use desk_parts::AddRefused;
 use http::request::Parts;
 use sequential_signer::{DeadlineRule, SigningCredential};
 use sign_base::{CallId, Error, NoMemory, Timestamp};
 use sign_desk::Desk;
-use sign_request::{HeaderKeys, head_of};
+use sign_request::HeaderSeeds;
 use std::alloc::Global;
 use std::fmt;
 use std::marker::Model;
@@ -47,7 +49,7 @@ where
     S: SignRequest<Credential = P::Credential, Ctx = P::Ctx>,
 {
     pub(crate) alloc: Global,
-    pub(crate) keys: HeaderKeys,
+    pub(crate) keys: HeaderSeeds,
     pub(crate) desk: Desk<P::Credential, S>,
     /// The providers of each cache.
     pub(crate) providers: Vec<Providers<P>>,
@@ -83,8 +85,6 @@ where
     /// A signer with handle 0: an empty cache with these providers, this context and this service.
     ///
     /// Where there is no memory, all three come back.
-    ///
-    /// Requires a chain of at most 4,294,967,295 providers.
     pub fn new(
         alloc: Global,
         ctx: P::Ctx,
@@ -108,14 +108,14 @@ where
             mut contexts,
             mut context_places,
         } = room;
-        match desk.add_handle_with_rule(0, builder) {
+        match desk.add_rule_and_handle(0, builder) {
             Ok(_) => {
                 providers.push_reserved(loader);
                 contexts.push_reserved(ctx);
                 context_places.push_reserved(0);
                 Ok(Signer {
                     alloc,
-                    keys: HeaderKeys::default(),
+                    keys: HeaderSeeds::default(),
                     desk,
                     providers,
                     contexts,
@@ -131,7 +131,7 @@ where
 
     /// The signer with these keys for the header maps that its requests get, where the names of headers
     /// come from outside. No answer depends on them.
-    pub fn with_header_keys(self, keys: HeaderKeys) -> Self
+    pub fn with_header_seeds(self, keys: HeaderSeeds) -> Self
         ensures { result ≡ record self { keys = keys } }
     {
         Signer { keys, ..self }
@@ -142,8 +142,6 @@ where
     ///
     /// Errors: `Late` where a call was begun, `OutOfMemory`. An error changes nothing, and hands the
     /// context back.
-    ///
-    /// Requires a handle that is there, and fewer than 4,294,967,295 handles.
     pub fn with_context(&mut self, handle: u32, ctx: P::Ctx) -> Result<u32, AddRefused<P::Ctx>>
         requires handle { handle < length self.old.desk.handles }
         requires room { length self.old.desk.handles < 4294967295 }
@@ -178,8 +176,6 @@ where
     ///
     /// Errors: `Late` where a call was begun, `OutOfMemory`. An error changes nothing, and hands the
     /// service back.
-    ///
-    /// Requires a handle that is there, and fewer than 4,294,967,295 handles.
     pub fn with_request_signer(&mut self, handle: u32, builder: S) -> Result<u32, AddRefused<S>>
         requires handle { handle < length self.old.desk.handles }
         requires room { length self.old.desk.handles < 4294967295 }
@@ -201,7 +197,7 @@ where
         ) {
             return Err(AddRefused { why, back: builder });
         }
-        let number = self.desk.add_handle_with_rule(like.cache, builder)?;
+        let number = self.desk.add_rule_and_handle(like.cache, builder)?;
         self.context_places.push_reserved(place);
         Ok(number)
     }
@@ -211,9 +207,6 @@ where
     ///
     /// Errors: `Late` where a call was begun, `OutOfMemory`. An error changes nothing, and hands the
     /// providers back.
-    ///
-    /// Requires a handle that is there, fewer than 4,294,967,295 handles, and a chain of at most as
-    /// many providers.
     pub fn with_credential_provider(
         &mut self,
         handle: u32,
@@ -240,7 +233,7 @@ where
             return Err(AddRefused { why, back: loader });
         }
         let loads = loader_of(&loader);
-        match self.desk.add_handle_with_cache(loads, like.rule) {
+        match self.desk.add_cache_and_handle(loads, like.rule) {
             Ok(number) => {
                 self.context_places.push_reserved(place);
                 self.providers.push_reserved(loader);
@@ -250,12 +243,18 @@ where
         }
     }
 
-    /// Begins a call under this handle, to sign this request for so long.
+    /// Begins a call under this handle, and hands out its state for `poll`. Nothing is loaded or signed yet,
+    /// and the request is only read: the call keeps a copy of its head, so polls hand in the same one.
     ///
-    /// `RequestInvalid` where the version of the request is unknown, or where 18,446,744,073,709,551,615
-    /// calls were begun. `OutOfMemory` where an allocation failed. An error begins nothing.
+    /// The URI has an authority, and is percent-encoded as it is to go out. `expires_in` is for the service
+    /// and its deadline: how long what is signed is to hold, where the service asks for that.
     ///
-    /// Requires a handle that is there.
+    /// The caller polls the state until the call is over, or hands it to `cancel`. A state that is dropped
+    /// leaves the calls of its cache behind it waiting.
+    ///
+    /// Errors: `RequestInvalid` where the version of the request is unknown, or where
+    /// 18,446,744,073,709,551,615 calls were begun; `OutOfMemory` where an allocation failed. An error
+    /// begins nothing.
     pub fn sign(
         &mut self,
         handle: u32,
@@ -271,33 +270,47 @@ where
         ensures err { IfErr result (RefusesToBegin req.now self.old.begun) }
         ensures unchanged { OnErr result (self.new ≡ self.old) }
     {
-        let head = head_of(self.alloc, req)?;
         if self.begun == u64::MAX {
             return Err(Error::request_invalid(self.alloc, USED_UP)?);
         }
-        let candidate = head.try_clone(self.alloc)?;
         let id = CallId {
             handle,
             number: self.begun,
         };
-        let head = begin_call(&mut self.desk, id, head, expires_in)?;
+        let call = begin_request(&mut self.desk, self.alloc, id, req, expires_in)?;
         self.begun += 1;
-        let begun = BegunCall {
-            id,
-            head,
-            expires_in,
-        };
         Ok(Sign {
-            begun,
-            state: SignState::Waiting(candidate),
+            begun: call.0,
+            state: SignState::Waiting(call.1),
         })
     }
 
-    /// Goes on with a call, as far as its objects answer now. `now` is the moment of all that happens
-    /// in this poll. On `Done` the request has the signed URI and headers; on every other answer it is
-    /// as it was.
+    /// Goes on with a call, as far as its objects answer now: it looks at the cache, polls the provider that
+    /// is asked, and then the service. It does not block. `req` is the request with which the call was
+    /// begun, and `now` the moment of the poll, by which it is judged what a credential is good for.
     ///
-    /// Requires a state that this signer made.
+    /// - `Pending`: poll again when a `wake` names the call, or when its provider or its service may have
+    ///   answered. An earlier poll does no harm.
+    /// - `Done`: the request has the signed URI and headers, and the method, version and extensions that it
+    ///   had. Send it.
+    /// - `Refused`: the call is over; `into_error` makes an error of the cause.
+    /// - `OutOfMemory`: poll again when there may be memory. What was answered before is kept.
+    ///
+    /// But for `Done` the request is as it was. A poll that comes to sign, or that is refused, ends its
+    /// call's hold of the cache, and `wake` names the call whose turn that makes it: poll that one next, also
+    /// where this one is `Pending` or `OutOfMemory`.
+    ///
+    /// ```text
+    /// let sign = signer.sign(0, &req, None)?;
+    /// let SignPoll { answer, wake } = signer.poll(sign, &mut req, now);
+    /// match answer {
+    ///     SignAnswer::Done => send(req),
+    ///     SignAnswer::Refused(why) => return Err(why.into_error(alloc, Key::NAME)?),
+    ///     SignAnswer::Pending(sign) | SignAnswer::OutOfMemory(sign) => later.push(sign)?,
+    /// }
+    /// ```
+    ///
+    /// `told_call` of `signer_tests` drives one call so, and `eight_calls_sign_with_one_load` eight.
     pub fn poll(&mut self, sign: Sign<P, S>, req: &mut Parts, now: Timestamp) -> SignPoll<P, S>
         requires { IsIssuedBy (meanings_of P.ProvideCredential S.SignRequest.own) self.old sign }
         ensures poll { (o : Objects P S P.Ctx) → objects_of self.old sign.begun.id.handle ≡ Some o
@@ -325,9 +338,8 @@ where
         drive(&mut self.desk, &objects, sign, req, now)
     }
 
-    /// Gives a call up, and names the call that has its turn by this. It takes no memory.
-    ///
-    /// Requires a state that this signer made.
+    /// Gives a call up, and names the call that has its turn by this, which the caller polls next. It takes
+    /// no memory.
     pub fn cancel(&mut self, sign: Sign<P, S>) -> Option<CallId>
         requires { IsIssuedBy (meanings_of P.ProvideCredential S.SignRequest.own) self.old sign }
         ensures step { IsStep (policy_of P.Credential.valid P.Credential.valid_at S.deadline)

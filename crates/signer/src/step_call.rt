@@ -9,17 +9,19 @@ ghost use Rattle.signer.specs.declared.sign.SignState.TheVariants.{Loading, Sign
 ghost use Rattle.signer.specs.declared.sign.WorkState.{WorkState};
 ghost use Rattle.signer.specs.declared.sign.WorkState.TheVariants as work_state;
 ghost use Rattle.signer.specs.declared.step_outcome.StepEnd.TheVariants.{OutOfMemory};
-ghost use Rattle.signer.specs.declared.step_outcome.StepFlow.TheVariants.{Over};
+ghost use Rattle.signer.specs.declared.step_outcome.StepFlow.TheVariants.{Stop};
 
 use crate::call_objects::CallObjects;
-use crate::drive::{give_failed, give_found, give_missing, give_rejected, poll_call};
+use crate::drive::{
+    poll_call, report_failed_load, report_failed_sign, report_found, report_missing,
+};
 use crate::object_answer::WorkAnswer;
 use crate::refusal::Refusal;
 use crate::sign::{SignState, WorkState};
 use crate::signer_objects::poll_service;
 use crate::step_outcome::{StepEnd, StepOutcome};
 use crate::step_reply::{after_found, after_none, after_poll};
-use crate::target::{hand_in, target_of};
+use crate::target::{commit_signed_head, target_of};
 use credentials::{ProvideCredential, SignRequest};
 use desk_driver::{BegunCall, LoadAnswer, LoadState, poll_provider, provider_at};
 use http::request::Parts;
@@ -50,9 +52,11 @@ where
 {
     match state {
         SignState::Waiting(candidate) => after_poll(candidate, poll_call(desk, begun, now)),
-        SignState::Loading(candidate, provider, load) => {
-            step_loading(desk, objects, begun, now, candidate, provider, load)
-        }
+        SignState::Loading {
+            candidate,
+            provider,
+            load,
+        } => { step_loading(desk, objects, begun, now, candidate, provider, load) }
         SignState::Signing(credential, work) => {
             step_signing(desk, objects, begun, now, credential, work, req)
         }
@@ -76,31 +80,41 @@ where
     requires there { IsSome (service_of desk.old begun.now.id.handle) }
     requires loads { loader_of desk.old begun.now.id.handle ≡ Some (loader_for objects.now.providers.now) }
     requires issued { IsIssuedFor (poll_context P.Credential.SigningCredential P.ProvideCredential
-        S.DeadlineRule S.SignRequest.own objects.now begun.now now) desk.old (Loading candidate provider load) }
-    ensures { (request : Parts) → IsOutcomeWith (poll_context P.Credential.SigningCredential P.ProvideCredential
+        S.DeadlineRule S.SignRequest.own objects.now begun.now now) desk.old
+        (Loading candidate provider load) }
+    ensures { (request : Parts) → IsOutcomeWith
+        (poll_context P.Credential.SigningCredential P.ProvideCredential
         S.DeadlineRule S.SignRequest.own objects.now begun.now now) (Loading candidate provider load)
         (record { old = desk.old; new = desk.new; before = request; after = request }) result }
 {
     let asked = provider_at(objects.providers, provider).unwrap();
     match poll_provider(objects.alloc, asked, objects.ctx, load) {
         LoadAnswer::Pending(load) => {
-            let state = SignState::Loading(candidate, provider, LoadState::Started(load));
-            StepOutcome::over(StepEnd::Pending(state))
+            let state = SignState::Loading {
+                candidate,
+                provider,
+                load: LoadState::Started(load),
+            };
+            StepOutcome::stop(StepEnd::Pending(state))
         }
         LoadAnswer::OutOfMemory(load) => {
-            let state = SignState::Loading(candidate, provider, load);
-            StepOutcome::over(StepEnd::OutOfMemory(state))
+            let state = SignState::Loading {
+                candidate,
+                provider,
+                load,
+            };
+            StepOutcome::stop(StepEnd::OutOfMemory(state))
         }
         LoadAnswer::Found(credential) => {
-            let (reply, found) = give_found(desk, begun, provider, now, credential);
+            let (reply, found) = report_found(desk, begun, provider, now, credential);
             after_found(candidate, provider, found, reply)
         }
         LoadAnswer::Missing => {
-            let reply = give_missing(desk, begun, provider, now);
+            let reply = report_missing(desk, begun, provider, now);
             after_none(candidate, Refusal::Missing, reply)
         }
         LoadAnswer::Failed(e) => {
-            let reply = give_failed(desk, begun, provider, now);
+            let reply = report_failed_load(desk, begun, provider, now);
             after_none(candidate, Refusal::Loader(e), reply)
         }
     }
@@ -138,13 +152,13 @@ where
     ) {
         WorkAnswer::Pending(work, candidate) => {
             let state = SignState::Signing(credential, WorkState::Started(work, candidate));
-            StepOutcome::over(StepEnd::Pending(state))
+            StepOutcome::stop(StepEnd::Pending(state))
         }
         WorkAnswer::OutOfMemory(work) => {
-            StepOutcome::over(StepEnd::OutOfMemory(SignState::Signing(credential, work)))
+            StepOutcome::stop(StepEnd::OutOfMemory(SignState::Signing(credential, work)))
         }
         WorkAnswer::Failed(e) => {
-            give_rejected(desk, begun);
+            report_failed_sign(desk, begun);
             StepOutcome::refused(Refusal::Service(e), None)
         }
         WorkAnswer::Signed(candidate) => {
@@ -169,21 +183,22 @@ where
     S: SignRequest<Credential = P::Credential, Ctx = P::Ctx>,
     requires there { IsSome (service_of desk.old begun.now.id.handle) }
     requires issued { IsIssuedFor (poll_context P.Credential.SigningCredential P.ProvideCredential
-        S.DeadlineRule S.SignRequest.own objects.now begun.now _now) desk.old (Signing credential (work_state.Signed candidate)) }
+        S.DeadlineRule S.SignRequest.own objects.now begun.now _now) desk.old
+        (Signing credential (work_state.Signed candidate)) }
     ensures { (work : WorkState S.Work) → KeepsWork work (work_state.Signed candidate)
         → IsOutcomeWith (poll_context P.Credential.SigningCredential P.ProvideCredential
         S.DeadlineRule S.SignRequest.own objects.now begun.now _now) (Signing credential work)
         (record { old = desk.old; new = desk.new; before = req.old; after = req.new }) result }
 {
     match target_of(objects.alloc, &candidate, objects.keys) {
-        Ok(target) => match hand_in(desk, begun, candidate, target, req) {
-            None => StepOutcome::over(StepEnd::Done),
+        Ok(target) => match commit_signed_head(desk, begun, candidate, target, req) {
+            None => StepOutcome::stop(StepEnd::Done),
             Some(candidate) => keep(credential, candidate),
         },
         Err(e) => match e.kind() {
             ErrorKind::OutOfMemory => keep(credential, candidate),
             _ => {
-                give_rejected(desk, begun);
+                report_failed_sign(desk, begun);
                 StepOutcome::refused(Refusal::Service(e), None)
             }
         },
@@ -193,8 +208,8 @@ where
 /// There was no memory to take the head that the service signed.
 fn keep<K, L, W>(credential: K, candidate: Head) -> StepOutcome<K, L, W>
     ensures { result ≡
-        record { flow = Over (OutOfMemory (Signing credential (work_state.Signed candidate))); wake = None } }
+        record { flow = Stop (OutOfMemory (Signing credential (work_state.Signed candidate))); wake = None } }
 {
     let state = SignState::Signing(credential, WorkState::Signed(candidate));
-    StepOutcome::over(StepEnd::OutOfMemory(state))
+    StepOutcome::stop(StepEnd::OutOfMemory(state))
 }

@@ -1,6 +1,6 @@
 //! What one step of a call comes to: the poll goes on, or it is over.
 ghost use Rattle.std.specs.Prelude.{◌≡◌, None};
-ghost use Rattle.signer.specs.declared.step_outcome.StepFlow.TheVariants.{On, Over};
+ghost use Rattle.signer.specs.declared.step_outcome.StepFlow.TheVariants.{Continue, Stop};
 ghost use Rattle.signer.specs.declared.step_outcome.StepEnd.TheVariants.{Refused};
 
 use crate::refusal::Refusal;
@@ -20,8 +20,8 @@ pub(crate) enum StepEnd<K, L, W> {
 #[derive(Drop)]
 pub(crate) enum StepFlow<K, L, W> {
     /// The poll goes on from here.
-    On(SignState<K, L, W>),
-    Over(StepEnd<K, L, W>),
+    Continue(SignState<K, L, W>),
+    Stop(StepEnd<K, L, W>),
 }
 
 /// What a step came to, and the call that has its turn by it.
@@ -33,31 +33,34 @@ pub(crate) struct StepOutcome<K, L, W> {
 
 impl<K, L, W> StepOutcome<K, L, W> {
     /// The poll goes on.
-    pub(crate) fn on(state: SignState<K, L, W>, wake: Option<CallId>) -> StepOutcome<K, L, W>
-        ensures { result ≡ record { flow = On state; wake = wake } }
+    pub(crate) fn continue_from(
+        state: SignState<K, L, W>,
+        wake: Option<CallId>,
+    ) -> StepOutcome<K, L, W>
+        ensures { result ≡ record { flow = Continue state; wake = wake } }
     {
         StepOutcome {
-            flow: StepFlow::On(state),
+            flow: StepFlow::Continue(state),
             wake,
         }
     }
 
     /// The poll is over, and no call is woken.
-    pub(crate) fn over(end: StepEnd<K, L, W>) -> StepOutcome<K, L, W>
-        ensures { result ≡ record { flow = Over end; wake = None } }
+    pub(crate) fn stop(end: StepEnd<K, L, W>) -> StepOutcome<K, L, W>
+        ensures { result ≡ record { flow = Stop end; wake = None } }
     {
         StepOutcome {
-            flow: StepFlow::Over(end),
+            flow: StepFlow::Stop(end),
             wake: None,
         }
     }
 
     /// The call is refused.
     pub(crate) fn refused(why: Refusal, wake: Option<CallId>) -> StepOutcome<K, L, W>
-        ensures { result ≡ record { flow = Over (Refused why); wake = wake } }
+        ensures { result ≡ record { flow = Stop (Refused why); wake = wake } }
     {
         StepOutcome {
-            flow: StepFlow::Over(StepEnd::Refused(why)),
+            flow: StepFlow::Stop(StepEnd::Refused(why)),
             wake,
         }
     }

@@ -1,6 +1,7 @@
 //! How a poll goes on by a reply of its desk.
 ghost use Rattle.std.specs.Prelude.{◌≡◌};
-ghost use Rattle.signer.specs.OutcomeByReply.{plain_refusal, refusal_after, outcome_after_poll, outcome_after_found, outcome_after_none};
+ghost use Rattle.signer.specs.OutcomeByReply.{plain_refusal, refusal_after, outcome_after_poll};
+ghost use Rattle.signer.specs.OutcomeByReply.{outcome_after_found, outcome_after_none};
 
 use crate::refusal::Refusal;
 use crate::sign::{SignState, WorkState};
@@ -14,17 +15,27 @@ pub(crate) fn after_poll<K: Drop, L, W>(candidate: Head, reply: Reply<K>) -> Ste
     ensures { result ≡ outcome_after_poll candidate reply }
 {
     match reply {
-        Reply::Pending => StepOutcome::over(StepEnd::Pending(SignState::Waiting(candidate))),
+        Reply::Pending => StepOutcome::stop(StepEnd::Pending(SignState::Waiting(candidate))),
         Reply::Ask { provider } => {
-            let loading = SignState::Loading(candidate, provider, LoadState::Unstarted);
-            StepOutcome::on(loading, None)
+            let loading = SignState::Loading {
+                candidate,
+                provider,
+                load: LoadState::Unstarted,
+            };
+            StepOutcome::continue_from(loading, None)
         }
         Reply::Sign { credential, wake } => {
             let signing = SignState::Signing(credential, WorkState::Unstarted(candidate));
-            StepOutcome::on(signing, wake)
+            StepOutcome::continue_from(signing, wake)
         }
-        Reply::Refused { why, wake } => StepOutcome::refused(refusal_of(why), wake),
-        _ => StepOutcome::over(StepEnd::OutOfMemory(SignState::Waiting(candidate))),
+        Reply::Refused { why, wake } => {
+            drop(candidate);
+            StepOutcome::refused(refusal_of(why), wake)
+        }
+        _ => {
+            drop(reply);
+            StepOutcome::stop(StepEnd::OutOfMemory(SignState::Waiting(candidate)))
+        }
     }
 }
 
@@ -39,13 +50,23 @@ pub(crate) fn after_found<K: Drop, L, W>(
 {
     match reply {
         Reply::Sign { credential, wake } => {
+            drop(found);
             let signing = SignState::Signing(credential, WorkState::Unstarted(candidate));
-            StepOutcome::on(signing, wake)
+            StepOutcome::continue_from(signing, wake)
         }
-        Reply::Refused { why, wake } => StepOutcome::refused(refusal_of(why), wake),
+        Reply::Refused { why, wake } => {
+            drop(candidate);
+            drop(found);
+            StepOutcome::refused(refusal_of(why), wake)
+        }
         _ => {
-            let kept = SignState::Loading(candidate, provider, LoadState::Found(found));
-            StepOutcome::over(StepEnd::OutOfMemory(kept))
+            drop(reply);
+            let kept = SignState::Loading {
+                candidate,
+                provider,
+                load: LoadState::Found(found),
+            };
+            StepOutcome::stop(StepEnd::OutOfMemory(kept))
         }
     }
 }
@@ -62,8 +83,12 @@ pub(crate) fn after_none<K: Drop, L, W>(
     match reply {
         Reply::Ask { provider } => {
             drop(failure);
-            let loading = SignState::Loading(candidate, provider, LoadState::Unstarted);
-            StepOutcome::on(loading, None)
+            let loading = SignState::Loading {
+                candidate,
+                provider,
+                load: LoadState::Unstarted,
+            };
+            StepOutcome::continue_from(loading, None)
         }
         Reply::Refused { why, wake } => {
             drop(candidate);

@@ -6,31 +6,31 @@ ghost use Rattle.sign_request.specs.Refusal.{IsOutOfMemory, RefusedAs};
 ghost use Rattle.desk_driver.specs.CallAt.{IsSigning, LeavesOthers};
 ghost use Rattle.signer.specs.Target.{IsTargetOf, IsHandedIn, IsKept};
 
-use crate::drive::give_accepted;
+use crate::drive::report_signed;
 use desk_driver::BegunCall;
 use http::request::Parts;
 use sequential_signer::{DeadlineRule, Reply, SigningCredential};
 use sign_base::{Error, Head};
 use sign_desk::Desk;
-use sign_request::{HeaderKeys, commit_keyed};
+use sign_request::{HeaderSeeds, commit_seeded};
 use std::alloc::Global;
 
 /// A head of `http` with the URI and the headers of this one.
 ///
 /// `RequestInvalid` where `http` does not accept them.
-pub(crate) fn target_of(alloc: Global, candidate: &Head, keys: HeaderKeys) -> Result<Parts, Error>
+pub(crate) fn target_of(alloc: Global, candidate: &Head, keys: HeaderSeeds) -> Result<Parts, Error>
     ensures ok { IfOk result (IsTargetOf candidate.now) }
     ensures accepted { OnOk result (¬ (RefusesTarget candidate.now)) }
     ensures err { IfErr result (λ e. IsOutOfMemory e ⊎ RefusedAs (RefusesTarget candidate.now) e) }
 {
     let mut target = Parts::new(alloc);
-    commit_keyed(alloc, &mut target, candidate, keys)?;
+    commit_seeded(alloc, &mut target, candidate, keys)?;
     Ok(target)
 }
 
 /// Hands the signed head to the desk, and puts its target into the request, or neither. The head comes
 /// back where there was no memory.
-pub(crate) fn hand_in<K: SigningCredential, D: DeadlineRule<Credential = K>>(
+pub(crate) fn commit_signed_head<K: SigningCredential, D: DeadlineRule<Credential = K>>(
     desk: &mut Desk<K, D>,
     begun: &BegunCall<Head>,
     candidate: Head,
@@ -47,13 +47,19 @@ pub(crate) fn hand_in<K: SigningCredential, D: DeadlineRule<Credential = K>>(
         (record { old = desk.old; new = desk.new; before = req.old; after = req.new })) }
     ensures others { LeavesOthers begun.now.id desk.old desk.new }
 {
-    let (reply, back) = give_accepted(desk, begun, candidate);
+    let (reply, back) = report_signed(desk, begun, candidate);
     match reply {
         Reply::Done { .. } => {
+            drop(reply);
+            drop(back);
             put_target(req, target);
             None
         }
-        _ => Some(back),
+        _ => {
+            drop(reply);
+            drop(target);
+            Some(back)
+        }
     }
 }
 

@@ -1,5 +1,6 @@
 -- Why a book is not closed: the first of five tests that finds something, and what it finds first.
-use Rattle.std.specs.Prelude.{◌≡◌, ◌≢◌, ℕ, ◌<◌, ◌≤◌, ◌-◌, List, Option, Some, length, slice_get, slice_index, option_map, option_and_then, IsSomeAnd, IfSome}
+use Rattle.std.specs.Prelude.{◌≡◌, ◌≢◌, ℕ, ◌<◌, ◌≤◌, ◌-◌, List, Option, Some, length, slice_get, slice_index}
+use Rattle.std.specs.Prelude.{option_map, option_and_then, IsSomeAnd, IfSome}
 use Rattle.sequential_signer.specs.declared.event.Entry.{Entry}
 use Rattle.desk_parts.specs.Tables.{setup_of}
 use Rattle.sign_desk.specs.DeskState.{DeskState}

@@ -1,5 +1,6 @@
 -- What is known of owners while passes are gone over.
-use Rattle.std.specs.Prelude.{◌≡◌, ◌≢◌, ℕ, ◌<◌, ◌≤◌, List, Option, Some, None, length, slice_index, nat_le, if◌then◌else◌}
+use Rattle.std.specs.Prelude.{◌≡◌, ◌≢◌, ℕ, ◌<◌, ◌≤◌, List, Option, Some, None, length, slice_index, nat_le}
+use Rattle.std.specs.Prelude.{if◌then◌else◌}
 use Rattle.signer_book.specs.Close.{IsFirstDouble}
 use Rattle.signer_book.specs.declared.doubles.Double.{Double}
 

@@ -3,3 +3,9 @@ pub mod BookState
 pub mod Settled
 pub mod Close
 pub mod Doubles
+pub use Rattle.desk_parts.specs.LiveCallView
+pub use Rattle.desk_parts.specs.Tables
+pub use Rattle.sequential_signer.specs.Policy
+pub use Rattle.sequential_signer.specs.Transcript
+pub use Rattle.sign_desk.specs.DeskState
+pub use Rattle.sign_desk.specs.ReplyKinds

@@ -1,5 +1,6 @@
 //! A desk beside the journal of its events and replies.
-ghost use Rattle.std.specs.Prelude.{◌≡◌, ◌≢◌, ◌++◌, ◌∷◌, [], ◌<◌, true, List, IfOk, IfErr, IfSome, IsOk, IsSome, IsTrue, length};
+ghost use Rattle.std.specs.Prelude.{◌≡◌, ◌≢◌, ◌++◌, ◌∷◌, [], ◌<◌, true, List, IfOk, IfErr, IfSome, IsOk};
+ghost use Rattle.std.specs.Prelude.{IsSome, IsTrue, length};
 ghost use Rattle.sign_base.specs.declared.call_id.CallId.{CallId};
 ghost use Rattle.sequential_signer.specs.Policy.{policy_of};
 ghost use Rattle.sequential_signer.specs.Transcript.{committed_entries, is_out_of_memory};
@@ -16,7 +17,7 @@ ghost use Rattle.signer_book.specs.OpenBegins.{is_open};
 ghost use Rattle.signer_book.specs.Settled.{IsSettled};
 ghost use Rattle.signer_book.specs.Close.{IsCloseCause};
 
-use crate::closing::check_close;
+use crate::check::check_close;
 use crate::pass::{Pass, Receipt};
 use crate::room::{take_entry_room, take_receipt_room};
 use crate::settled::{CloseRefused, Settled};
@@ -51,8 +52,6 @@ impl<K: SigningCredential, D: DeadlineRule<Credential = K>> Model for Book<K, D>
 
 impl<K: SigningCredential, D: DeadlineRule<Credential = K>> Book<K, D> {
     /// The book of a fresh desk, with an empty journal.
-    ///
-    /// Requires a desk to which nothing has happened.
     pub fn new(desk: Desk<K, D>) -> Book<K, D>
         requires { Represents (policy_of K.valid K.valid_at D.deadline) desk [] }
         ensures { result ≡ record { desk = desk; journal = [] } }
@@ -76,8 +75,10 @@ impl<K: SigningCredential, D: DeadlineRule<Credential = K>> Book<K, D> {
             self.new.desk self.new.journal }
         ensures journal { result ≢ OutOfMemory
             → self.new.journal ≡ self.old.journal ++ record { event = event.now; reply = result } ∷ [] }
-        ensures receipt { result ≢ OutOfMemory → pass.new ≡ pass.old
-            ++ record { place = length self.old.journal; entry = record { event = event.now; reply = result } } ∷ [] }
+        ensures receipt { result ≢ OutOfMemory → pass.new ≡ pass.old ++ record {
+          place = length self.old.journal;
+          entry = record { event = event.now; reply = result };
+        } ∷ [] }
         ensures setup { setup_of self.new.desk ≡ setup_of self.old.desk }
         ensures book_unchanged { result ≡ OutOfMemory → self.new ≡ self.old }
         ensures pass_unchanged { result ≡ OutOfMemory → pass.new ≡ pass.old }
@@ -121,16 +122,20 @@ impl<K: SigningCredential, D: DeadlineRule<Credential = K>> Book<K, D> {
         reply
     }
 
-    /// The entries, in order.
+    /// The entries, in order. The desk represents them.
     pub fn journal(&self) -> &[Entry<K>]
-        ensures { result.now ≡ self.now.journal }
+        ensures journal { result.now ≡ self.now.journal }
+        ensures represents { Represents (policy_of K.valid K.valid_at D.deadline)
+            self.now.desk result.now }
     {
         self.journal.as_slice()
     }
 
-    /// The desk.
+    /// The desk, which represents the journal.
     pub fn desk(&self) -> &Desk<K, D>
-        ensures { result.now ≡ self.now.desk }
+        ensures desk { result.now ≡ self.now.desk }
+        ensures represents { Represents (policy_of K.valid K.valid_at D.deadline)
+            result.now self.now.journal }
     {
         &self.desk
     }
@@ -153,8 +158,6 @@ where
     /// and the receipts. `plan` is a desk with the setup that the book's desk should have.
     ///
     /// Errors: the first of `CloseError` that holds, with everything handed back as it was.
-    ///
-    /// Requires fewer than 4,294,967,295 passes.
     pub fn close(
         mut self,
         plan: Desk<K, D>,

@@ -3,12 +3,11 @@
 #![tactic(auto)]
 
 mod book;
-mod close;
-mod closing;
+mod check;
+mod comparisons;
 mod doubles;
 mod pass;
 mod room;
-mod same;
 mod settled;
 
 pub use book::Book;

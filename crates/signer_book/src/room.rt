@@ -1,5 +1,6 @@
 //! Room for a receipt and for an entry, taken before the step.
-ghost use Rattle.std.specs.Prelude.{◌≡◌, ◌≢◌, ◌≤◌, ◌+◌, ◌++◌, ◌∷◌, [], ℕ, true, length, IsSome, IfSome, IsTrue, vec_capacity, min, ◌||◌, if◌then◌else◌};
+ghost use Rattle.std.specs.Prelude.{◌≡◌, ◌≢◌, ◌≤◌, ◌+◌, ◌++◌, ◌∷◌, [], ℕ, true, length, IsSome, IfSome};
+ghost use Rattle.std.specs.Prelude.{IsTrue, vec_capacity, min, ◌||◌, if◌then◌else◌};
 ghost use Rattle.sequential_signer.specs.Phase.{is_begun};
 ghost use Rattle.sequential_signer.specs.Transcript.{call_of};
 ghost use Rattle.sign_desk.specs.LiveCount.{LiveAfter};

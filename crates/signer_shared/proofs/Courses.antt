@@ -1,5 +1,5 @@
 -- Courses of a call: one step after another.
-use Rattle.std.proofs.Common.{◌≡◌, ◌≢◌, ◌⊎◌, inl, inr, ℕ, ◌++◌, IsTrue, false, List, [], ◌∷◌, refl, sym, subst}
+use Rattle.std.proofs.Common.{◌≡◌, ◌≢◌, ◌⊎◌, inl, inr, ℕ, ◌++◌, IsTrue, false, List, [], ◌∷◌, refl, sym, subst, ap, ◌∙◌, append_assoc}
 use Rattle.std.proofs.lemmas.List.{append-nil}
 use Rattle.sequential_signer.specs.declared.event.Event.{Event}
 use Rattle.sequential_signer.specs.declared.event.Reply.{Reply}
@@ -7,20 +7,20 @@ use Rattle.sequential_signer.specs.declared.event.Reply.TheVariants as reply
 use Rattle.sign_desk.specs.ReplyKinds.{is_reply_to}
 use Rattle.signer_book.specs.declared.pass.Receipt.{Receipt}
 use Rattle.signer_shared.specs.Gates.{GateMeaning}
-use Rattle.signer_shared.specs.Serving.{IsStep, IsCourse, Advances, IsLive}
+use Rattle.signer_shared.specs.Serving.{IsStep, IsEventSequence, Advances, IsLive}
 use Rattle.signer_shared.specs.declared.job.Job.{Job}
-use Rattle.signer_shared.specs.declared.next.JobEnd.{JobEnd}
-use Rattle.signer_shared.specs.declared.next.JobEnd.TheVariants as ended
-use Rattle.signer_shared.specs.declared.next.Next.{Next}
-use Rattle.signer_shared.specs.declared.next.Next.TheVariants as next
+use Rattle.signer_shared.specs.declared.next_step.JobEnd.{JobEnd}
+use Rattle.signer_shared.specs.declared.next_step.JobEnd.TheVariants as ended
+use Rattle.signer_shared.specs.declared.next_step.NextStep.{NextStep}
+use Rattle.signer_shared.specs.declared.next_step.NextStep.TheVariants as next
 
 -- the call is not over
-abbrev pub IsOpen : {K : Type 0} → Next K → Type 0
+abbrev pub IsOpen : {K : Type 0} → NextStep K → Type 0
 IsOpen (next.Over end) = ⊥
 IsOpen _ = Unit {0}
 
 -- a live call is not over
-pub live_open : {K : Type 0} (before : Next K) → IsLive before → IsOpen before
+pub live_open : {K : Type 0} (before : NextStep K) → IsLive before → IsOpen before
 live_open next.Begin live = absurd live
 live_open next.Poll live = tt
 live_open (next.Load provider) live = tt
@@ -41,8 +41,8 @@ is_out (reply.Cancelled wake) = inr (λ e. cc)
 
 module _ {K : Type 0} (gate : GateMeaning K) (turns : ℕ) (job : Job) where
   -- a course without receipts
-  course-nil : (before : Next K) (end : JobEnd) → IsOpen before → end ≡ ended.OutOfMemory false
-      → IsCourse gate turns job before [] end
+  course-nil : (before : NextStep K) (end : JobEnd) → IsOpen before → end ≡ ended.OutOfMemory false
+      → IsEventSequence gate turns job before [] end
   course-nil next.Begin end open_call e = e
   course-nil next.Poll end open_call e = e
   course-nil (next.Load provider) end open_call e = e
@@ -50,10 +50,10 @@ module _ {K : Type 0} (gate : GateMeaning K) (turns : ℕ) (job : Job) where
   course-nil (next.Over over) end open_call e = absurd open_call
 
   -- a course with one receipt more
-  course-cons : (before : Next K) (r : Receipt K) (rest : List (Receipt K)) (end : JobEnd) → IsOpen before
+  course-cons : (before : NextStep K) (r : Receipt K) (rest : List (Receipt K)) (end : JobEnd) → IsOpen before
       → IsTrue (is_reply_to r.entry.event r.entry.reply) → r.entry.reply ≢ reply.OutOfMemory
-      → (after : Next K) → IsStep gate turns job before r.entry after
-      → IsCourse gate turns job after rest end → IsCourse gate turns job before (r ∷ rest) end
+      → (after : NextStep K) → IsStep gate turns job before r.entry after
+      → IsEventSequence gate turns job after rest end → IsEventSequence gate turns job before (r ∷ rest) end
   course-cons next.Begin r rest end open_call kind kept after step course = (kind, kept, (after, step, course))
   course-cons next.Poll r rest end open_call kind kept after step course = (kind, kept, (after, step, course))
   course-cons (next.Load provider) r rest end open_call kind kept after step course = (kind, kept, (after, step, course))
@@ -61,22 +61,36 @@ module _ {K : Type 0} (gate : GateMeaning K) (turns : ℕ) (job : Job) where
   course-cons (next.Over over) r rest end open_call kind kept after step course = absurd open_call
 
   -- nothing was done yet
-  pub stays : (at : Next K) (pass : List (Receipt K)) → Advances gate turns job at pass pass at
+  pub stays : (at : NextStep K) (pass : List (Receipt K)) → Advances gate turns job at pass pass at
   stays at pass = ([], sym (append-nil pass), λ rest end course. course)
 
+  -- one part of a course behind another
+  pub goes_further : (before at mid after : NextStep K) (old pass new : List (Receipt K))
+      → Advances gate turns job before old pass at → at ≡ mid → Advances gate turns job mid pass new after
+      → Advances gate turns job before old new after
+  goes_further before at mid after old pass new a is b =
+      let P : NextStep K → Type 0 = λ x. Advances gate turns job before old pass x in
+      let first = subst P is a in (
+        first.0 ++ b.0,
+        b.1 ∙ (ap (λ l. l ++ b.0) first.1 ∙ append_assoc old first.0 b.0),
+        λ rest end course.
+            let Q : List (Receipt K) → Type 0 = λ l. IsEventSequence gate turns job before l end in
+            subst Q (sym (append_assoc first.0 b.0 rest)) (first.2 (b.0 ++ rest) end (b.2 rest end course)),
+      )
+
   -- an allocation failed, and there is no receipt of it
-  pub stops_short : (before : Next K) (pass : List (Receipt K)) → IsOpen before
+  pub stops_short : (before : NextStep K) (pass : List (Receipt K)) → IsOpen before
       → Advances gate turns job before pass pass (next.Over (ended.OutOfMemory false))
   stops_short before pass open_call = (
     [],
     sym (append-nil pass),
     λ rest end course.
-        let P : List (Receipt K) → Type 0 = λ l. IsCourse gate turns job before l end in
+        let P : List (Receipt K) → Type 0 = λ l. IsEventSequence gate turns job before l end in
         subst P (sym course.0) (course-nil before end open_call course.1),
   )
 
   -- one receipt more
-  pub steps : (before after : Next K) (old new : List (Receipt K)) (e : Event K) (r : Reply K) → IsOpen before
+  pub steps : (before after : NextStep K) (old new : List (Receipt K)) (e : Event K) (r : Reply K) → IsOpen before
       → (place : ℕ) × (new ≡ old ++ record { place = place; entry = record { event = e; reply = r } } ∷ [])
       → IsTrue (is_reply_to e r) → r ≢ reply.OutOfMemory
       → IsStep gate turns job before (record { event = e; reply = r }) after
@@ -89,7 +103,7 @@ module _ {K : Type 0} (gate : GateMeaning K) (turns : ℕ) (job : Job) where
   )
 
   -- an event that may be the last: its receipt, or none where an allocation failed
-  pub steps_last : (before after : Next K) (old new : List (Receipt K)) (e : Event K) (r : Reply K)
+  pub steps_last : (before after : NextStep K) (old new : List (Receipt K)) (e : Event K) (r : Reply K)
       → IsOpen before
       → (r ≢ reply.OutOfMemory
       → (place : ℕ) × (new ≡ old ++ record { place = place; entry = record { event = e; reply = r } } ∷ []))
@@ -100,7 +114,7 @@ module _ {K : Type 0} (gate : GateMeaning K) (turns : ℕ) (job : Job) where
   steps_last before after old new e r open_call receipt unchanged kind step last =
       elim (is_out r) [
         | inl out ↦
-            let P : Next K → Type 0 = λ x. Advances gate turns job before old new x in
+            let P : NextStep K → Type 0 = λ x. Advances gate turns job before old new x in
             let Q : List (Receipt K) → Type 0 = λ l. Advances gate turns job before old l (next.Over (ended.OutOfMemory false)) in
             subst P (sym (last out)) (subst Q (sym (unchanged out)) (stops_short before old open_call))
         | inr kept ↦ steps before after old new e r open_call (receipt kept) kind kept step

@@ -9,12 +9,12 @@ use Rattle.sequential_signer.specs.Replies.{is_cancelled, is_done, is_refused}
 use Rattle.signer_book.specs.declared.pass.Receipt.{Receipt}
 use Rattle.signer_shared.specs.Counting.{counted}
 use Rattle.signer_shared.specs.Gates.{GateMeaning}
-use Rattle.signer_shared.specs.Serving.{IsCourse, Advances, ServesAll, IsServing, ran_out, replies}
+use Rattle.signer_shared.specs.Serving.{IsEventSequence, Advances, ServesAll, IsServing, ran_out, replies}
 use Rattle.signer_shared.specs.declared.job.Job.{Job}
 use Rattle.signer_shared.specs.declared.job.Served.{Served}
-use Rattle.signer_shared.specs.declared.next.JobEnd.{JobEnd}
-use Rattle.signer_shared.specs.declared.next.JobEnd.TheVariants as ended
-use Rattle.signer_shared.specs.declared.next.Next.TheVariants as next
+use Rattle.signer_shared.specs.declared.next_step.JobEnd.{JobEnd}
+use Rattle.signer_shared.specs.declared.next_step.JobEnd.TheVariants as ended
+use Rattle.signer_shared.specs.declared.next_step.NextStep.TheVariants as next
 use Rattle.signer_shared.proofs.Tallies.{tally, done_of, refused_of, not_now_of, given_up_of}
 
 -- replies of two lists
@@ -55,7 +55,7 @@ around xs i x within at =
 module _ {K : Type 0} (gate : GateMeaning K) (turns : ℕ) where
   -- one job more, to its end
   serves-more : (jobs : List Job) (added : List (Receipt K)) (job : Job) (own : List (Receipt K))
-      (end : JobEnd) → ServesAll gate turns jobs added → IsCourse gate turns job next.Begin own end
+      (end : JobEnd) → ServesAll gate turns jobs added → IsEventSequence gate turns job next.Begin own end
       → ran_out end ≡ false → ServesAll gate turns (jobs ++ job ∷ []) (added ++ own)
   serves-more [] added job own end serves course to_end =
       (own, [], end, ap (λ l. l ++ own) serves ∙ sym (append-nil own), course, to_end, refl)
@@ -85,12 +85,12 @@ module _ {K : Type 0} (gate : GateMeaning K) (turns : ℕ) where
   record Own (job : Job) (old now : List (Receipt K)) (end : JobEnd) : Type 0 where
     own : List (Receipt K)
     now_is : now ≡ old ++ own
-    course : IsCourse gate turns job next.Begin own end
+    course : IsEventSequence gate turns job next.Begin own end
 
   own_of : (job : Job) (old now : List (Receipt K)) (end : JobEnd)
       → Advances gate turns job next.Begin old now (next.Over end) → Own job old now end
   own_of job old now end a =
-      let P : List (Receipt K) → Type 0 = λ l. IsCourse gate turns job next.Begin l end in
+      let P : List (Receipt K) → Type 0 = λ l. IsEventSequence gate turns job next.Begin l end in
       record { own = a.0; now_is = a.1; course = subst P (append-nil a.0) (a.2 [] end (refl, refl)) }
 
   -- one job more, to its end

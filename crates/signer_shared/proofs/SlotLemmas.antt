@@ -11,7 +11,7 @@ use Rattle.signer_shared.specs.Slots.{AreEmptySlots, ServesSlots}
 use Rattle.signer_book.specs.declared.pass.Receipt.{Receipt}
 use Rattle.signer_shared.specs.declared.job.Job.{Job}
 use Rattle.signer_shared.specs.declared.job.Served.{Served}
-use Rattle.signer_shared.specs.declared.slots.Slot.{Slot}
+use Rattle.signer_shared.specs.declared.slots.WorkerResult.{WorkerResult}
 
 -- what is left of a vector through a slice of the same length
 pub written_back : {X : Type 0} (xs ys : List X) (n : ℕ) → length ys ≡ length xs → n ≡ length xs
@@ -20,7 +20,7 @@ written_back xs ys n same all =
     ap (λ l. take n (ys ++ l)) (drop_all (length ys) xs (omega arith)) ∙ (ap (λ l. take n l) (append-nil ys) ∙ take_all n ys (omega arith))
 
 -- one slot more
-pub one_slot_more : {K : Type 0} (count : ℕ) (slots : List (Slot K)) (slot : Slot K)
+pub one_slot_more : {K : Type 0} (count : ℕ) (slots : List (WorkerResult K)) (slot : WorkerResult K)
     → AreEmptySlots count slots → slot.pass ≡ [] → AreEmptySlots (count + 1) (slots ++ slot ∷ [])
 one_slot_more count slots slot all empty = record {
   len = omega (arith, length-append slots (slot ∷ []), all.len);
@@ -29,8 +29,8 @@ one_slot_more count slots slot all empty = record {
 
 module _ {K : Type 0} (gate : GateMeaning K) (turns : ℕ) where
   -- list by list, from place by place
-  by_list : (lists : List (Vec Job)) (slots : List (Slot K)) → length slots ≡ length lists
-      → ((i : ℕ) (d : Slot K) (e : Vec Job) → i < length slots
+  by_list : (lists : List (Vec Job)) (slots : List (WorkerResult K)) → length slots ≡ length lists
+      → ((i : ℕ) (d : WorkerResult K) (e : Vec Job) → i < length slots
       → IsServing gate turns (slice_index_or lists i e).items (slice_index_or slots i d).pass (slice_index_or
       slots i d).served)
       → ServesLists gate turns (map (λ l. l.items) lists) (map (λ s. s.pass) slots)
@@ -42,7 +42,7 @@ module _ {K : Type 0} (gate : GateMeaning K) (turns : ℕ) where
       (each 0 s list (omega arith), by_list lists slots (omega arith) (λ i d e within. each (suc i) d e (omega arith)))
 
   -- the slots of workers that began with empty passes
-  pub serves_lists : (lists : List (Vec Job)) (count : ℕ) (old new : List (Slot K)) → count ≡ length lists
+  pub serves_lists : (lists : List (Vec Job)) (count : ℕ) (old new : List (WorkerResult K)) → count ≡ length lists
       → AreEmptySlots count old → length new ≡ length lists → ServesSlots gate turns lists old new
       → ServesLists gate turns (map (λ l. l.items) lists) (map (λ s. s.pass) new) (map (λ s. s.served) new)
   serves_lists lists count old new all empty len each =
@@ -51,7 +51,7 @@ module _ {K : Type 0} (gate : GateMeaning K) (turns : ℕ) where
       each i d e below (empty.empty i d below))
 
   -- the same of the passes and counts that were taken from the slots
-  pub results : (lists : List (Vec Job)) (old new : List (Slot K)) (passes taken : List (List (Receipt K)))
+  pub results : (lists : List (Vec Job)) (old new : List (WorkerResult K)) (passes taken : List (List (Receipt K)))
       (served : List Served) → AreEmptySlots (length lists) old → length new ≡ length lists
       → ServesSlots gate turns lists old new → taken ≡ map (λ s. s.pass) new
       → served ≡ map (λ s. s.served) new → passes ≡ taken

@@ -11,12 +11,12 @@ use Rattle.sign_desk.specs.ReplyKinds.{is_reply_to}
 use Rattle.sequential_signer.specs.Replies.{is_cancelled, is_done, is_refused}
 use Rattle.signer_book.specs.declared.pass.Receipt.{Receipt}
 use Rattle.signer_shared.specs.Gates.{GateMeaning}
-use Rattle.signer_shared.specs.Serving.{IsStep, goes_on, gives_up, runs_out, IsCourse, next_after, ran_out, replies}
+use Rattle.signer_shared.specs.Serving.{IsStep, goes_on, gives_up, runs_out, IsEventSequence, next_after, ran_out, replies}
 use Rattle.signer_shared.specs.declared.job.Job.{Job}
-use Rattle.signer_shared.specs.declared.next.JobEnd.{JobEnd}
-use Rattle.signer_shared.specs.declared.next.JobEnd.TheVariants as ended
-use Rattle.signer_shared.specs.declared.next.Next.{Next}
-use Rattle.signer_shared.specs.declared.next.Next.TheVariants as next
+use Rattle.signer_shared.specs.declared.next_step.JobEnd.{JobEnd}
+use Rattle.signer_shared.specs.declared.next_step.JobEnd.TheVariants as ended
+use Rattle.signer_shared.specs.declared.next_step.NextStep.{NextStep}
+use Rattle.signer_shared.specs.declared.next_step.NextStep.TheVariants as next
 use Rattle.signer_shared.proofs.Courses.{IsOpen}
 
 -- how many replies of each kind a job has that ended so
@@ -56,7 +56,7 @@ receipt_of place e r = record { place = place; entry = record { event = e; reply
 
 module _ {K : Type 0} (gate : GateMeaning K) (turns : ℕ) (job : Job) where
   -- a course without receipts
-  from-nil : (before : Next K) (end : JobEnd) → IsOpen before → IsCourse gate turns job before [] end
+  from-nil : (before : NextStep K) (end : JobEnd) → IsOpen before → IsEventSequence gate turns job before [] end
       → end ≡ ended.OutOfMemory false
   from-nil next.Begin end open_call course = course
   from-nil next.Poll end open_call course = course
@@ -65,15 +65,15 @@ module _ {K : Type 0} (gate : GateMeaning K) (turns : ℕ) (job : Job) where
   from-nil (next.Over over) end open_call course = absurd open_call
 
   -- a course that begins with a receipt
-  record Begins (before : Next K) (r : Receipt K) (rest : List (Receipt K)) (end : JobEnd) : Type 0 where
-    kind : IsTrue (is_reply_to r.entry.event r.entry.reply)
-    kept : r.entry.reply ≢ reply.OutOfMemory
-    after : Next K
-    step : IsStep gate turns job before r.entry after
-    course : IsCourse gate turns job after rest end
+  pub record Begins (before : NextStep K) (r : Receipt K) (rest : List (Receipt K)) (end : JobEnd) : Type 0 where
+    pub kind : IsTrue (is_reply_to r.entry.event r.entry.reply)
+    pub kept : r.entry.reply ≢ reply.OutOfMemory
+    pub after : NextStep K
+    pub step : IsStep gate turns job before r.entry after
+    pub course : IsEventSequence gate turns job after rest end
 
-  from-cons : (before : Next K) (r : Receipt K) (rest : List (Receipt K)) (end : JobEnd) → IsOpen before
-      → IsCourse gate turns job before (r ∷ rest) end → Begins before r rest end
+  pub from-cons : (before : NextStep K) (r : Receipt K) (rest : List (Receipt K)) (end : JobEnd) → IsOpen before
+      → IsEventSequence gate turns job before (r ∷ rest) end → Begins before r rest end
   from-cons next.Begin r rest end open_call c = record { kind = c.0; kept = c.1; after = c.2.0; step = c.2.1; course = c.2.2 }
   from-cons next.Poll r rest end open_call c = record { kind = c.0; kept = c.1; after = c.2.0; step = c.2.1; course = c.2.2 }
   from-cons (next.Load provider) r rest end open_call c = record { kind = c.0; kept = c.1; after = c.2.0; step = c.2.1; course = c.2.2 }
@@ -82,7 +82,7 @@ module _ {K : Type 0} (gate : GateMeaning K) (turns : ℕ) (job : Job) where
 
   -- nothing is behind the last receipt
   tally-last : (r : Receipt K) (rest : List (Receipt K)) (end over : JobEnd)
-      → IsCourse gate turns job (next.Over over) rest end → Tally (r ∷ []) over → Tally (r ∷ rest) end
+      → IsEventSequence gate turns job (next.Over over) rest end → Tally (r ∷ []) over → Tally (r ∷ rest) end
   tally-last r rest end over c t =
       let P : List (Receipt K) → Type 0 = λ l. Tally (r ∷ l) end in
       let Q : JobEnd → Type 0 = λ e. Tally (r ∷ []) e in
@@ -102,7 +102,7 @@ module _ {K : Type 0} (gate : GateMeaning K) (turns : ℕ) (job : Job) where
   -- a reply, and what is next after it
   tally-reply : (place : ℕ) (e : Event K) (r : Reply K) (rest : List (Receipt K)) (end : JobEnd)
       → r ≢ reply.OutOfMemory → (IsOpen (next_after r) → Tally rest end)
-      → IsCourse gate turns job (next_after r) rest end → Tally (receipt_of place e r ∷ rest) end
+      → IsEventSequence gate turns job (next_after r) rest end → Tally (receipt_of place e r ∷ rest) end
   tally-reply place e reply.Begun rest end kept more c = tally-more (receipt_of place e reply.Begun) rest end refl refl refl refl (more tt)
   tally-reply place e reply.Pending rest end kept more c = tally-more (receipt_of place e reply.Pending) rest end refl refl refl refl (more tt)
   tally-reply place e reply.NotNow rest end kept more c =
@@ -120,7 +120,7 @@ module _ {K : Type 0} (gate : GateMeaning K) (turns : ℕ) (job : Job) where
   -- the cancel of a call at which an allocation failed
   tally-stop : (place : ℕ) (e : Event K) (r : Reply K) (rest : List (Receipt K)) (end : JobEnd)
       → r ≢ reply.OutOfMemory → IsTrue (is_reply_to (event.Cancel job.call) r)
-      → IsCourse gate turns job (next.Over (ended.OutOfMemory (is_not_now r))) rest end
+      → IsEventSequence gate turns job (next.Over (ended.OutOfMemory (is_not_now r))) rest end
       → Tally (receipt_of place e r ∷ rest) end
   tally-stop place e reply.Begun rest end kept kind c = absurd (false≢true kind)
   tally-stop place e reply.Pending rest end kept kind c = absurd (false≢true kind)
@@ -135,15 +135,15 @@ module _ {K : Type 0} (gate : GateMeaning K) (turns : ℕ) (job : Job) where
       tally-last (receipt_of place e (reply.Cancelled wake)) rest end (ended.OutOfMemory false) c (record { done = refl; refused = refl; not_now = refl; given_up = λ h. absurd (false≢true (sym h)) })
 
   -- the replies of a course
-  pub tally : (own : List (Receipt K)) (before : Next K) (end : JobEnd) → IsOpen before
-      → IsCourse gate turns job before own end → Tally own end
+  pub tally : (own : List (Receipt K)) (before : NextStep K) (end : JobEnd) → IsOpen before
+      → IsEventSequence gate turns job before own end → Tally own end
   tally [] before end open_call c =
       let Q : JobEnd → Type 0 = λ e. Tally {K = K} [] e in
       subst Q (sym (from-nil before end open_call c)) (record { done = refl; refused = refl; not_now = refl; given_up = λ h. absurd (false≢true (sym h)) })
   tally (r ∷ rest) before end open_call c =
       let s = from-cons before r rest end open_call c in
-      let P : Next K → Type 0 = λ x. IsCourse gate turns job x rest end in
-      let O : Next K → Type 0 = λ x. IsOpen x in
+      let P : NextStep K → Type 0 = λ x. IsEventSequence gate turns job x rest end in
+      let O : NextStep K → Type 0 = λ x. IsOpen x in
       let kind_at : Event K → Type 0 = λ e. IsTrue (is_reply_to e r.entry.reply) in
       elim s.step [
         | goes_on n a ↦

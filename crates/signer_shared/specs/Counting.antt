@@ -1,8 +1,9 @@
 -- How jobs are counted by their ends.
 use Rattle.std.specs.Prelude.{◌+◌, true, if◌then◌else◌}
 use Rattle.signer_shared.specs.declared.job.Served.{Served}
-use Rattle.signer_shared.specs.declared.next.JobEnd.{JobEnd}
-use Rattle.signer_shared.specs.declared.next.JobEnd.TheVariants.{Done, Refused, NotNow, GivenUp, OutOfMemory}
+use Rattle.signer_shared.specs.declared.next_step.JobEnd.{JobEnd}
+use Rattle.signer_shared.specs.declared.next_step.JobEnd.TheVariants.{Done, Refused, NotNow, GivenUp}
+use Rattle.signer_shared.specs.declared.next_step.JobEnd.TheVariants.{OutOfMemory}
 
 -- the counts after one more job, which ended so
 abbrev pub counted : Served → JobEnd → Served

@@ -1,5 +1,13 @@
+pub mod Asking
 pub mod Counting
 pub mod Gates
 pub mod Pools
 pub mod Serving
+pub mod JobReceipts
 pub mod Slots
+pub use Rattle.desk_parts.specs.Tables
+pub use Rattle.sequential_signer.specs.Policy
+pub use Rattle.sign_desk.specs.DeskState
+pub use Rattle.sign_desk.specs.ReplyKinds
+pub use Rattle.signer_book.specs.Close
+pub use Rattle.signer_book.specs.Settled

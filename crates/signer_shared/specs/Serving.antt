@@ -1,5 +1,6 @@
 -- What serving a list of jobs adds to a pass, and what is counted.
-use Rattle.std.specs.Prelude.{◌≡◌, ◌≢◌, ℕ, ℤ, ◌<◌, ◌+◌, ◌++◌, Bool, true, false, IsTrue, List, [], ◌∷◌, length, count_by, MatchBool}
+use Rattle.std.specs.Prelude.{◌≡◌, ◌≢◌, ℕ, ℤ, ◌<◌, ◌+◌, ◌++◌, Bool, true, false, IsTrue, List, [], ◌∷◌}
+use Rattle.std.specs.Prelude.{length, count_by, MatchBool}
 use Rattle.sequential_signer.specs.Phase.{is_not_now}
 use Rattle.sequential_signer.specs.declared.event.Answer.{Answer}
 use Rattle.sequential_signer.specs.declared.event.Entry.{Entry}
@@ -14,13 +15,13 @@ use Rattle.signer_shared.specs.Gates.{GateMeaning}
 use Rattle.signer_book.specs.declared.pass.Receipt.{Receipt}
 use Rattle.signer_shared.specs.declared.job.Job.{Job}
 use Rattle.signer_shared.specs.declared.job.Served.{Served}
-use Rattle.signer_shared.specs.declared.next.JobEnd.{JobEnd}
-use Rattle.signer_shared.specs.declared.next.JobEnd.TheVariants as ended
-use Rattle.signer_shared.specs.declared.next.Next.{Next}
-use Rattle.signer_shared.specs.declared.next.Next.TheVariants as next
+use Rattle.signer_shared.specs.declared.next_step.JobEnd.{JobEnd}
+use Rattle.signer_shared.specs.declared.next_step.JobEnd.TheVariants as ended
+use Rattle.signer_shared.specs.declared.next_step.NextStep.{NextStep}
+use Rattle.signer_shared.specs.declared.next_step.NextStep.TheVariants as next
 
 -- what is next for a call after a reply
-abbrev pub next_after : {K : Type 0} → Reply K → Next K
+abbrev pub next_after : {K : Type 0} → Reply K → NextStep K
 next_after reply.Begun = next.Poll
 next_after reply.Pending = next.Poll
 next_after (reply.Ask provider) = next.Load provider
@@ -41,14 +42,14 @@ abbrev pub replies : {K : Type 0} → (Reply K → Bool) → List (Receipt K) �
 replies test receipts = count_by (λ r. test r.entry.reply) receipts
 
 -- the call was begun and is not over
-abbrev pub IsLive : {K : Type 0} → Next K → Type 0
+abbrev pub IsLive : {K : Type 0} → NextStep K → Type 0
 IsLive next.Begin = ⊥
 IsLive (next.Over end) = ⊥
 IsLive _ = Unit {0}
 
 module _ {K : Type 0} (gate : GateMeaning K) (job : Job) where
   -- the event that is next: its answer and its moment are the gate's
-  abbrev pub IsNext : Next K → Event K → Type 0
+  abbrev pub IsNext : NextStep K → Event K → Type 0
   IsNext next.Begin e = e ≡ event.Begin job.call job.head job.expires_in
   IsNext next.Poll e = (now : ℤ) × gate.tells now × (e ≡ event.Poll job.call now)
   IsNext (next.Load provider) e =
@@ -61,13 +62,13 @@ module _ {K : Type 0} (gate : GateMeaning K) (job : Job) where
 
 module _ {K : Type 0} (gate : GateMeaning K) (turns : ℕ) (job : Job) where
   -- a load at which the job is given up: its provider was ready in none of the turns
-  abbrev pub IsGivenUp : Next K → Type 0
+  abbrev pub IsGivenUp : NextStep K → Type 0
   IsGivenUp (next.Load provider) = (turn : ℕ) → turn < turns → ¬ gate.ready job.call provider turn
   IsGivenUp _ = ⊥
 
   -- What an entry of the job's call makes of what was next. It is the next event, or a cancel in its
   -- place, which gives the job up or stands where an allocation failed.
-  pub data IsStep (before : Next K) (e : Entry K) (after : Next K) : Type 0 where
+  pub data IsStep (before : NextStep K) (e : Entry K) (after : NextStep K) : Type 0 where
     goes_on : IsNext gate job before e.event → after ≡ next_after e.reply → IsStep before e after
     gives_up : IsGivenUp before → e.event ≡ event.Cancel job.call → after ≡ next_after e.reply
         → IsStep before e after
@@ -76,19 +77,19 @@ module _ {K : Type 0} (gate : GateMeaning K) (turns : ℕ) (job : Job) where
 
   -- The receipts of the job's call from here on, and how the job ends. Where they stop short an
   -- allocation failed.
-  abbrev pub IsCourse : Next K → List (Receipt K) → JobEnd → Type 0
-  IsCourse (next.Over over) receipts end = (receipts ≡ []) × (end ≡ over)
-  IsCourse before [] end = end ≡ ended.OutOfMemory false
-  IsCourse before (r ∷ rest) end =
+  abbrev pub IsEventSequence : NextStep K → List (Receipt K) → JobEnd → Type 0
+  IsEventSequence (next.Over over) receipts end = (receipts ≡ []) × (end ≡ over)
+  IsEventSequence before [] end = end ≡ ended.OutOfMemory false
+  IsEventSequence before (r ∷ rest) end =
       IsTrue (is_reply_to r.entry.event r.entry.reply) × (r.entry.reply ≢ reply.OutOfMemory)
-      × ((after : Next K) × IsStep before r.entry after × IsCourse after rest end)
+      × ((after : NextStep K) × IsStep before r.entry after × IsEventSequence after rest end)
 
   -- the pass has more receipts, behind which each course from `after` is one from `before`
-  abbrev pub Advances : Next K → List (Receipt K) → List (Receipt K) → Next K → Type 0
+  abbrev pub Advances : NextStep K → List (Receipt K) → List (Receipt K) → NextStep K → Type 0
   Advances before old new after =
       (own : List (Receipt K)) × (new ≡ old ++ own)
-      × ((rest : List (Receipt K)) (end : JobEnd) → IsCourse after rest end
-      → IsCourse before (own ++ rest) end)
+      × ((rest : List (Receipt K)) (end : JobEnd) → IsEventSequence after rest end
+      → IsEventSequence before (own ++ rest) end)
 
 module _ {K : Type 0} (gate : GateMeaning K) (turns : ℕ) where
   -- the receipts of the jobs one after another, each job to its end
@@ -96,7 +97,7 @@ module _ {K : Type 0} (gate : GateMeaning K) (turns : ℕ) where
   ServesAll [] added = added ≡ []
   ServesAll (job ∷ jobs) added =
       (own rest : List (Receipt K)) × (end : JobEnd) × (added ≡ own ++ rest)
-      × IsCourse gate turns job next.Begin own end × (ran_out end ≡ false) × ServesAll jobs rest
+      × IsEventSequence gate turns job next.Begin own end × (ran_out end ≡ false) × ServesAll jobs rest
 
   -- the jobs before one at which an allocation failed, that job's receipts, and no more
   pub record StopsAtAJob (jobs : List Job) (added : List (Receipt K)) (given_up : ℕ) : Type 0 where
@@ -109,7 +110,7 @@ module _ {K : Type 0} (gate : GateMeaning K) (turns : ℕ) where
     pub jobs_are : jobs ≡ before ++ job ∷ after
     pub added_are : added ≡ served ++ own
     pub serves : ServesAll before served
-    pub stops : IsCourse gate turns job next.Begin own (ended.OutOfMemory not_now)
+    pub stops : IsEventSequence gate turns job next.Begin own (ended.OutOfMemory not_now)
     pub counted : given_up ≡ replies is_cancelled served
 
 -- The jobs were served in order, and counted by their replies. Where no allocation failed all were

@@ -4,7 +4,7 @@ use Rattle.std.specs.Global.{Vec}
 use Rattle.signer_shared.specs.Gates.{GateMeaning}
 use Rattle.signer_shared.specs.Serving.{IsServing}
 use Rattle.signer_shared.specs.declared.job.Job.{Job}
-use Rattle.signer_shared.specs.declared.slots.Slot.{Slot}
+use Rattle.signer_shared.specs.declared.slots.WorkerResult.{WorkerResult}
 use Rattle.signer_shared.specs.declared.slots.Slots.{Slots}
 
 -- nothing was handed out yet, and there is room for all
@@ -15,14 +15,14 @@ pub record HasResultRoom {K : Type 0} (slots : Slots K) : Type 0 where
   pub served_room : length slots.slots.items ≤ vec_capacity slots.served
 
 -- so many slots, whose passes are empty
-pub record AreEmptySlots {K : Type 0} (count : ℕ) (slots : List (Slot K)) : Type 0 where
+pub record AreEmptySlots {K : Type 0} (count : ℕ) (slots : List (WorkerResult K)) : Type 0 where
   pub len : length slots ≡ count
   pub empty : All (λ slot. slot.pass ≡ []) slots
 
 -- in each slot whose pass was empty, what serving that list's jobs gives
 abbrev pub ServesSlots : {K : Type 0} → GateMeaning K → ℕ
-    → List (Vec Job) → List (Slot K) → List (Slot K) → Type 0
+    → List (Vec Job) → List (WorkerResult K) → List (WorkerResult K) → Type 0
 ServesSlots {K} gate turns lists old new =
-    (i : ℕ) (d : Slot K) (e : Vec Job) → i < length old → (slice_index_or old i d).pass ≡ []
+    (i : ℕ) (d : WorkerResult K) (e : Vec Job) → i < length old → (slice_index_or old i d).pass ≡ []
     → IsServing gate turns (slice_index_or lists i e).items
     (slice_index_or new i d).pass (slice_index_or new i d).served

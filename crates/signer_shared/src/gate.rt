@@ -34,7 +34,7 @@ pub trait Gate<K: SigningCredential> {
         ensures { IfOk result (λ verdict.
             (meaning self.now).judges call credential.now head.now verdict) };
 
-    /// The moment.
+    /// What the clock shows. A worker reads it for an event behind all other answers.
     fn now(&self) -> Timestamp
         ensures { (meaning self.now).tells result };
 }

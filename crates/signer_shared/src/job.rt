@@ -2,7 +2,7 @@
 ghost use Rattle.std.specs.Prelude.{◌≡◌, ◌+◌, ◌<◌, ◌^◌, false};
 ghost use Rattle.signer_shared.specs.Counting.{counted};
 
-use crate::next::JobEnd;
+use crate::next_step::JobEnd;
 use sign_base::{CallId, Head};
 use std::time::Duration;
 
@@ -28,7 +28,6 @@ pub struct Served {
 }
 
 impl Served {
-    /// No job yet.
     pub(crate) fn new() -> Served
         ensures { result
             ≡ record { done = 0; refused = 0; not_now = 0; given_up = 0; out_of_memory = false } }
@@ -42,7 +41,6 @@ impl Served {
         }
     }
 
-    /// One more job ended so.
     pub(crate) fn count(&mut self, end: JobEnd)
         requires { self.old.done + self.old.refused + self.old.not_now + self.old.given_up + 1
             < 2 ^ 64 }

@@ -4,12 +4,14 @@
 
 mod gate;
 mod job;
-mod next;
+mod job_server;
+pub mod laws;
+mod next_step;
 mod pool;
 mod serve;
 mod shared;
 mod slots;
-mod worker;
+mod surroundings;
 
 pub use gate::{Gate, GateLoad};
 pub use job::{Job, Served};

@@ -42,8 +42,6 @@ pub enum PoolRefused<K: SigningCredential, D: DeadlineRule<Credential = K>> {
 /// What it needs for the workers is allocated before the first of them is started. What the passes
 /// and the journal take is allocated as they grow: a worker that finds no memory stops, and says so
 /// in its counts.
-///
-/// Requires fewer than 4,294,967,295 lists.
 pub fn serve_all<
     K: SigningCredential + EqualByValue + Send + Sync,
     D: DeadlineRule<Credential = K> + EqualByValue + Send + Sync,

@@ -5,8 +5,9 @@ ghost use Rattle.signer_book.specs.declared.pass.Receipt.{Receipt};
 
 use crate::gate::Gate;
 use crate::job::{Job, Served};
+use crate::job_server::JobServer;
 use crate::shared::SharedSigner;
-use crate::worker::Worker;
+use crate::surroundings::SignerAndGate;
 use sequential_signer::{DeadlineRule, SigningCredential};
 use signer_book::Pass;
 use std::sync::Wait;
@@ -29,11 +30,11 @@ pub fn serve_jobs<K: SigningCredential, D: DeadlineRule<Credential = K>, G: Gate
     ensures { (added : List (Receipt K)) × (pass.new ≡ pass.old ++ added)
         × IsServing (G.meaning gate.now) turns jobs.now added result }
 {
-    let worker = Worker {
+    let around = SignerAndGate { rt, shared, gate };
+    let server = JobServer {
         rt,
-        shared,
-        gate,
+        around: &around,
         turns,
     };
-    worker.serve_each(pass, jobs)
+    server.serve_each(&mut (), pass, jobs)
 }

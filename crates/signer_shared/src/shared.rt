@@ -33,8 +33,6 @@ impl<K: SigningCredential, D: DeadlineRule<Credential = K>> SharedSigner<K, D> {
     ghost use Rattle.sign_desk.specs.DeskState.{Represents};
 
     /// A book with its plan, to be shared.
-    ///
-    /// Requires a plan to which nothing has happened, with the setup of the book's desk.
     pub fn new(book: Book<K, D>, plan: Desk<K, D>) -> SharedSigner<K, D>
         requires fresh { Represents (policy_of K.valid K.valid_at D.deadline) plan [] }
         requires setup { setup_of plan ≡ setup_of book.desk }
@@ -54,9 +52,11 @@ impl<K: SigningCredential, D: DeadlineRule<Credential = K>> SharedSigner<K, D> {
         Ok(Pass::new(self.plan.alloc()))
     }
 
-    /// One event, under the lock. It may wait for another thread.
+    /// Makes one event of a call, and puts its receipt behind the pass. It may wait for another thread.
     ///
-    /// `OutOfMemory` leaves the pass as it was.
+    /// Lend it a pass that `close` gets: an event in another pass is in the journal too, and then `close`
+    /// answers `Absent`. After `OutOfMemory` nothing has happened, and the event can be made again; give the
+    /// call up by an `Event::Cancel`, or it stays live, and may hold its cache.
     pub fn step<R: Wait>(&self, rt: &R, pass: &mut Pass<K>, event: &Event<K>) -> Reply<K>
         ensures receipt { result ≢ OutOfMemory → (place : ℕ) × (pass.new ≡ pass.old
             ++ record { place = place; entry = record { event = event.now; reply = result } } ∷ []) }
@@ -92,8 +92,6 @@ where
     /// for nobody, takes no memory, and a time linear in the journal and the receipts.
     ///
     /// Errors: the first of `CloseError` that holds, with book, plan and passes handed back.
-    ///
-    /// Requires fewer than 4,294,967,295 passes.
     pub fn close(self, passes: Vec<Pass<K>>) -> Result<Settled<K, D>, CloseRefused<K, D>>
         requires { length passes.items < 4294967295 }
         ensures settled { IfOk result (λ s. IsSettled s.journal.items s.passes.items) }

@@ -19,7 +19,7 @@ use std::thread::Threads;
 
 /// What one worker writes.
 #[derive(Drop)]
-pub(crate) struct Slot<K> {
+pub(crate) struct WorkerResult<K> {
     pass: Pass<K>,
     served: Served,
 }
@@ -27,13 +27,12 @@ pub(crate) struct Slot<K> {
 /// A slot for each worker, and room for what is in them.
 #[derive(Drop)]
 pub(crate) struct Slots<K> {
-    slots: Vec<Slot<K>>,
+    slots: Vec<WorkerResult<K>>,
     passes: Vec<Pass<K>>,
     served: Vec<Served>,
 }
 
 impl<K: SigningCredential> Slots<K> {
-    /// So many slots, whose passes are empty.
     pub(crate) fn new<D: DeadlineRule<Credential = K>>(
         shared: &SharedSigner<K, D>,
         count: usize,
@@ -47,7 +46,7 @@ impl<K: SigningCredential> Slots<K> {
         let mut slots = Vec::with_capacity(alloc, count)?;
         for _slot in 0..count {
             let pass = shared.pass()?;
-            slots.push_reserved(Slot {
+            slots.push_reserved(WorkerResult {
                 pass,
                 served: Served::new(),
             });
@@ -107,7 +106,7 @@ fn serve_slots<
     work: &[Vec<Job>],
     gate: &G,
     turns: u64,
-    slots: &mut [Slot<K>],
+    slots: &mut [WorkerResult<K>],
 )
     requires { length slots.old ≡ length work.now }
     ensures { ServesSlots (G.meaning gate.now) turns work.now slots.old slots.new }
@@ -116,7 +115,7 @@ fn serve_slots<
         return;
     }
     let threads = slots.len();
-    let worker = move |i: usize, slot: &mut Slot<K>|
+    let worker = move |i: usize, slot: &mut WorkerResult<K>|
         requires { i < length work.now }
         ensures { (e : Vec Job) → slot.old.pass ≡ []
             → IsServing (G.meaning gate.entry.now) turns (slice_index_or work.entry.now i e).items
@@ -125,7 +124,6 @@ fn serve_slots<
     thread::for_each_mut(rt, slots, threads, &worker);
 }
 
-/// Serves list `i`.
 fn serve_slot<K: SigningCredential, D: DeadlineRule<Credential = K>, G: Gate<K>, R: Wait>(
     rt: &R,
     shared: &SharedSigner<K, D>,
@@ -133,7 +131,7 @@ fn serve_slot<K: SigningCredential, D: DeadlineRule<Credential = K>, G: Gate<K>,
     i: usize,
     gate: &G,
     turns: u64,
-    slot: &mut Slot<K>,
+    slot: &mut WorkerResult<K>,
 )
     requires { i < length work.now }
     ensures { (e : Vec Job) → slot.old.pass ≡ []

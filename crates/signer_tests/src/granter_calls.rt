@@ -23,25 +23,30 @@ fn granter_of(alloc: Global, sources: &[Source], issuer: Issuer) -> Option<KeyGr
     Granter::new(alloc, vault, providers, issuer).ok()
 }
 
-/// Begins a call and tells of its polls, three at most.
-fn poll_thrice<P, G>(granter: &mut Granter<P, G>, now: Timestamp, told: &mut Told)
+/// Begins a call under this handle and tells of its polls, three at most.
+fn poll_thrice<P, G>(granter: &mut Granter<P, G>, handle: u32, now: Timestamp, told: &mut Told)
 where
     P: ProvideCredential<Credential = Key>,
     G: GrantCredential<Credential = Key, Ctx = P::Ctx>,
 {
-    drop(polled(granter, now, told));
+    drop(polled(granter, handle, now, told));
 }
 
 /// Tells of three polls. Hands out the state where the call goes on after these.
-fn polled<P, G>(granter: &mut Granter<P, G>, now: Timestamp, told: &mut Told) -> Option<Grant<P, G>>
+fn polled<P, G>(
+    granter: &mut Granter<P, G>,
+    handle: u32,
+    now: Timestamp,
+    told: &mut Told,
+) -> Option<Grant<P, G>>
 where
     P: ProvideCredential<Credential = Key>,
     G: GrantCredential<Credential = Key, Ctx = P::Ctx>,
 {
-    if granter.desk().handles() == 0 {
+    if granter.desk().handles() <= handle {
         return None;
     }
-    let begun = granter.grant(0, None).ok()?;
+    let begun = granter.grant(handle, None).ok()?;
     let waiting = poll(granter, begun, now, told)?;
     let again = poll(granter, waiting, now, told)?;
     poll(granter, again, now, told)
@@ -90,7 +95,7 @@ fn told_by(alloc: Global, sources: &[Source], issuer: Issuer, second: i64) -> Op
     let now = at(alloc, second)?;
     let mut granter = granter_of(alloc, sources, issuer)?;
     let mut told = Told::new(alloc);
-    poll_thrice(&mut granter, now, &mut told);
+    poll_thrice(&mut granter, 0, now, &mut told);
     drop(granter);
     Some(told)
 }
@@ -171,13 +176,40 @@ fn calls_are_given_a_key_or_refused(rt: HostRuntime) {
     }
 }
 
+/// A call begins one load and one work: those of the next call, on another cache, have the next numbers.
+#[test]
+fn a_call_begins_one_load_and_one_work(rt: HostRuntime) {
+    is_told(
+        &rt,
+        told_by_two_caches(rt.alloc()),
+        "given 5551101, given 5551202",
+        "",
+    );
+}
+
+fn told_by_two_caches(alloc: Global) -> Option<Told> {
+    let now = at(alloc, 5)?;
+    let mut granter = granter_of(alloc, &[Source::Finds], Issuer::Makes)?;
+    let mut told = Told::new(alloc);
+    poll_both_caches(&mut granter, now, &mut told);
+    drop(granter);
+    Some(told)
+}
+
+fn poll_both_caches(granter: &mut KeyGranter, now: Timestamp, told: &mut Told) {
+    let other = with_provider(granter).unwrap_or(0);
+    poll_thrice(granter, 0, now, told);
+    told.push(", ");
+    poll_thrice(granter, other, now, told);
+}
+
 /// Handles are added until the first call is begun.
 #[test]
 fn handles_are_added_before_the_first_call(rt: HostRuntime) {
     let mut granter = granter_of(rt.alloc(), &[Source::Finds], Issuer::Makes).expect(&rt, "memory");
     assert!(rt; added(rt.alloc(), &mut granter) == [Ok(1), Ok(2), Ok(3)]);
     let now = at(rt.alloc(), 5).expect(&rt, "a moment");
-    poll_thrice(&mut granter, now, &mut Told::new(rt.alloc()));
+    poll_thrice(&mut granter, 0, now, &mut Told::new(rt.alloc()));
     assert!(rt; added(rt.alloc(), &mut granter) == [Err(AddError::Late); 3]);
     drop(granter);
 }

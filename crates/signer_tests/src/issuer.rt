@@ -13,7 +13,8 @@ use std::time::Duration;
 /// What a granting service answers.
 #[derive(Clone, Copy)]
 pub(crate) enum Issuer {
-    /// A key with the number of the source and a hundred, which expires with the source.
+    /// A key with the number of the source and a hundred for each work that was begun, which expires with
+    /// the source.
     Makes,
     /// The same, at the second poll of a work.
     MakesLater,
@@ -60,7 +61,7 @@ impl GrantCredential for Issuer {
     fn grant_credential(
         &self,
         _alloc: Global,
-        _vault: &Vault,
+        vault: &Vault,
         source: &Key,
         _expires_in: Option<Duration>,
     ) -> Result<Work, NoMemory<()>> {
@@ -69,7 +70,9 @@ impl GrantCredential for Issuer {
             _ => Some(source.expires),
         };
         let made = Key {
-            number: source.number.saturating_add(100),
+            number: source
+                .number
+                .saturating_add(vault.next_work().saturating_mul(100)),
             expires: expires.unwrap_or(source.expires),
         };
         Ok(Work {

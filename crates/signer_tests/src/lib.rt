@@ -16,6 +16,7 @@ mod key;
 #[cfg(test)]
 mod one_call;
 #[cfg(test)]
+#[cfg(test)]
 mod one_signer;
 #[cfg(test)]
 mod signer_calls;

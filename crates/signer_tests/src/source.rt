@@ -11,11 +11,13 @@ use std::cell::Cell;
 /// The number before that of the first load's key. No text may show a number that begins so.
 const BEFORE: u64 = 5551000;
 
-/// The moment at which all that is found expires, and the number of the load that was begun last.
+/// The moment at which all that is found expires, the number of the load that was begun last, and how many
+/// credentials an issuer began to make.
 #[derive(Drop)]
 pub(crate) struct Vault {
     pub(crate) expires: Timestamp,
     loads: Cell<u64>,
+    works: Cell<u64>,
 }
 
 impl Vault {
@@ -24,7 +26,15 @@ impl Vault {
         Some(Vault {
             expires: at(alloc, 60)?,
             loads: Cell::new(BEFORE),
+            works: Cell::new(0),
         })
+    }
+
+    /// The number of one more work, from 1.
+    pub(crate) fn next_work(&self) -> u64 {
+        let number = self.works.get().saturating_add(1);
+        self.works.set(number);
+        number
     }
 }
 

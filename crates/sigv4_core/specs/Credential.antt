@@ -1,5 +1,5 @@
 -- An access key and its secret.
-use Rattle.std.specs.Prelude.{ℕ, ℤ, Bool, true, ◌&&◌, List, length, nat_lt, int_lt, Option, Some, None}
+use Rattle.std.specs.Prelude.{ℕ, ℤ, Bool, true, ◌&&◌, List, codes, length, nat_lt, int_lt, Option, Some, None}
 use Rattle.std.specs.Char.{is_ascii_graphic}
 use Rattle.std.specs.List.{list_all}
 
@@ -18,3 +18,7 @@ is_credential access secret =
 abbrev pub is_before : Option ℤ → ℤ → Bool
 is_before None moment = true
 is_before (Some expires) moment = int_lt moment expires
+
+-- what is printed in place of a credential
+abbrev pub credential_stars : List ℕ
+credential_stars = codes "SigCredential(***)"

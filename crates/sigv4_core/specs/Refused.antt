@@ -4,7 +4,8 @@ use Rattle.sign_base.specs.Error.{ErrorParts, new_error}
 use Rattle.sign_base.specs.declared.error_kind.ErrorKind.{ErrorKind}
 use Rattle.sign_base.specs.declared.error_kind.ErrorKind.TheVariants as kind
 use Rattle.sigv4_core.specs.declared.sig_error.SigError.{SigError}
-use Rattle.sigv4_core.specs.declared.sig_error.SigError.TheVariants.{Head, Authority, Path, Moment, OutOfMemory}
+use Rattle.sigv4_core.specs.declared.sig_error.SigError.TheVariants.{Head, Authority, Path, Moment}
+use Rattle.sigv4_core.specs.declared.sig_error.SigError.TheVariants.{OutOfMemory}
 
 -- an allocation failed, or the error is this one and its cause holds
 abbrev pub RefusedWith : ErrorKind → List ℕ → Type 0 → ErrorParts → Type 0

@@ -4,7 +4,7 @@ use Rattle.credentials.specs.Operation.{SignOutcome}
 use Rattle.credentials.specs.declared.polled.Polled.{Polled}
 use Rattle.credentials.specs.declared.polled.Polled.TheVariants.{Ready, Failed, OutOfMemory}
 use Rattle.sign_base.specs.declared.head.Head.{Head}
-use Rattle.sign_request.specs.declared.header_keys.HeaderKeys.{HeaderKeys}
+use Rattle.sign_request.specs.declared.header_seeds.HeaderSeeds.{HeaderSeeds}
 use Rattle.sigv4_core.specs.Refused.{error_of}
 use Rattle.sigv4_core.specs.Scope.{Scope}
 use Rattle.sigv4_core.specs.declared.sig_error.SigError.{SigError}
@@ -13,7 +13,7 @@ use Rattle.sigv4_core.specs.declared.sig_error.SigError.{SigError}
 pub record ServiceView : Type 0 where
   pub scope : Scope
   pub payload : List ℕ
-  pub keys : HeaderKeys
+  pub keys : HeaderSeeds
 
 -- what a poll leaves of an answer and a candidate
 abbrev pub left_by : Polled (Unit {0}) → Head → SignOutcome

@@ -17,12 +17,16 @@ use http::request::Parts;
 use http::uri::{Uri, UriError};
 use http_header::MAX_HEADER_NAME_LEN;
 use sign_base::{Error, ErrorKind, Field, Head};
-use sign_request::{HeaderKeys, parts_of_keyed};
+use sign_request::{HeaderSeeds, parts_of_seeded};
 use std::alloc::Global;
 
 /// The target of an accepted head. The keys are for the names of the headers where those are more
 /// than a map may have; no answer depends on them.
-pub(crate) fn accepted_target(alloc: Global, head: &Head, keys: HeaderKeys) -> Result<Uri, SigError>
+pub(crate) fn accepted_target(
+    alloc: Global,
+    head: &Head,
+    keys: HeaderSeeds,
+) -> Result<Uri, SigError>
     ensures accepted { OnOk result (is_accepted_head head.now ≡ true) }
     ensures target { IfOk result (λ uri. target_of head.now.uri ≡ Some (plain_target uri)) }
     ensures err { IfErr result (λ why. (why ≡ SigError.OutOfMemory)
@@ -38,13 +42,13 @@ pub(crate) fn accepted_target(alloc: Global, head: &Head, keys: HeaderKeys) -> R
 }
 
 /// The same, whatever the number of headers.
-fn target_by_map(alloc: Global, head: &Head, keys: HeaderKeys) -> Result<Uri, SigError>
+fn target_by_map(alloc: Global, head: &Head, keys: HeaderSeeds) -> Result<Uri, SigError>
     ensures accepted { OnOk result (is_accepted_head head.now ≡ true) }
     ensures target { IfOk result (λ uri. target_of head.now.uri ≡ Some (plain_target uri)) }
     ensures err { IfErr result (λ why. (why ≡ SigError.OutOfMemory)
         ⊎ ((why ≡ SigError.Head) × (is_accepted_head head.now ≡ false))) }
 {
-    match parts_of_keyed(alloc, head, keys) {
+    match parts_of_seeded(alloc, head, keys) {
         Ok(parts) => Ok(uri_of(parts)),
         Err(e) => Err(head_refused(&e)),
     }

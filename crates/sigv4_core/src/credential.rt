@@ -1,10 +1,11 @@
 //! An access key and its secret. Nothing here shows the secret.
-ghost use Rattle.std.specs.Prelude.{◌≡◌, ◌∷◌, IfOk, IfErr, OnOk, true, false, codes};
+ghost use Rattle.std.specs.Prelude.{◌≡◌, ◌∷◌, IfOk, IfErr, OnOk, Some, true, false, codes};
 ghost use Rattle.std.specs.Char.{is_ascii_graphic};
+ghost use Rattle.std.specs.Fmt.{DisplaysOnOk, WritesStyledOnOk};
 ghost use Rattle.std.specs.List.{list_all};
 ghost use Rattle.sign_base.specs.Octets.{FitsInline};
 ghost use Rattle.sign_base.specs.declared.error_kind.ErrorKind.TheVariants.{CredentialInvalid};
-ghost use Rattle.sigv4_core.specs.Credential.{is_credential, is_before};
+ghost use Rattle.sigv4_core.specs.Credential.{is_credential, is_before, credential_stars};
 ghost use Rattle.sigv4_core.specs.Refused.{RefusedWith};
 
 use sequential_signer::SigningCredential;
@@ -62,7 +63,8 @@ impl SigCredential {
 
     /// The access key, which is no secret: each signed request names it.
     pub fn access(&self) -> &[u8]
-        ensures { result.now ≡ self.now.access }
+        ensures value { result.now ≡ self.now.access }
+        ensures accepted { is_credential self.now.access self.now.secret ≡ true }
     {
         self.access.as_slice()
     }
@@ -75,11 +77,12 @@ impl SigCredential {
 }
 
 impl fmt::Debug for SigCredential {
-    ghost use Rattle.std.specs.Prelude.{Some, codes};
+    ghost debug_output = { λ _. Some credential_stars };
 
-    ghost debug_output = { λ _. Some (codes "SigCredential(***)") };
-
-    fn fmt<W: fmt::Write>(&self, f: &mut fmt::Formatter<W>) -> fmt::Result {
+    fn fmt<W: fmt::Write>(&self, f: &mut fmt::Formatter<W>) -> fmt::Result
+        ensures writes { DisplaysOnOk W.write_str_gives f.old result (Some credential_stars) f.new }
+        ensures styled { WritesStyledOnOk W.write_str_gives f.old result credential_stars f.new }
+    {
         f.write_str("SigCredential(***)")
     }
 }

@@ -3,7 +3,8 @@ ghost use Rattle.std.specs.Prelude.{◌≡◌, ◌++◌, ◌∷◌, ◌||◌, []
 ghost use Rattle.std.specs.List.{list_any};
 ghost use Rattle.sign_time.specs.Calendar.{IsFourDigitYear};
 ghost use Rattle.http_header.specs.Token.{lowercase};
-ghost use Rattle.sigv4_core.specs.SignedHead.{field, is_named, is_replaced, kept_headers, with_host, headers_to_sign};
+ghost use Rattle.sigv4_core.specs.SignedHead.{field, is_named, is_replaced, kept_headers, with_host};
+ghost use Rattle.sigv4_core.specs.SignedHead.{headers_to_sign};
 
 use sign_base::{Field, Fields, NoMemory, Octets, Timestamp};
 use sign_time::FormatMoment;

@@ -66,8 +66,9 @@ impl Payload {
         })
     }
 
-    /// The word.
-    pub fn word(&self) -> &[u8]
+    /// The digest of the content, or `UNSIGNED-PAYLOAD`: what S3 wants as `x-amz-content-sha256`, which AWS
+    /// calls HashedPayload.
+    pub fn hash_or_unsigned(&self) -> &[u8]
         ensures { result.now ≡ self.now }
     {
         self.word.as_slice()

@@ -47,13 +47,15 @@ impl SigScope {
     }
 
     pub fn region(&self) -> &[u8]
-        ensures { result.now ≡ self.now.region }
+        ensures value { result.now ≡ self.now.region }
+        ensures accepted { is_scope self.now.region self.now.service ≡ true }
     {
         self.region.as_slice()
     }
 
     pub fn service(&self) -> &[u8]
-        ensures { result.now ≡ self.now.service }
+        ensures value { result.now ≡ self.now.service }
+        ensures accepted { is_scope self.now.region self.now.service ≡ true }
     {
         self.service.as_slice()
     }

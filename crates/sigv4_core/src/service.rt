@@ -6,11 +6,11 @@ ghost use Rattle.sigv4_core.specs.Refused.{error_of};
 ghost use Rattle.sigv4_core.specs.Service.{GivesSigned};
 ghost use Rattle.sigv4_core.specs.SignedHead.{signing_of};
 
-use crate::{Moment, Payload, SigCredential, SigError, SigScope, sign_head_keyed};
+use crate::{Moment, Payload, SigCredential, SigError, SigScope, sign_head_seeded};
 use credentials::{Polled, SignRequest};
 use sequential_signer::{DeadlineRule, SigningCredential, operation_end};
 use sign_base::{Head, NoMemory, Timestamp};
-use sign_request::HeaderKeys;
+use sign_request::HeaderSeeds;
 use std::alloc::Global;
 use std::marker::{Model, PhantomData};
 use std::time::Duration;
@@ -21,7 +21,7 @@ use std::time::Duration;
 pub struct SigService<X> {
     scope: SigScope,
     payload: Payload,
-    keys: HeaderKeys,
+    keys: HeaderSeeds,
     context: PhantomData<X>,
 }
 
@@ -41,14 +41,14 @@ impl<X> SigService<X> {
         SigService {
             scope,
             payload,
-            keys: HeaderKeys::default(),
+            keys: HeaderSeeds::default(),
             context: PhantomData,
         }
     }
 
     /// The service with these keys for the header maps that it makes, where the names of headers come
     /// from outside.
-    pub fn with_header_keys(self, keys: HeaderKeys) -> SigService<X>
+    pub fn with_header_seeds(self, keys: HeaderSeeds) -> SigService<X>
         ensures { result ≡ record self { keys = keys } }
     {
         SigService { keys, ..self }
@@ -102,7 +102,7 @@ impl<X: Moment> SignRequest for SigService<X> {
         candidate: &mut Head,
     ) -> Polled<()> {
         let now = ctx.moment();
-        match sign_head_keyed(
+        match sign_head_seeded(
             alloc,
             candidate,
             work,

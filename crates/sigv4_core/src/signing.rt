@@ -4,7 +4,8 @@ ghost use Rattle.sign_time.specs.Calendar.{IsFourDigitYear};
 ghost use Rattle.sign_request.specs.PlainTarget.{plain_target};
 ghost use Rattle.sigv4_core.specs.Signature.{date_of};
 ghost use Rattle.sigv4_core.specs.CanonicalHeaders.{signed_headers};
-ghost use Rattle.sigv4_core.specs.SignedHead.{field, request_to_sign, authorization, signed_with, signed_head, signing_with, signing_of};
+ghost use Rattle.sigv4_core.specs.SignedHead.{field, request_to_sign, authorization, signed_with};
+ghost use Rattle.sigv4_core.specs.SignedHead.{signed_head, signing_with, signing_of};
 
 use crate::canonical_request::{CanonicalTexts, canonical_texts};
 use crate::headers_to_sign::headers_to_sign;
@@ -14,13 +15,20 @@ use crate::target::{authority_of, path_of, query_of, target_to_sign};
 use crate::{Payload, SigCredential, SigError, SigScope, SigningKey};
 use http::uri::Uri;
 use sign_base::{Field, Fields, Head, NoMemory, Octets, Timestamp};
-use sign_request::HeaderKeys;
+use sign_request::HeaderSeeds;
 use std::alloc::Global;
 
-/// The head with its signature, which covers its method, its path, its query and all its headers.
+/// The head with its signature in the header `authorization`, as AWS Signature Version 4 has it ("Create a
+/// signed AWS API request"): of its method, its path, its query and each of its headers.
 ///
-/// Headers `authorization` and `x-amz-date` that it had are replaced, and a `host` that it lacks is
-/// added. Where the names of the headers come from outside, `sign_head_keyed` is the call to use.
+/// Before the call, put into the head what AWS is to find signed: `x-amz-security-token` with a credential that
+/// has a session token, and for S3 `x-amz-content-sha256` with `Payload::hash_or_unsigned`. Headers
+/// `authorization` and `x-amz-date` are replaced, and a `host` is added where none is there (RFC 9110, 7.2).
+/// After it, send the head as it is, and soon, since AWS compares `x-amz-date` with its clock: a header that
+/// agents on the way change is to be added after signing.
+///
+/// When the credential expires is not asked: ask `is_valid` first. Where the names of the headers come from
+/// outside, call `sign_head_seeded`. `sigv4_tests` runs it on the requests that AWS publishes.
 pub fn sign_head(
     alloc: Global,
     head: &Head,
@@ -33,27 +41,27 @@ pub fn sign_head(
     ensures err { IfErr result (λ why. (why ≡ SigError.OutOfMemory)
         ⊎ (signing_of credential.now scope.now payload.now now head.now ≡ Err why)) }
 {
-    sign_head_keyed(
+    sign_head_seeded(
         alloc,
         head,
         credential,
         scope,
         payload,
         now,
-        HeaderKeys::default(),
+        HeaderSeeds::default(),
     )
 }
 
 /// Answers what `sign_head` does, whatever the keys.
 #[tactic(auto, unfolding(crate::specs::SignedHead::signing_of, crate::specs::SignedHead::signing_with))]
-pub fn sign_head_keyed(
+pub fn sign_head_seeded(
     alloc: Global,
     head: &Head,
     credential: &SigCredential,
     scope: &SigScope,
     payload: &Payload,
     now: Timestamp,
-    keys: HeaderKeys,
+    keys: HeaderSeeds,
 ) -> Result<Head, SigError>
     ensures ok { IfOk result (λ h. signing_of credential.now scope.now payload.now now head.now ≡ Ok h) }
     ensures err { IfErr result (λ why. (why ≡ SigError.OutOfMemory)
@@ -65,7 +73,7 @@ pub fn sign_head_keyed(
         return Err(SigError::Moment);
     }
     let key = SigningKey::derive(alloc, credential, scope, now)?;
-    let signed = sign_head_with(alloc, head, &key, payload, now, keys);
+    let signed = sign_head_with_key(alloc, head, &key, payload, now, keys);
     drop(key);
     signed
 }
@@ -73,13 +81,13 @@ pub fn sign_head_keyed(
 /// The head with its signature under a derived key, for a moment of the key's day. It is the head that
 /// `sign_head` answers for the credential that the key was derived of.
 #[tactic(auto, unfolding(crate::specs::SignedHead::signing_with))]
-pub fn sign_head_with(
+pub fn sign_head_with_key(
     alloc: Global,
     head: &Head,
     key: &SigningKey,
     payload: &Payload,
     now: Timestamp,
-    keys: HeaderKeys,
+    keys: HeaderSeeds,
 ) -> Result<Head, SigError>
     requires { key.now.date ≡ date_of now }
     ensures ok { IfOk result (λ h. signing_with key.now payload.now now head.now ≡ Ok h) }
@@ -143,7 +151,7 @@ fn signed_with(
     ensures { IfOk result (λ fields. fields
         ≡ signed_with key.now payload.now now head.now (plain_target uri.now) headers) }
 {
-    let texts = request_texts(alloc, head, uri, &headers, payload.word())?;
+    let texts = request_texts(alloc, head, uri, &headers, payload.hash_or_unsigned())?;
     let signature = key.signature(alloc, now, texts.request.as_slice())?;
     let value = authorization(
         alloc,

@@ -1,7 +1,8 @@
 //! A derived signing key as a value: who signs many requests derives it once a day.
-ghost use Rattle.std.specs.Prelude.{◌≡◌, IfOk, bytes_eq};
+ghost use Rattle.std.specs.Prelude.{◌≡◌, IfOk, Some, bytes_eq};
+ghost use Rattle.std.specs.Fmt.{DisplaysOnOk, WritesStyledOnOk};
 ghost use Rattle.sign_time.specs.Calendar.{IsFourDigitYear};
-ghost use Rattle.sigv4_core.specs.Signature.{derived_key, date_of, signature_under};
+ghost use Rattle.sigv4_core.specs.Signature.{derived_key, date_of, signature_under, key_stars};
 
 use crate::request_signature::{signature_under, signing_key};
 use crate::{SigCredential, SigScope};
@@ -55,7 +56,7 @@ impl SigningKey {
     /// Whether the key is for the day of this moment.
     ///
     /// Requires a year of four digits.
-    pub fn is_for(&self, alloc: Global, now: Timestamp) -> Result<bool, NoMemory<()>>
+    pub fn is_for_day_of(&self, alloc: Global, now: Timestamp) -> Result<bool, NoMemory<()>>
         requires { IsFourDigitYear now }
         ensures { IfOk result (λ same. same ≡ bytes_eq self.now.date (date_of now)) }
     {
@@ -94,11 +95,12 @@ impl SigningKey {
 }
 
 impl fmt::Debug for SigningKey {
-    ghost use Rattle.std.specs.Prelude.{Some, codes};
+    ghost debug_output = { λ _. Some key_stars };
 
-    ghost debug_output = { λ _. Some (codes "SigningKey(***)") };
-
-    fn fmt<W: fmt::Write>(&self, f: &mut fmt::Formatter<W>) -> fmt::Result {
+    fn fmt<W: fmt::Write>(&self, f: &mut fmt::Formatter<W>) -> fmt::Result
+        ensures writes { DisplaysOnOk W.write_str_gives f.old result (Some key_stars) f.new }
+        ensures styled { WritesStyledOnOk W.write_str_gives f.old result key_stars f.new }
+    {
         f.write_str("SigningKey(***)")
     }
 }

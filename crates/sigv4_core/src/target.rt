@@ -1,5 +1,6 @@
 //! The target of a head that is to be signed, and why there is none.
-ghost use Rattle.std.specs.Prelude.{◌≡◌, ◌⊎◌, ◌==◌, Ok, Err, Some, [], IfOk, IfErr, MatchResult, is_some, unwrap_or};
+ghost use Rattle.std.specs.Prelude.{◌≡◌, ◌⊎◌, ◌==◌, Ok, Err, Some, [], IfOk, IfErr, MatchResult, is_some};
+ghost use Rattle.std.specs.Prelude.{unwrap_or};
 ghost use Rattle.std.specs.List.{list_any};
 ghost use Rattle.http_uri.specs.Grammar.{path_of, query_of};
 ghost use Rattle.http_uri.specs.Uri.{uri_authority, uri_data};
@@ -11,7 +12,7 @@ use crate::accepted_target::accepted_target;
 use crate::{SigError, SigScope};
 use http::uri::Uri;
 use sign_base::Head;
-use sign_request::HeaderKeys;
+use sign_request::HeaderSeeds;
 use std::alloc::Global;
 
 /// The target of a head that can be signed for this scope: the head is accepted, its URI names an
@@ -20,7 +21,7 @@ pub fn target_to_sign(
     alloc: Global,
     head: &Head,
     scope: &SigScope,
-    keys: HeaderKeys,
+    keys: HeaderSeeds,
 ) -> Result<Uri, SigError>
     ensures ok { IfOk result (λ uri. target_to_sign scope.now head.now ≡ Ok (plain_target uri)) }
     ensures err { IfErr result (λ why. (why ≡ SigError.OutOfMemory)

@@ -1,10 +1,12 @@
 -- The pieces of a query beside their decoded keys, and what is read of them.
-use Rattle.std.specs.Prelude.{◌≡◌, ℕ, Bool, false, not, ◌&&◌, List, [], ◌∷◌, map, filter, codes, bytes_eq, Option, Some, None, is_some, option_map, string_bytes}
+use Rattle.std.specs.Prelude.{◌≡◌, ℕ, Bool, false, not, ◌&&◌, List, [], ◌∷◌, map, filter, codes, bytes_eq}
+use Rattle.std.specs.Prelude.{Option, Some, None, is_some, option_map, string_bytes}
 use Rattle.std.specs.List.{list_any}
 use Rattle.sign_request.specs.CanonicalText.{joined_texts}
 use Rattle.sign_request.specs.Query.{Pair, query_pieces, read_pair}
 use Rattle.sigv4_core.specs.Signature.{algorithm}
-use Rattle.sigv4_presign.specs.LinkPairs.{algorithm_name, credential_name, date_name, expires_name, headers_name, signature_name, is_link_name}
+use Rattle.sigv4_presign.specs.LinkPairs.{algorithm_name, credential_name, date_name, expires_name}
+use Rattle.sigv4_presign.specs.LinkPairs.{headers_name, signature_name, is_link_name}
 use Rattle.sigv4_presign.specs.declared.link_query.Piece.{Piece}
 
 -- a piece beside its decoded key

@@ -3,7 +3,9 @@ use Rattle.std.specs.Prelude.{[], codes}
 use Rattle.sign_base.specs.Error.{ErrorParts, new_error}
 use Rattle.sign_base.specs.declared.error_kind.ErrorKind.TheVariants as kind
 use Rattle.sigv4_presign.specs.declared.presign_error.PresignError.{PresignError}
-use Rattle.sigv4_presign.specs.declared.presign_error.PresignError.TheVariants.{Head, Authority, Path, Moment, Already, Expires, Link, OutOfMemory}
+use Rattle.sigv4_presign.specs.declared.presign_error.PresignError.TheVariants.{Head, Authority, Path, Moment}
+use Rattle.sigv4_presign.specs.declared.presign_error.PresignError.TheVariants.{Already, Expires, Link}
+use Rattle.sigv4_presign.specs.declared.presign_error.PresignError.TheVariants.{OutOfMemory}
 
 -- the error of each cause
 abbrev pub error_of : PresignError → ErrorParts

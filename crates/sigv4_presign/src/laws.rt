@@ -1,12 +1,14 @@
 //! What follows for a caller from what the calls promise. Each function does nothing: its contract is
 //! the law.
-ghost use Rattle.std.specs.Prelude.{◌≡◌, ◌↔◌, ℕ, ℤ, ◌<ℤ◌, ◌≤ℤ◌};
+ghost use Rattle.std.specs.Prelude.{◌≡◌, ◌↔◌, ℕ, ℤ, ◌<ℤ◌, ◌≤ℤ◌, List, Some};
 ghost use Rattle.sign_time.specs.MomentRead.{whole_second};
 ghost use Rattle.sign_base.specs.declared.head.Head.{Head};
 ghost use Rattle.sigv4_core.specs.Credential.{Credential};
 ghost use Rattle.sigv4_core.specs.Scope.{Scope};
 ghost use Rattle.sigv4_presign.specs.CheckedLink.{checked};
-ghost use Rattle.sigv4_presign.specs.LinkLaw.{WasMade, IsGood, expiry_of};
+ghost use Rattle.sigv4_presign.specs.LinkDate.{moment_of_text, expires_of_text};
+ghost use Rattle.sigv4_presign.specs.LinkLaw.{WasMade, IsGood, expiry_of, AskTheSame, IsRequestBy, IsDateOf};
+ghost use Rattle.sigv4_presign.specs.LinkLaw.{IsExpiryOf};
 ghost use Rattle.sigv4_presign.specs.declared.checked.Checked.TheVariants.{Early, Late, Valid};
 
 /// A link that was made is valid, to the same credential and scope, exactly from its date on and
@@ -22,4 +24,23 @@ pub fn a_link_is_valid_for_its_time()
     ensures late { (keys : Credential) (scope : Scope) (expires : ℕ) (now u : ℤ) (head link : Head)
         → WasMade keys scope expires now head link
         → expiry_of now expires ≤ℤ u → checked keys scope u link ≡ Late }
+{}
+
+/// The check reads of a head its method and its URI, and of its headers whether `http` accepts them.
+/// So a request by a link is checked as the head that `presign` answered, whatever its headers are and
+/// its version: it is valid for the time of that.
+pub fn a_check_reads_method_and_uri()
+    ensures same { (keys : Credential) (scope : Scope) (u : ℤ) (head other : Head)
+        → AskTheSame head other → checked keys scope u head ≡ checked keys scope u other }
+    ensures request { (keys : Credential) (scope : Scope) (expires : ℕ) (now u : ℤ) (head link request : Head)
+        → WasMade keys scope expires now head link → IsRequestBy link request
+        → checked keys scope u request ≡ checked keys scope u link }
+{}
+
+/// A text is read as a date exactly where it is that of a whole second in the years 0000 to 9999, and as an
+/// expiry exactly where it is a number of seconds that a link may be good for, in decimal.
+pub fn a_date_and_an_expiry_are_as_printed()
+    ensures date { (text : List ℕ) (t : ℤ) → (moment_of_text text ≡ Some t) ↔ IsDateOf text t }
+    ensures expiry { (text : List ℕ) (seconds : ℕ)
+        → (expires_of_text text ≡ Some seconds) ↔ IsExpiryOf text seconds }
 {}

@@ -1,5 +1,6 @@
 //! Reading the date and the expiry of a link: what is read has to be printed the same.
-ghost use Rattle.std.specs.Prelude.{◌≡◌, ◌≤◌, ◌+◌, IfOk, MatchOption, Some, None, if◌then◌else◌, bytes_eq, length, string_bytes};
+ghost use Rattle.std.specs.Prelude.{◌≡◌, ◌≤◌, ◌+◌, IfOk, MatchOption, Some, None, if◌then◌else◌, bytes_eq};
+ghost use Rattle.std.specs.Prelude.{length, string_bytes};
 ghost use Rattle.jiff_core.specs.DateTime.{civil_nanos};
 ghost use Rattle.sign_base.specs.Moment.{is_moment};
 ghost use Rattle.sign_time.specs.MomentRead.{number_of, number_at};

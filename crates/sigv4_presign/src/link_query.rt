@@ -1,9 +1,11 @@
 //! A query in its pieces, each beside its decoded key, as both calls read it.
-ghost use Rattle.std.specs.Prelude.{◌≡◌, ◌++◌, ◌∷◌, IfOk, OnOk, bytes_eq, if◌then◌else◌, option_copied, option_map, string_bytes};
+ghost use Rattle.std.specs.Prelude.{◌≡◌, ◌++◌, ◌∷◌, IfOk, OnOk, bytes_eq, if◌then◌else◌, option_copied};
+ghost use Rattle.std.specs.Prelude.{option_map, string_bytes};
 ghost use Rattle.sign_base.specs.Bytes.{ampersand};
 ghost use Rattle.sign_request.specs.Query.{decoded_text, read_pair};
 ghost use Rattle.sigv4_presign.specs.LinkPairs.{is_link_name};
-ghost use Rattle.sigv4_presign.specs.LinkPieces.{keyed, keyed_piece, keyed_pieces, ArePiecesOf, texts_named, only, value_in, unsigned_text, any_link_name};
+ghost use Rattle.sigv4_presign.specs.LinkPieces.{keyed, keyed_piece, keyed_pieces, ArePiecesOf, texts_named};
+ghost use Rattle.sigv4_presign.specs.LinkPieces.{only, value_in, unsigned_text, any_link_name};
 
 use percent_encoding::percent_decode_str;
 use std::alloc::{AllocError, Global};
@@ -52,7 +54,7 @@ fn keyed_piece(alloc: Global, text: &str) -> Result<Piece<'_>, AllocError>
 }
 
 /// The value of a piece, decoded once.
-fn value(alloc: Global, text: &str) -> Result<String, AllocError>
+fn read_value(alloc: Global, text: &str) -> Result<String, AllocError>
     ensures { IfOk result (λ value. string_bytes value ≡ (read_pair text.now).1) }
 {
     let (_, value) = text.split_once('=').unwrap_or((text, ""));
@@ -96,7 +98,7 @@ pub(crate) fn only_value(
         ≡ value_in name.now (keyed_pieces pieces.now)) }
 {
     match only_piece(pieces, name) {
-        Some(text) => Ok(Some(value(alloc, text)?)),
+        Some(text) => Ok(Some(read_value(alloc, text)?)),
         None => Ok(None),
     }
 }

@@ -11,16 +11,21 @@ use crate::link_query::{has_link_name, pieces_of};
 use crate::link_target::query_of;
 use http_uri::{Uri, UriError};
 use sign_base::{Head, NoMemory, Octets, Timestamp};
-use sign_request::HeaderKeys;
+use sign_request::HeaderSeeds;
 use sigv4_core::{SigCredential, SigScope, is_before_year_0, target_to_sign};
 use std::alloc::Global;
 
-/// The head with a presigned link as its URI: who has the link may send this request, for so many
+/// The head with a presigned link as its URI, as AWS Signature Version 4 has it ("Authenticating requests:
+/// using query parameters"): who has the link can send this request, any number of times, for `expires`
 /// seconds from the whole second at or before `now` on. Method, version and headers stay.
 ///
-/// The signature covers the method, the path, the query and, of the headers, the host alone, whose
-/// value is the URI's authority. Where the names of the headers come from outside, `presign_keyed` is
-/// the call to use.
+/// Before the call, put a session token into the query, as the pair `X-Amz-Security-Token`, percent-encoded
+/// (RFC 3986, 2.1), and write the authority as agents will send it in `host`: in lower case, without user,
+/// password and default port (RFC 9110, 4.2.3). Hand the link out with the method that it is for. The
+/// signature covers the method, the path, the query and, of the headers, the host alone; not the content.
+///
+/// When the credential expires is not asked, so a link may outlive its key: ask `is_valid_at` for the link's
+/// end first. Where the names of the headers come from outside, call `presign_seeded`.
 pub fn presign(
     alloc: Global,
     head: &Head,
@@ -33,27 +38,27 @@ pub fn presign(
     ensures err { IfErr result (λ why. (why ≡ PresignError.OutOfMemory)
         ⊎ (presigning_of credential.now scope.now expires now head.now ≡ Err why)) }
 {
-    presign_keyed(
+    presign_seeded(
         alloc,
         head,
         credential,
         scope,
         expires,
         now,
-        HeaderKeys::default(),
+        HeaderSeeds::default(),
     )
 }
 
 /// Answers what `presign` does, whatever the keys.
 #[tactic(auto, unfolding(crate::specs::PresignedLink::presigning_of))]
-pub fn presign_keyed(
+pub fn presign_seeded(
     alloc: Global,
     head: &Head,
     credential: &SigCredential,
     scope: &SigScope,
     expires: u32,
     now: Timestamp,
-    keys: HeaderKeys,
+    keys: HeaderSeeds,
 ) -> Result<Head, PresignError>
     ensures ok { IfOk result (λ h. presigning_of credential.now scope.now expires now head.now ≡ Ok h) }
     ensures err { IfErr result (λ why. (why ≡ PresignError.OutOfMemory)

@@ -1,10 +1,13 @@
-//! Signature Version 4, as tests of what no clause says: values of other implementations, printed texts, and that each call
-//! succeeds with ample memory; and two examples that docs/GUIDE.md walks through, a gateway and a signer with the key of the
-//! environment. Nothing stands on this crate. Requests with their signatures are rows of `command_rows`.
+//! Signature Version 4, as tests of what no clause says: values of other implementations, printed texts,
+//! and that each call succeeds with ample memory; and two examples that docs/GUIDE.md walks through, a
+//! gateway and a signer with the key of the environment. Nothing stands on this crate. Requests with their
+//! signatures are rows of `command_rows`.
 #![tactic(auto)]
 
 #[cfg(test)]
 mod environment_key;
+#[cfg(test)]
+mod everyday;
 #[cfg(test)]
 mod gateway;
 #[cfg(test)]
@@ -17,6 +20,8 @@ mod many_headers;
 mod refusals;
 #[cfg(test)]
 mod secrets;
+#[cfg(test)]
+mod service;
 #[cfg(test)]
 mod signed_heads;
 #[cfg(test)]

@@ -1,5 +1,5 @@
-//! Links at moments that no line has, with fractions and before 1970, and the longest link. The values are published, or those of
-//! Python's `hmac`.
+//! Links at moments that no line has, with fractions and before 1970, and the longest link. The values are
+//! published, or those of Python's `hmac`.
 use crate::suite::{PUBLISHED, Suite, moment, published, request_to};
 use crate::told::{is_text, text_of, word};
 use sigv4_presign::presign;
@@ -41,9 +41,10 @@ fn made_at(rt: &impl Abort, alloc: Global, by: &Suite, nanos: i128) -> String {
     }
 }
 
-fn last_of(rt: &impl Abort, alloc: Global, uri: &[u8]) -> String {
-    let uri = str::from_utf8(uri).expect(rt, "a text");
-    let (_, signature) = uri.rsplit_once('=').expect(rt, "a pair");
+/// What stands behind the last `=`.
+pub(crate) fn last_of(rt: &impl Abort, alloc: Global, text: &[u8]) -> String {
+    let text = str::from_utf8(text).expect(rt, "a text");
+    let (_, signature) = text.rsplit_once('=').expect(rt, "a pair");
     text_of(rt, alloc, signature.as_bytes())
 }
 

@@ -28,8 +28,8 @@ fn service(alloc: Global) -> Result<SigService<Surroundings>, Error> {
     Ok(SigService::new(scope, Payload::of(alloc, b"")?))
 }
 
-/// Signs a request under handle 0, and tells the header that it has then, or why it is refused. Provider and service answer
-/// at once, so the call ends at its first poll.
+/// Signs a request under handle 0, and tells the header that it has then, or why it is refused. Provider
+/// and service answer at once, so the call ends at its first poll.
 fn sign(
     rt: &impl Abort,
     alloc: Global,

@@ -4,8 +4,8 @@ use crate::suite::{NOW, PLAIN, moment, request_to};
 use crate::told::is_text;
 use fixtures::push_header;
 use sign_base::Head;
-use sign_request::HeaderKeys;
-use sigv4_core::sign_head_keyed;
+use sign_request::HeaderSeeds;
+use sigv4_core::sign_head_seeded;
 use std::alloc::Global;
 use std::hash::RandomState;
 use std::process::Abort;
@@ -19,20 +19,20 @@ const SIGNED: &str =
 
 #[test]
 fn a_map_limits_the_names_and_not_the_headers(rt: HostRuntime) {
-    let keys = HeaderKeys::new(RandomState::new(&rt).expect(&rt, "keys"));
+    let keys = HeaderSeeds::new(RandomState::new(&rt).expect(&rt, "keys"));
     is_text(&rt, signed(&rt, rt.alloc(), keys, true), SIGNED);
     is_text(&rt, signed(&rt, rt.alloc(), keys, false), "Head");
 }
 
 /// What is told of the suite's request with so many headers, all with one name or each with its own.
-fn signed(rt: &impl Abort, alloc: Global, keys: HeaderKeys, alike: bool) -> String {
+fn signed(rt: &impl Abort, alloc: Global, keys: HeaderSeeds, alike: bool) -> String {
     let mut by = request_to(rt, alloc, PLAIN);
     push_headers(rt, alloc, &mut by.head, alike);
     let now = moment(rt, NOW);
     told(
         rt,
         alloc,
-        sign_head_keyed(
+        sign_head_seeded(
             alloc,
             &by.head,
             &by.credential,

@@ -1,15 +1,18 @@
-//! Heads signed at moments that no line has, and with the key of a day. The date of a signature is that of the whole second at or
-//! before its moment. The values are published, or those of botocore, and for the year 0 those of Python's `hmac`.
+//! Heads signed at moments that no line has, and with the key of a day. The date of a signature is that of
+//! the whole second at or before its moment. The values are published, or those of botocore, and for the
+//! year 0 those of Python's `hmac`.
 use crate::suite::{NOW, PLAIN, Suite, moment, request_to};
 use crate::told::{is_text, text_of, word};
 use sign_base::Head;
-use sign_request::HeaderKeys;
-use sigv4_core::{SigError, SigningKey, is_before_year_0, sign_head, sign_head_with, signature};
+use sign_request::HeaderSeeds;
+use sigv4_core::{
+    SigError, SigningKey, is_before_year_0, sign_head, sign_head_with_key, signature,
+};
 use std::alloc::Global;
 use std::process::Abort;
 
 /// The values of the headers that a signature brings, as they are published.
-const SIGNED: &str =
+pub(crate) const SIGNED: &str =
     "20150830T123600Z AWS4-HMAC-SHA256 Credential=AKIDEXAMPLE/20150830/us-east-1/service/aws4_request, SignedHeaders=host;x-amz-date, Signature=5fa00fa31553b73ebf1942676e86291e8372ff2a2260956d9b8aae1d763fbf31";
 
 /// Of the last second before 1970, and of the one before it.
@@ -23,9 +26,10 @@ const OF_YEAR_0: &str =
     "00000101T000000Z AWS4-HMAC-SHA256 Credential=AKIDEXAMPLE/00000101/us-east-1/service/aws4_request, SignedHeaders=host;x-amz-date, Signature=b62d4217fc0aaa5ed8afe502c31f2794170bd626672ddc6e90560c36b36e0f75";
 
 /// The last moment before the year 0.
-const BEFORE_YEAR_0: i128 = -62_167_219_200_000_000_001;
+pub(crate) const BEFORE_YEAR_0: i128 = -62_167_219_200_000_000_001;
 
-/// URIs, nanoseconds since 1970, and what is told of the request that is signed then. The moment is its last cause.
+/// URIs, nanoseconds since 1970, and what is told of the request that is signed then. The moment is its
+/// last cause.
 const MOMENTS: [(&str, i128, &str); 10] = [
     (PLAIN, NOW, SIGNED),
     (PLAIN, NOW + 999_999_999, SIGNED),
@@ -65,7 +69,7 @@ pub(crate) fn told(rt: &impl Abort, alloc: Global, answer: Result<Head, SigError
     }
 }
 
-fn last_values(rt: &impl Abort, alloc: Global, head: &Head) -> String {
+pub(crate) fn last_values(rt: &impl Abort, alloc: Global, head: &Head) -> String {
     let [.., moment, authorization] = head.headers.as_slice() else {
         return text_of(rt, alloc, b"two headers are missing");
     };
@@ -113,12 +117,12 @@ fn signed_with(
 ) -> String {
     let now = moment(rt, nanos);
     assert!(rt; !is_before_year_0(now));
-    assert!(rt; key.is_for(alloc, now).expect(rt, "memory"));
-    let keys = HeaderKeys::default();
+    assert!(rt; key.is_for_day_of(alloc, now).expect(rt, "memory"));
+    let keys = HeaderSeeds::default();
     told(
         rt,
         alloc,
-        sign_head_with(alloc, &by.head, key, &by.payload, now, keys),
+        sign_head_with_key(alloc, &by.head, key, &by.payload, now, keys),
     )
 }
 

@@ -27,8 +27,8 @@ pub fn desk_of<K: SigningCredential, D: DeadlineRule<Credential = K>>(
 {
     let mut desk = Desk::new(alloc);
     let rule = desk.add_rule(rule).ok()?;
-    desk.add_handle_with_cache(Loader::Single, rule).ok()?;
-    desk.add_handle_with_cache(Loader::Single, rule).ok()?;
+    desk.add_cache_and_handle(Loader::Single, rule).ok()?;
+    desk.add_cache_and_handle(Loader::Single, rule).ok()?;
     Some(desk)
 }
 

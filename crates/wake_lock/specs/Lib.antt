@@ -5,3 +5,4 @@ pub mod LockView
 pub mod Slots
 pub mod WaitList
 pub mod WaitListView
+pub use Rattle.sign_base.specs.Calls

@@ -1,5 +1,6 @@
 -- Slots that are linked: the way along them from one gap to another.
-use Rattle.std.specs.Prelude.{◌≡◌, ℕ, ◌+◌, zero, suc, List, [], ◌∷◌, Option, Some, None, ◌==◌, if◌then◌else◌, slice_set}
+use Rattle.std.specs.Prelude.{◌≡◌, ℕ, ◌+◌, zero, suc, List, [], ◌∷◌, Option}
+use Rattle.std.specs.Prelude.{Some, None, ◌==◌, if◌then◌else◌, slice_set}
 use Rattle.wake_lock.specs.declared.slots.Slot.{Slot}
 use Rattle.wake_lock.specs.Slots.{slot_at}
 

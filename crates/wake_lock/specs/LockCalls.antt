@@ -1,5 +1,6 @@
 -- What the calls of the lock do, whether their steps are counted or not.
-use Rattle.std.specs.Prelude.{◌≡◌, ◌+◌, ◌-◌, ◌≤◌, ◌++◌, ◌∷◌, [], Some, Option, not, filter, drop, is_some, if◌then◌else◌}
+use Rattle.std.specs.Prelude.{◌≡◌, ◌+◌, ◌-◌, ◌≤◌, ◌++◌, ◌∷◌, [], Some, Option}
+use Rattle.std.specs.Prelude.{not, filter, drop, is_some, if◌then◌else◌}
 use Rattle.sign_base.specs.declared.call_id.CallId.{CallId}
 use Rattle.wake_lock.specs.declared.lock.Entered.{Entered}
 use Rattle.wake_lock.specs.declared.lock.Entered.TheVariants.{Granted, Queued}

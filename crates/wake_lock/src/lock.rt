@@ -7,7 +7,9 @@
 //! The waiters stand in linked slots, and an index names the slot of each, so a call leaves from
 //! anywhere without a walk along the others. Each call also has a form that counts its steps: one
 //! for each read and each write of a slot. Finding a call in the index is not counted.
-ghost use Rattle.std.specs.Prelude.{◌≡◌, ◌+◌, ◌-◌, ◌<◌, ◌≤◌, ◌++◌, ◌∷◌, [], None, Some, Option, true, false, not, filter, drop, is_some, length, max, IsSome, IsOk, IsTrue, OnOk, OnErr, if◌then◌else◌};
+ghost use Rattle.std.specs.Prelude.{◌≡◌, ◌+◌, ◌-◌, ◌^◌, ◌<◌, ◌≤◌, ◌++◌, ◌∷◌, [], None, Some};
+ghost use Rattle.std.specs.Prelude.{Option, true, false, not, filter, drop, is_some, length};
+ghost use Rattle.std.specs.Prelude.{max, IsSome, IsOk, IsTrue, OnOk, OnErr, if◌then◌else◌};
 ghost use Rattle.sign_base.specs.Calls.{same_call, first_of, is_among};
 ghost use Rattle.wake_lock.specs.Lock.{line, is_held_by, is_in_line, IsLock};
 ghost use Rattle.wake_lock.specs.LockCalls.{Enters, Releases, Cancels};
@@ -47,7 +49,7 @@ pub struct WaitLock {
     holder: Option<CallId>,
     waiters: WaitList,
     index: HashMap<CallId, u32>,
-    room: usize,
+    room: u32,
 }
 
 impl Model for WaitLock {
@@ -81,6 +83,7 @@ impl WaitLock {
     /// Room for more calls than slots can be numbered is refused too.
     pub fn reserve(&mut self, n: usize) -> Result<(), NoMemory<()>>
         ensures room { OnOk result (n ≤ self.new.spare) }
+        ensures numbered { OnOk result (n < 2 ^ 32) }
         ensures refused { OnErr result (self.old.spare < n) }
         ensures unchanged { OnErr result (self.new ≡ self.old) }
         ensures there { n ≤ self.old.spare → IsOk result }
@@ -91,7 +94,7 @@ impl WaitLock {
         ensures holder { self.new.holder ≡ self.old.holder }
         ensures waiters { self.new.waiters ≡ self.old.waiters }
     {
-        if n <= self.room {
+        if n <= self.room as usize {
             return Ok(());
         }
         if n > u32::MAX as usize {
@@ -99,13 +102,11 @@ impl WaitLock {
         }
         self.index.reserve(n)?;
         self.waiters.reserve(n)?;
-        self.room = n;
+        self.room = n as u32;
         Ok(())
     }
 
     /// Gives the lock to a call that comes, or puts it behind all waiters. It takes no memory.
-    ///
-    /// Requires room, and a call that is not in line.
     pub fn enter(&mut self, id: CallId) -> Entered
         requires room { 0 < self.old.spare }
         requires outside { is_in_line id self.old ≡ false }
@@ -123,8 +124,6 @@ impl WaitLock {
     }
 
     /// Does what `enter` does, in at most eight counted steps.
-    ///
-    /// Requires what `enter` does.
     pub fn enter_counted<L: Ledger>(&mut self, id: CallId, steps: &mut Steps<L>) -> Entered
         requires room { 0 < self.old.spare }
         requires outside { is_in_line id self.old ≡ false }
@@ -148,8 +147,6 @@ impl WaitLock {
     }
 
     /// Takes the lock from its holder, and gives it to the first waiter, who is named. It takes no memory.
-    ///
-    /// Requires a holder.
     pub fn release(&mut self) -> Option<CallId>
         requires { IsSome self.old.holder }
         ensures answer { result ≡ first_of self.old.waiters }
@@ -164,8 +161,6 @@ impl WaitLock {
     }
 
     /// Does what `release` does, in at most eight counted steps.
-    ///
-    /// Requires a holder.
     pub fn release_counted<L: Ledger>(&mut self, steps: &mut Steps<L>) -> Option<CallId>
         requires { IsSome self.old.holder }
         ensures does { Releases self.old result self.new }

@@ -1,6 +1,6 @@
 //! Slots in which waiters stand, each with a link to the slot before it and to the slot after it.
 //! `read` and `write` are the only ways to a slot that is there, and each of them counts one step.
-ghost use Rattle.std.specs.Prelude.{◌≡◌, ◌+◌, ◌<◌, ◌++◌, [], IfOk, OnOk, OnErr, length, slice_set};
+ghost use Rattle.std.specs.Prelude.{◌≡◌, ◌+◌, ◌^◌, ◌<◌, ◌++◌, [], IfOk, OnOk, OnErr, length, slice_set};
 ghost use Rattle.wake_lock.specs.Slots.{slot_at, blank_slot, chained_slots, chain_start};
 
 use crate::CallId;
@@ -53,8 +53,6 @@ impl Slots {
     }
 
     /// The slot at the place. One step.
-    ///
-    /// Requires a place that is there.
     pub fn read<L: Ledger>(&self, place: u32, steps: &mut Steps<L>) -> Slot
         requires { place < length self.now }
         ensures slot { result ≡ slot_at self.now place }
@@ -65,8 +63,6 @@ impl Slots {
     }
 
     /// Replaces the slot at the place, and no other. One step.
-    ///
-    /// Requires a place that is there.
     pub fn write<L: Ledger>(&mut self, place: u32, slot: Slot, steps: &mut Steps<L>)
         requires { place < length self.old }
         ensures slots { self.new ≡ slice_set self.old place slot }
@@ -83,7 +79,7 @@ impl Slots {
         n: u32,
         after: Option<u32>,
     ) -> Result<Option<u32>, NoMemory<()>>
-        requires { length self.old + n < 4294967296 }
+        requires { length self.old + n < 2 ^ 32 }
         ensures start { IfOk result (λ start. start ≡ chain_start (length self.old) n after) }
         ensures slots { OnOk result (self.new ≡ self.old ++ chained_slots (length self.old) n after) }
         ensures refused { OnErr result (self.new ≡ self.old) }

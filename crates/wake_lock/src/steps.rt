@@ -22,8 +22,6 @@ impl<L: Ledger> Model for Steps<L> {
 
 impl<L: Ledger> Steps<L> {
     /// A count that begins at nothing, in a ledger of its own.
-    ///
-    /// Requires a blank of this ledger with a share left.
     pub fn new(blank: Blank) -> Steps<L>
         requires name { blank.name ≡ L.name }
         requires parts { blank.parts ≡ L.parts }

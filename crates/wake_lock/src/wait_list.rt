@@ -86,8 +86,6 @@ impl WaitList {
     }
 
     /// Puts the call behind all waiters, and answers its place. At most four steps.
-    ///
-    /// Requires a vacant slot.
     pub fn push<L: Ledger>(&mut self, id: CallId, steps: &mut Steps<L>) -> u32
         requires { 0 < self.old.vacant }
         ensures waiters { self.new.waiters ≡ self.old.waiters ++ (id, result) ∷ [] }
@@ -115,8 +113,6 @@ impl WaitList {
     }
 
     /// Takes out the waiter at the place, and leaves its slot vacant. At most six steps.
-    ///
-    /// Requires a waiter at the place.
     pub fn take<L: Ledger>(&mut self, place: u32, steps: &mut Steps<L>) -> CallId
         requires { 0 < times place (places_of self.old.waiters) }
         ensures waiters { TakesOut self.old.waiters place result self.new.waiters }

@@ -5,7 +5,9 @@ use Rattle.sequential_signer.specs.declared.event.Reply.TheVariants.{Begun, Pend
 use Rattle.sequential_signer.specs.declared.event.Why.{Why}
 use Rattle.sequential_signer.specs.declared.event.Why.TheVariants.{Short, Range}
 use Rattle.worked_scripts.specs.WorkedPolicy.{Credential, Now, at}
-use Rattle.worked_scripts.specs.Words.{◌gets◌, credential, lasting, longest, begin, begin_for, poll, found, accept, cancel, plain_head, sign, refused, cancelled, one_cache, IsWorked}
+use Rattle.worked_scripts.specs.Words.{◌gets◌, credential, lasting, longest, begin}
+use Rattle.worked_scripts.specs.Words.{begin_for, poll, found, accept, cancel, plain_head}
+use Rattle.worked_scripts.specs.Words.{sign, refused, cancelled, one_cache, IsWorked}
 
 -- a deadline out of range refuses what was found, and nothing is cached: so the next call loads for
 -- itself, and one behind it waits

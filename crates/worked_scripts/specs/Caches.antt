@@ -5,7 +5,8 @@ use Rattle.sequential_signer.specs.declared.event.Loader.TheVariants.{Single}
 use Rattle.sequential_signer.specs.declared.event.Reply.TheVariants.{Begun, Pending, Ask}
 use Rattle.sequential_signer.specs.declared.event.Why.TheVariants.{Missing}
 use Rattle.worked_scripts.specs.WorkedPolicy.{Rule, Now, Cred}
-use Rattle.worked_scripts.specs.Words.{◌gets◌, credential, lasting, begin, poll, found, missing, sign, refused, handle_on, IsWorked}
+use Rattle.worked_scripts.specs.Words.{◌gets◌, credential, lasting, begin, poll, found}
+use Rattle.worked_scripts.specs.Words.{missing, sign, refused, handle_on, IsWorked}
 
 -- two caches, each with a handle
 abbrev pub two_caches : Setup Rule

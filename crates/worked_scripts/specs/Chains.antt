@@ -4,7 +4,8 @@ use Rattle.sequential_signer.specs.declared.event.Entry.{Entry}
 use Rattle.sequential_signer.specs.declared.event.Reply.TheVariants.{Begun, Ask}
 use Rattle.sequential_signer.specs.declared.event.Why.TheVariants.{Missing, Short}
 use Rattle.worked_scripts.specs.WorkedPolicy.{Credential, at}
-use Rattle.worked_scripts.specs.Words.{◌gets◌, credential, lasting, begin, poll, found, missing, failed, sign, refused, one_chain, IsWorked}
+use Rattle.worked_scripts.specs.Words.{◌gets◌, credential, lasting, begin, poll, found}
+use Rattle.worked_scripts.specs.Words.{missing, failed, sign, refused, one_chain, IsWorked}
 
 -- a call on a chain of so many providers asks the first, gets these answers, and leaves this cache
 abbrev pub ChainAnswers : ℕ → List (Entry Credential) → Option Credential → Type 0

@@ -1,12 +1,14 @@
 -- Scripts of a granter's loads: chains, and loads of one cache beside each other.
 use Rattle.std.specs.Prelude.{List, [], ◌∷◌, ◌++◌, Some, None}
 use Rattle.sequential_signer.specs.declared.grant_event.GrantEntry.{GrantEntry}
-use Rattle.sequential_signer.specs.declared.grant_event.GrantReply.TheVariants.{Begun, Ask, Grant, Refused, Cancelled}
+use Rattle.sequential_signer.specs.declared.grant_event.GrantReply.TheVariants.{Begun, Ask, Grant}
+use Rattle.sequential_signer.specs.declared.grant_event.GrantReply.TheVariants.{Refused, Cancelled}
 use Rattle.sequential_signer.specs.declared.grant_event.GrantWhy.TheVariants.{Missing, Short, Loader}
 use Rattle.worked_scripts.specs.WorkedPolicy.{Credential, Cred, at}
 use Rattle.worked_scripts.specs.Words.{credential, lasting, one_cache, one_chain}
 use Rattle.worked_scripts.specs.Caches.{two_caches}
-use Rattle.worked_scripts.specs.GrantWords.{◌gets◌, begin, poll, found, missing, failed, cancel, IsWorkedGrant}
+use Rattle.worked_scripts.specs.GrantWords.{◌gets◌, begin, poll, found, missing}
+use Rattle.worked_scripts.specs.GrantWords.{failed, cancel, IsWorkedGrant}
 use Rattle.worked_scripts.specs.Grants.{short, seven}
 
 -- a single provider decides: it has none, or it failed

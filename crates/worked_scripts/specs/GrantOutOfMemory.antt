@@ -5,11 +5,13 @@ use Rattle.sequential_signer.specs.GrantLegal.{IsLegalGrant}
 use Rattle.sequential_signer.specs.declared.grant_event.GrantEntry.{GrantEntry}
 use Rattle.sequential_signer.specs.declared.grant_event.GrantEvent.{GrantEvent}
 use Rattle.sequential_signer.specs.declared.grant_event.GrantReply.{GrantReply}
-use Rattle.sequential_signer.specs.declared.grant_event.GrantReply.TheVariants.{Begun, OutOfMemory, Ask, Grant, Refused, Given}
+use Rattle.sequential_signer.specs.declared.grant_event.GrantReply.TheVariants.{Begun, OutOfMemory, Ask}
+use Rattle.sequential_signer.specs.declared.grant_event.GrantReply.TheVariants.{Grant, Refused, Given}
 use Rattle.sequential_signer.specs.declared.grant_event.GrantWhy.TheVariants.{Short, Stale}
 use Rattle.worked_scripts.specs.WorkedPolicy.{Credential, Now, at, worked_policy}
 use Rattle.worked_scripts.specs.Words.{credential, lasting, longest, one_cache}
-use Rattle.worked_scripts.specs.GrantWords.{◌gets◌, begin, begin_for, poll, found, missing, failed, made, fail, cancel}
+use Rattle.worked_scripts.specs.GrantWords.{◌gets◌, begin, begin_for, poll, found}
+use Rattle.worked_scripts.specs.GrantWords.{missing, failed, made, fail, cancel}
 
 -- after these entries the event may run out of memory, and then be sent again and get this reply
 abbrev pub MayRunOutGrant : List (GrantEntry Credential) → GrantEvent Credential

@@ -7,7 +7,8 @@ use Rattle.sequential_signer.specs.GrantLegal.{expected_grant_entries}
 use Rattle.sequential_signer.specs.declared.event.Answer.TheVariants as answer
 use Rattle.sequential_signer.specs.declared.grant_event.GrantEntry.{GrantEntry}
 use Rattle.sequential_signer.specs.declared.grant_event.GrantEvent.{GrantEvent}
-use Rattle.sequential_signer.specs.declared.grant_event.GrantEvent.TheVariants.{Begin, Poll, Provided, Granted, Cancel}
+use Rattle.sequential_signer.specs.declared.grant_event.GrantEvent.TheVariants.{Begin, Poll, Provided}
+use Rattle.sequential_signer.specs.declared.grant_event.GrantEvent.TheVariants.{Granted, Cancel}
 use Rattle.sequential_signer.specs.declared.grant_event.GrantReply.{GrantReply}
 use Rattle.sequential_signer.specs.declared.grant_event.Made.TheVariants.{Made, Failed}
 use Rattle.worked_scripts.specs.WorkedPolicy.{Credential, Rule, at, worked_policy}

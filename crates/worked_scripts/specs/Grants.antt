@@ -1,11 +1,14 @@
 -- Scripts of a granter: what it makes from a source, and which source it starts from.
 use Rattle.std.specs.Prelude.{List, [], ◌∷◌, ◌++◌, Some, None}
 use Rattle.sequential_signer.specs.declared.grant_event.GrantEntry.{GrantEntry}
-use Rattle.sequential_signer.specs.declared.grant_event.GrantReply.TheVariants.{Begun, Pending, NotNow, Ask, Grant, Refused, Given, Cancelled}
+use Rattle.sequential_signer.specs.declared.grant_event.GrantReply.TheVariants.{Begun, Pending, NotNow}
+use Rattle.sequential_signer.specs.declared.grant_event.GrantReply.TheVariants.{Ask, Grant, Refused}
+use Rattle.sequential_signer.specs.declared.grant_event.GrantReply.TheVariants.{Given, Cancelled}
 use Rattle.sequential_signer.specs.declared.grant_event.GrantWhy.TheVariants.{Short, Range, Service, Stale}
 use Rattle.worked_scripts.specs.WorkedPolicy.{Credential, Now, Cred, at}
 use Rattle.worked_scripts.specs.Words.{credential, lasting, longest, one_cache}
-use Rattle.worked_scripts.specs.GrantWords.{◌gets◌, begin, begin_for, poll, found, made, fail, cancel, IsWorkedGrant}
+use Rattle.worked_scripts.specs.GrantWords.{◌gets◌, begin, begin_for, poll, found}
+use Rattle.worked_scripts.specs.GrantWords.{made, fail, cancel, IsWorkedGrant}
 
 -- a source that does not last to the deadline that it names
 abbrev pub short : Credential

@@ -10,3 +10,4 @@ pub mod GrantWords
 pub mod Grants
 pub mod GrantLoads
 pub mod GrantOutOfMemory
+pub mod OnScripts

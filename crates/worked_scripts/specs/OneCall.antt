@@ -6,19 +6,35 @@ use Rattle.sequential_signer.specs.declared.event.Entry.{Entry}
 use Rattle.sequential_signer.specs.declared.event.Reply.TheVariants.{Begun, Pending, NotNow, Ask, Done}
 use Rattle.sequential_signer.specs.declared.event.Why.TheVariants.{Short, Service}
 use Rattle.worked_scripts.specs.WorkedPolicy.{Credential, Cred, at}
-use Rattle.worked_scripts.specs.Words.{◌gets◌, credential, begin, begin_with, poll, found, accept, reject, cancel, plain_head, sign, refused, cancelled, one_cache, IsWorked}
+use Rattle.worked_scripts.specs.Words.{◌gets◌, credential, begin, begin_with, poll, found, accept, reject}
+use Rattle.worked_scripts.specs.Words.{cancel, plain_head, sign, refused, cancelled, one_cache, IsWorked}
 
 -- the head that the call begins with
 abbrev pub begun_head : Head
-begun_head = record { method = codes "GET"; uri = codes "https://e.x/a"; version = V11; headers = record { name = codes "x-original"; value = codes "v" } ∷ [] }
+begun_head = record {
+  method = codes "GET";
+  uri = codes "https://e.x/a";
+  version = V11;
+  headers = record { name = codes "x-original"; value = codes "v" } ∷ [];
+}
 
 -- the head that the service makes
 abbrev pub made_head : Head
-made_head = record { method = codes "POST"; uri = codes "https://e.x/a?auth=1"; version = V2; headers = record { name = codes "authorization"; value = codes "signed" } ∷ [] }
+made_head = record {
+  method = codes "POST";
+  uri = codes "https://e.x/a?auth=1";
+  version = V2;
+  headers = record { name = codes "authorization"; value = codes "signed" } ∷ [];
+}
 
 -- the begun method and version, with the service's URI and headers
 abbrev pub signed_head : Head
-signed_head = record { method = codes "GET"; uri = codes "https://e.x/a?auth=1"; version = V11; headers = record { name = codes "authorization"; value = codes "signed" } ∷ [] }
+signed_head = record {
+  method = codes "GET";
+  uri = codes "https://e.x/a?auth=1";
+  version = V11;
+  headers = record { name = codes "authorization"; value = codes "signed" } ∷ [];
+}
 
 -- what the provider finds
 abbrev pub seven : Credential

@@ -8,7 +8,9 @@ use Rattle.sequential_signer.specs.declared.event.Reply.{Reply}
 use Rattle.sequential_signer.specs.declared.event.Reply.TheVariants.{Begun, OutOfMemory, Ask, Done}
 use Rattle.sequential_signer.specs.declared.event.Why.TheVariants.{Short}
 use Rattle.worked_scripts.specs.WorkedPolicy.{Credential, Now, at, worked_policy}
-use Rattle.worked_scripts.specs.Words.{◌gets◌, credential, lasting, longest, begin, begin_for, poll, found, missing, failed, accept, reject, cancel, plain_head, sign, refused, one_cache}
+use Rattle.worked_scripts.specs.Words.{◌gets◌, credential, lasting, longest, begin}
+use Rattle.worked_scripts.specs.Words.{begin_for, poll, found, missing, failed, accept}
+use Rattle.worked_scripts.specs.Words.{reject, cancel, plain_head, sign, refused, one_cache}
 
 -- after these entries the event may run out of memory, and then be sent again and get this reply
 abbrev pub MayRunOut : List (Entry Credential) → Event Credential → Reply Credential → Type 0

@@ -6,7 +6,9 @@ use Rattle.sequential_signer.specs.declared.event.Reply.TheVariants.{Begun, Pend
 use Rattle.sequential_signer.specs.declared.event.Why.{Why}
 use Rattle.sequential_signer.specs.declared.event.Why.TheVariants.{Missing, Short, Range, Loader}
 use Rattle.worked_scripts.specs.WorkedPolicy.{Credential, Now, at}
-use Rattle.worked_scripts.specs.Words.{◌gets◌, credential, lasting, longest, begin, begin_for, poll, found, missing, failed, cancel, sign, sign_wake, refused_wake, cancelled, cancelled_wake, one_cache, IsWorked}
+use Rattle.worked_scripts.specs.Words.{◌gets◌, credential, lasting, longest, begin, begin_for, poll}
+use Rattle.worked_scripts.specs.Words.{found, missing, failed, cancel, sign, sign_wake}
+use Rattle.worked_scripts.specs.Words.{refused_wake, cancelled, cancelled_wake, one_cache, IsWorked}
 
 -- the first call, begun by this event, asks, and the others wait
 abbrev pub two_wait_behind : Event Credential → List (Entry Credential)

@@ -1,6 +1,9 @@
 //! Deadlines out of range, and events that do not fit.
 
-ghost use Rattle.worked_scripts.specs.Bounds.{DeadlineOutOfRangeIsRefused, FreshCredentialIsRefusedForTheRange, StaleCredentialLoadsWhateverTheDeadline, RangeEndsWithItsLastSecond, WhatDoesNotFitChangesNothing};
+ghost use Rattle.worked_scripts.specs.Bounds.{DeadlineOutOfRangeIsRefused};
+ghost use Rattle.worked_scripts.specs.Bounds.{FreshCredentialIsRefusedForTheRange};
+ghost use Rattle.worked_scripts.specs.Bounds.{StaleCredentialLoadsWhateverTheDeadline};
+ghost use Rattle.worked_scripts.specs.Bounds.{RangeEndsWithItsLastSecond, WhatDoesNotFitChangesNothing};
 
 /// A deadline out of range refuses what was found, and nothing is cached.
 pub fn deadline_out_of_range_is_refused()

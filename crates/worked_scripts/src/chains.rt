@@ -1,6 +1,7 @@
 //! Chains of providers.
 
-ghost use Rattle.worked_scripts.specs.Chains.{ChainOfNoneHasNone, ChainOfOneAsksOnce, ChainAsksUntilOneFinds, ChainThatFindsNoneMisses, RefusedCredentialEndsTheChain};
+ghost use Rattle.worked_scripts.specs.Chains.{ChainOfNoneHasNone, ChainOfOneAsksOnce, ChainAsksUntilOneFinds};
+ghost use Rattle.worked_scripts.specs.Chains.{ChainThatFindsNoneMisses, RefusedCredentialEndsTheChain};
 
 /// A chain of no providers has no credential.
 pub fn chain_of_none_has_none()

@@ -1,6 +1,8 @@
 //! A granter's loads: chains, and loads of one cache beside each other.
 
-ghost use Rattle.worked_scripts.specs.GrantLoads.{OneProviderDecidesForTheGranter, ChainIsAskedForTheSource, LastStoreStays, OtherLoadsLeaveTheStored, OpenLoadDoesNotLookAgain, SourcesStandApart};
+ghost use Rattle.worked_scripts.specs.GrantLoads.{OneProviderDecidesForTheGranter, ChainIsAskedForTheSource};
+ghost use Rattle.worked_scripts.specs.GrantLoads.{LastStoreStays, OtherLoadsLeaveTheStored};
+ghost use Rattle.worked_scripts.specs.GrantLoads.{OpenLoadDoesNotLookAgain, SourcesStandApart};
 
 /// The miss or the failure of a single provider refuses the call.
 pub fn one_provider_decides_for_the_granter()

@@ -1,6 +1,7 @@
 //! A granter's transcripts in which an allocation failed.
 
-ghost use Rattle.worked_scripts.specs.GrantOutOfMemory.{EventsOfGrantersMayRunOut, OtherEventsOfGrantersCannotRunOut};
+ghost use Rattle.worked_scripts.specs.GrantOutOfMemory.{EventsOfGrantersMayRunOut};
+ghost use Rattle.worked_scripts.specs.GrantOutOfMemory.{OtherEventsOfGrantersCannotRunOut};
 
 /// An event that allocates may be answered `OutOfMemory`; sent again, it gets the reply that it would
 /// have got.

@@ -1,6 +1,10 @@
 //! A granter: what it makes from a source, and which source it starts from.
 
-ghost use Rattle.worked_scripts.specs.Grants.{ShortSourceIsRefused, StaleSourceIsLoadedAgain, GrantedCredentialIsNotCached, StaleCredentialIsRefused, FreshnessOfTheGrantedIsNotAsked, PollsAwaitTheAnswers, DeadlineOutOfRangeRefusesTheSource, CancelledCallIsOver, OtherEventsOfGrantersDoNotFit};
+ghost use Rattle.worked_scripts.specs.Grants.{ShortSourceIsRefused, StaleSourceIsLoadedAgain};
+ghost use Rattle.worked_scripts.specs.Grants.{GrantedCredentialIsNotCached, StaleCredentialIsRefused};
+ghost use Rattle.worked_scripts.specs.Grants.{FreshnessOfTheGrantedIsNotAsked, PollsAwaitTheAnswers};
+ghost use Rattle.worked_scripts.specs.Grants.{DeadlineOutOfRangeRefusesTheSource};
+ghost use Rattle.worked_scripts.specs.Grants.{CancelledCallIsOver, OtherEventsOfGrantersDoNotFit};
 
 /// A source that does not last to its deadline is refused, and not cached.
 pub fn short_source_is_refused()

@@ -1,6 +1,10 @@
 //! One call, and calls one after another.
 
-ghost use Rattle.worked_scripts.specs.OneCall.{OneCallIsSigned, SecondCallReusesTheCache, StaleCredentialIsLoadedAgain, ShortCredentialIsRefused, RefusedRefreshLeavesTheCache, StaleRefreshIsHandedOut, CancelWhileSigningLeavesTheCache, ServiceFailureLeavesTheCache, MomentsMayGoBack};
+ghost use Rattle.worked_scripts.specs.OneCall.{OneCallIsSigned, SecondCallReusesTheCache};
+ghost use Rattle.worked_scripts.specs.OneCall.{StaleCredentialIsLoadedAgain, ShortCredentialIsRefused};
+ghost use Rattle.worked_scripts.specs.OneCall.{RefusedRefreshLeavesTheCache, StaleRefreshIsHandedOut};
+ghost use Rattle.worked_scripts.specs.OneCall.{CancelWhileSigningLeavesTheCache};
+ghost use Rattle.worked_scripts.specs.OneCall.{ServiceFailureLeavesTheCache, MomentsMayGoBack};
 
 /// A call on an empty cache loads a credential, and its head is signed.
 pub fn one_call_is_signed()

@@ -1,6 +1,9 @@
 //! Three calls that want one cache.
 
-ghost use Rattle.worked_scripts.specs.Waiters.{WaitersReuseTheFoundCredential, CancelledLoadWakesTheNext, CancelledTurnWakesTheNext, CancelledWaiterIsPassedOver, FirstPollsSetTheOrder, WokenCallKeepsItsTurn, EachRefusalWakesTheNext};
+ghost use Rattle.worked_scripts.specs.Waiters.{WaitersReuseTheFoundCredential};
+ghost use Rattle.worked_scripts.specs.Waiters.{CancelledLoadWakesTheNext, CancelledTurnWakesTheNext};
+ghost use Rattle.worked_scripts.specs.Waiters.{CancelledWaiterIsPassedOver, FirstPollsSetTheOrder};
+ghost use Rattle.worked_scripts.specs.Waiters.{WokenCallKeepsItsTurn, EachRefusalWakesTheNext};
 
 /// Each waiter is handed what the first call found.
 pub fn waiters_reuse_the_found_credential()

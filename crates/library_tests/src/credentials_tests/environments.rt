@@ -33,6 +33,7 @@ const LISTED: [&str; 4] = [
 #[test]
 fn a_listed_environment_answers(rt: HostRuntime) {
     let env = listed(rt.alloc()).expect(&rt, "memory");
+    hides_as(&rt, rt.alloc(), &env, "OsEnv(***)");
     let ctx = Context::new().with_env(env);
     answers(&rt, rt.alloc(), &ctx, &LISTED);
     hides_as(&rt, rt.alloc(), &ctx, "Context");
@@ -57,6 +58,6 @@ const WRITTEN: [&str; 4] = [
 #[test]
 fn an_environment_that_is_written_down_answers(rt: HostRuntime) {
     let env = written_down(rt.alloc()).expect(&rt, "memory");
-    hides_as(&rt, rt.alloc(), &env, "StaticEnv: [\"k\"]");
+    hides_as(&rt, rt.alloc(), &env, "StaticEnv(***)");
     answers(&rt, rt.alloc(), &Context::new().with_env(env), &WRITTEN);
 }

@@ -1,7 +1,8 @@
 //! A command for tests: it answers each line by its number and its length, and an empty line by
 //! nothing. A line that begins with an exclamation mark is bad. In the end it says how many lines
 //! there were.
-ghost use Rattle.std.specs.Prelude.{◌≡◌, ◌+◌, ◌==◌, ◌∷◌, ◌++◌, [], None, Ok, Err, length, codes, decimal, slice_index, if◌then◌else◌};
+ghost use Rattle.std.specs.Prelude.{◌≡◌, ◌+◌, ◌==◌, ◌∷◌, ◌++◌, [], None, Ok, Err, length, codes, decimal};
+ghost use Rattle.std.specs.Prelude.{slice_index, if◌then◌else◌};
 ghost use Rattle.sign_base.specs.Bytes.{newline};
 
 use itoa::Buffer;

@@ -5,7 +5,7 @@ use crate::times::{Work, is_alike, time};
 use http::header::HeaderMap;
 use http::request::Parts;
 use sign_base::Head;
-use sign_request::{HeaderKeys, commit_keyed, parts_of_keyed};
+use sign_request::{HeaderSeeds, commit_seeded, parts_of_seeded};
 use std::alloc::Global;
 use std::hash::RandomState;
 use std::process::Abort;
@@ -14,8 +14,8 @@ use std::time::{Clock, Duration};
 const NAMES: u32 = 24_000;
 
 /// The head of `http`.
-fn crossed(rt: &impl Abort, alloc: Global, head: &Head, keys: HeaderKeys) -> Box<Parts> {
-    let parts = parts_of_keyed(alloc, head, keys).expect(rt, "a head");
+fn crossed(rt: &impl Abort, alloc: Global, head: &Head, keys: HeaderSeeds) -> Box<Parts> {
+    let parts = parts_of_seeded(alloc, head, keys).expect(rt, "a head");
     Box::new(alloc, parts).expect(rt, "memory")
 }
 
@@ -29,16 +29,16 @@ fn are_found(headers: &HeaderMap) -> bool {
 }
 
 /// Whether the names are found once the head crossed, and once it is committed.
-fn finds_names(rt: &impl Abort, alloc: Global, head: &Head, keys: HeaderKeys) {
+fn finds_names(rt: &impl Abort, alloc: Global, head: &Head, keys: HeaderSeeds) {
     let mut parts = crossed(rt, alloc, head, keys);
     assert!(rt; are_found(&parts.headers));
-    commit_keyed(alloc, &mut parts, head, keys).expect(rt, "a head");
+    commit_seeded(alloc, &mut parts, head, keys).expect(rt, "a head");
     assert!(rt; are_found(&parts.headers));
 }
 
 #[test]
 fn names_that_collide_are_found(rt: HostRuntime) {
-    let keys = HeaderKeys::new(RandomState::new(&rt).expect(&rt, "keys"));
+    let keys = HeaderSeeds::new(RandomState::new(&rt).expect(&rt, "keys"));
     let names = colliding_names(&rt, rt.alloc(), NAMES);
     let head = head_with(&rt, rt.alloc(), names.as_slice());
     finds_names(&rt, rt.alloc(), &head, keys);
@@ -48,7 +48,7 @@ fn names_that_collide_are_found(rt: HostRuntime) {
 #[derive(Drop)]
 struct Crossing<'a> {
     head: &'a Head,
-    keys: HeaderKeys,
+    keys: HeaderSeeds,
 }
 
 impl Work for Crossing<'_> {
@@ -58,19 +58,19 @@ impl Work for Crossing<'_> {
             drop(crossed(rt, alloc, self.head, self.keys));
         }
         let mut parts = crossed(rt, alloc, self.head, self.keys);
-        commit_keyed(alloc, &mut parts, self.head, self.keys).is_ok()
+        commit_seeded(alloc, &mut parts, self.head, self.keys).is_ok()
     }
 }
 
 /// What it takes a head with these names to cross.
-fn time_of<R: Abort + Clock>(rt: &R, alloc: Global, names: &[Name], keys: HeaderKeys) -> Duration {
+fn time_of<R: Abort + Clock>(rt: &R, alloc: Global, names: &[Name], keys: HeaderSeeds) -> Duration {
     let head = head_with(rt, alloc, names);
     time(rt, alloc, &mut Crossing { head: &head, keys })
 }
 
 #[test]
 fn a_map_takes_names_that_collide(rt: HostRuntime) {
-    let keys = HeaderKeys::new(RandomState::new(&rt).expect(&rt, "keys"));
+    let keys = HeaderSeeds::new(RandomState::new(&rt).expect(&rt, "keys"));
     let colliding = colliding_names(&rt, rt.alloc(), NAMES);
     let ordinary = ordinary_names(&rt, rt.alloc(), NAMES);
     let one = time_of(&rt, rt.alloc(), colliding.as_slice(), keys);

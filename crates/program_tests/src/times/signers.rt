@@ -6,7 +6,7 @@ use crate::times::{Work, is_alike, time};
 use credentials::Providers;
 use http::request::Parts;
 use sign_base::Timestamp;
-use sign_request::{HeaderKeys, parts_of_keyed};
+use sign_request::{HeaderSeeds, parts_of_seeded};
 use signer::{SignAnswer, Signer};
 use std::alloc::Global;
 use std::hash::RandomState;
@@ -38,22 +38,22 @@ impl Work for Signing<'_> {
 fn signer_with(
     rt: &impl Abort,
     alloc: Global,
-    keys: HeaderKeys,
+    keys: HeaderSeeds,
 ) -> Box<Signer<Finds, LeavesHeads>> {
     let signer = Signer::new(alloc, (), Providers::Single(Finds), LeavesHeads).ok();
-    let signer = signer.expect(rt, "memory").with_header_keys(keys);
+    let signer = signer.expect(rt, "memory").with_header_seeds(keys);
     Box::new(alloc, signer).expect(rt, "memory")
 }
 
 /// A request with headers of these names.
-fn request(rt: &impl Abort, alloc: Global, names: &[Name], keys: HeaderKeys) -> Box<Parts> {
+fn request(rt: &impl Abort, alloc: Global, names: &[Name], keys: HeaderSeeds) -> Box<Parts> {
     let head = head_with(rt, alloc, names);
-    let parts = parts_of_keyed(alloc, &head, keys).expect(rt, "a head");
+    let parts = parts_of_seeded(alloc, &head, keys).expect(rt, "a head");
     Box::new(alloc, parts).expect(rt, "memory")
 }
 
 /// What a call takes whose request has headers of these names.
-fn time_of<R: Abort + Clock>(rt: &R, alloc: Global, names: &[Name], keys: HeaderKeys) -> Duration {
+fn time_of<R: Abort + Clock>(rt: &R, alloc: Global, names: &[Name], keys: HeaderSeeds) -> Duration {
     let mut signer = signer_with(rt, alloc, keys);
     let mut req = request(rt, alloc, names, keys);
     let mut signing = Signing {
@@ -66,7 +66,7 @@ fn time_of<R: Abort + Clock>(rt: &R, alloc: Global, names: &[Name], keys: Header
 
 #[test]
 fn a_signer_takes_names_that_collide(rt: HostRuntime) {
-    let keys = HeaderKeys::new(RandomState::new(&rt).expect(&rt, "keys"));
+    let keys = HeaderSeeds::new(RandomState::new(&rt).expect(&rt, "keys"));
     let colliding = colliding_names(&rt, rt.alloc(), NAMES);
     let ordinary = ordinary_names(&rt, rt.alloc(), NAMES);
     let one = time_of(&rt, rt.alloc(), colliding.as_slice(), keys);

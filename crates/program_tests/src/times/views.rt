@@ -3,7 +3,7 @@ use crate::ran::{bytes, words_of};
 use crate::times::names::{Name, colliding_names, ordinary_names};
 use crate::times::{Work, is_alike, time};
 use sign_io::{MemorySink, MemorySource};
-use signctl_core::{HeaderKeys, Status, run};
+use signctl_core::{HeaderSeeds, Status, run};
 use std::alloc::Global;
 use std::hash::RandomState;
 use std::process::Abort;
@@ -21,7 +21,7 @@ const ROOM: usize = 1_048_576;
 #[derive(Drop)]
 struct View<'a> {
     line: &'a str,
-    keys: HeaderKeys,
+    keys: HeaderSeeds,
 }
 
 impl Work for View<'_> {
@@ -53,7 +53,7 @@ fn push_header(rt: &impl Abort, line: &mut String, name: &[u8]) {
 }
 
 /// What the view of a line takes that has headers of these names.
-fn time_of<R: Abort + Clock>(rt: &R, alloc: Global, names: &[Name], keys: HeaderKeys) -> Duration {
+fn time_of<R: Abort + Clock>(rt: &R, alloc: Global, names: &[Name], keys: HeaderSeeds) -> Duration {
     let line = line_with(rt, alloc, names);
     let mut view = View {
         line: line.as_str(),
@@ -64,7 +64,7 @@ fn time_of<R: Abort + Clock>(rt: &R, alloc: Global, names: &[Name], keys: Header
 
 #[test]
 fn a_view_takes_names_that_collide(rt: HostRuntime) {
-    let keys = HeaderKeys::new(RandomState::new(&rt).expect(&rt, "keys"));
+    let keys = HeaderSeeds::new(RandomState::new(&rt).expect(&rt, "keys"));
     let colliding = colliding_names(&rt, rt.alloc(), NAMES);
     let ordinary = ordinary_names(&rt, rt.alloc(), NAMES);
     let one = time_of(&rt, rt.alloc(), colliding.as_slice(), keys);

@@ -22,19 +22,19 @@ loop-next-smaller g c =
     let d = poll_context g.P.Credential.SigningCredential g.P.ProvideCredential g.G.DeadlineRule g.G.GrantCredential c.args.objects.now c.args.grant.begun c.args.now in
     let start : PollPlace g.row.P-Credential.Denot g.row.G.Denot g.row.P-Load.Denot g.row.G-Work.Denot = record { state = c.args.grant.state; desk = c.args.desk.now } in
     let place : PollPlace g.row.P-Credential.Denot g.row.G.Denot g.row.P-Load.Denot g.row.G-Work.Denot = record { state = c.loop-next.state; desk = c.loop-next.desk } in
-    invariant-fewer d start place c.loop-next.invariant c.requires.there c.step.new.desk c.requires.loads c.step.result c.in-On.next c.in-On.is c.step.ensures
+    invariant-fewer d start place c.loop-next.invariant c.requires.there c.step.new.desk c.requires.loads c.step.result c.in-Continue.next c.in-Continue.is c.step.ensures
 
 pub loop-next-preserved : goal.loop-next-preserved
 loop-next-preserved g c =
     let d = poll_context g.P.Credential.SigningCredential g.P.ProvideCredential g.G.DeadlineRule g.G.GrantCredential c.args.objects.now c.args.grant.begun c.args.now in
     let start : PollPlace g.row.P-Credential.Denot g.row.G.Denot g.row.P-Load.Denot g.row.G-Work.Denot = record { state = c.args.grant.state; desk = c.args.desk.now } in
     let place : PollPlace g.row.P-Credential.Denot g.row.G.Denot g.row.P-Load.Denot g.row.G-Work.Denot = record { state = c.loop-next.state; desk = c.loop-next.desk } in
-    invariant-on d start place c.loop-next.invariant c.requires.there c.step.new.desk c.step.result c.in-On.next c.in-On.is c.step.ensures
+    invariant-on d start place c.loop-next.invariant c.requires.there c.step.new.desk c.step.result c.in-Continue.next c.in-Continue.is c.step.ensures
 
-pub returns-in-Over : goal.returns-in-Over
-returns-in-Over g c =
+pub returns-in-Stop : goal.returns-in-Stop
+returns-in-Stop g c =
     let d = poll_context g.P.Credential.SigningCredential g.P.ProvideCredential g.G.DeadlineRule g.G.GrantCredential c.args.objects.now c.args.grant.begun c.args.now in
     let start : PollPlace g.row.P-Credential.Denot g.row.G.Denot g.row.P-Load.Denot g.row.G-Work.Denot = record { state = c.args.grant.state; desk = c.args.desk.now } in
     let place : PollPlace g.row.P-Credential.Denot g.row.G.Denot g.row.P-Load.Denot g.row.G-Work.Denot = record { state = c.loop-next.state; desk = c.loop-next.desk } in
     subst (λ a. IsDrivenFrom d c.args.grant.state c.args.desk.now c.step.new.desk a) (sym c.answer_of.ensures)
-    (invariant-end d start place c.loop-next.invariant c.requires.there c.step.new.desk c.step.result c.in-Over.end c.in-Over.is c.step.ensures)
+    (invariant-end d start place c.loop-next.invariant c.requires.there c.step.new.desk c.step.result c.in-Stop.end c.in-Stop.is c.step.ensures)

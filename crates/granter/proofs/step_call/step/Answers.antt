@@ -1,11 +1,12 @@
 use Rattle.std.proofs.Common.{sym, subst, slice_get}
 use Rattle.desk_driver.proofs.Rows.{led-from}
 use Rattle.granter.specs.DeskReplies.{IsUnpolled}
-use Rattle.granter.specs.PollContext.{poll_context, call_with, IsIssuedFor}
+use Rattle.granter.specs.PollContext.{poll_context, IsIssuedFor}
+use Rattle.desk_driver.specs.PolledCall.{call_with}
 use Rattle.desk_driver.specs.CallAt.{service_of}
 use Rattle.granter.specs.StepOutcome.{StepChange, IsStepOutcome}
 use Rattle.granter.specs.declared.grant.CallState.TheVariants.{Waiting}
-use Rattle.granter.proofs.ObjectMeanings.{for-service}
+use Rattle.desk_driver.proofs.ObjectMeanings.{for-service}
 use Rattle.granter.proofs.StepOutcomes.{poll-taken}
 use Rattle.granter.proofs.step_call.step.Goals as goal
 

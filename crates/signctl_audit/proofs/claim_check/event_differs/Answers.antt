@@ -1,7 +1,7 @@
 use Rattle.std.proofs.Common.{◌≡◌, ◌∙◌, ◌&&◌, false, refl, sym}
 use Rattle.std.proofs.lemmas.Result.{IfOk-weaker}
-use Rattle.signctl_audit.specs.Account.{reply_due}
-use Rattle.signctl_audit.specs.AuditReading.{is_missed, may_miss, behind_of}
+use Rattle.signctl_audit.specs.Account.{reply_due, is_missed}
+use Rattle.signctl_audit.specs.AuditReading.{may_miss, behind_of}
 use Rattle.signctl_audit.specs.declared.audit_line.Subject.TheVariants.{Event as Happened}
 use Rattle.signctl_audit.proofs.claim_check.event_differs.Goals as goal
 

@@ -1,46 +1,35 @@
-use Rattle.signctl_format.specs.Escapes.{stands}
-use Rattle.signctl_format.proofs.Escaped.{cut_first, byte_short, rest_short, more_added}
-use Rattle.signctl_format.proofs.Texts.{grows_then, room_then}
-use Rattle.signctl_format.proofs.ShortTexts.{on_err}
+use Rattle.std.proofs.Common.{◌≡◌}
+use Rattle.signctl_format.specs.Classes.{has}
+use Rattle.signctl_format.specs.Escapes.{stands, with_escapes}
+use Rattle.signctl_format.proofs.Escaped.{plain_in_front, byte_in_front}
+use Rattle.signctl_format.proofs.Printing.{all_to_print, one_more, short_in_rest, all_printed}
 use Rattle.signctl_format.proofs.escape.push_escaped.Goals as goal
 
-pub returns-in_err-push_byte-clause-err : goal.returns-in_err-push_byte-clause-err
-returns-in_err-push_byte-clause-err c =
-    let rest = c.loop-rest.rest.now in
-    let so_far = c.loop-rest.invariant in
-    on_err _ (byte_short (stands c.args.escaping) rest c.args.bytes.now _ _ (cut_first rest c.in-len1-up.len_at_least) so_far.grows so_far.whole so_far.capacity c.in_err-push_byte.ensures.err)
+pub returns-in_err-push : goal.returns-in_err-push
+returns-in_err-push c =
+    let cut = plain_in_front (stands c.args.escaping) _ _ _ _ c.class.ensures c.split_run.ensures.parts c.split_run.ensures.class in
+    short_in_rest _ cut (all_to_print c.args.text.now _) c.from_residual.ensures.0 c.in_err-push.ensures
 
-pub returns-in_err-rest-2-clause-err : goal.returns-in_err-rest-2-clause-err
-returns-in_err-rest-2-clause-err c =
-    let rest = c.loop-rest.rest.now in
-    let so_far = c.loop-rest.invariant in
-    let byte = c.in_ok-push_byte.ensures {u = tt} in
-    on_err _ (rest_short (stands c.args.escaping) c.loop-rest.text rest c.args.bytes.now _ _ (cut_first rest c.in-len1-up.len_at_least) so_far.grows so_far.whole so_far.capacity byte.ok byte.capacity c.in_err-rest-2.ensures.err)
+pub loop-rest-init : goal.loop-rest-init
+loop-rest-init c =
+    let cut = plain_in_front (stands c.args.escaping) _ _ _ _ c.class.ensures c.split_run.ensures.parts c.split_run.ensures.class in
+    one_more _ cut (all_to_print c.args.text.now _) c.in_ok-push.ensures
 
-pub returns-in_err-push_byte-clause-capacity : goal.returns-in_err-push_byte-clause-capacity
-returns-in_err-push_byte-clause-capacity c = room_then _ _ _ c.loop-rest.invariant.capacity c.in_err-push_byte.ensures.capacity
+pub returns-in_err-push_byte : goal.returns-in_err-push_byte
+returns-in_err-push_byte c =
+    let cut = byte_in_front (stands c.args.escaping) c.loop-rest.rest.now c.in-len1-up.len_at_least in
+    short_in_rest _ cut c.loop-rest.invariant c.from_residual-in_err-push_byte.ensures.0 c.in_err-push_byte.ensures
 
-pub returns-in_err-push_byte-clause-grows : goal.returns-in_err-push_byte-clause-grows
-returns-in_err-push_byte-clause-grows c = grows_then _ _ _ c.loop-rest.invariant.grows c.in_err-push_byte.ensures.grows
-
-pub returns-in_err-rest-2-clause-capacity : goal.returns-in_err-rest-2-clause-capacity
-returns-in_err-rest-2-clause-capacity c =
-    let byte = c.in_ok-push_byte.ensures {u = tt} in
-    room_then _ _ _ c.loop-rest.invariant.capacity (room_then _ _ _ byte.capacity c.in_err-rest-2.ensures.capacity)
-
-pub returns-in_err-rest-2-clause-grows : goal.returns-in_err-rest-2-clause-grows
-returns-in_err-rest-2-clause-grows c =
-    let byte = c.in_ok-push_byte.ensures {u = tt} in
-    grows_then _ _ _ c.loop-rest.invariant.grows (grows_then _ _ _ byte.grows c.in_err-rest-2.ensures.grows)
+pub returns-in_err-push-2 : goal.returns-in_err-push-2
+returns-in_err-push-2 c =
+    let so_far = one_more _ (byte_in_front (stands c.args.escaping) c.loop-rest.rest.now c.in-len1-up.len_at_least) c.loop-rest.invariant c.in_ok-push_byte.ensures in
+    let plain = c.split_run-in-len1-up.ensures in
+    let cut = plain_in_front (stands c.args.escaping) _ _ _ _ c.class-in-len1-up.ensures plain.parts plain.class in
+    short_in_rest _ cut so_far c.from_residual-in_err-push-2.ensures.0 c.in_err-push-2.ensures
 
 pub loop-rest-preserved : goal.loop-rest-preserved
 loop-rest-preserved c =
-    let rest = c.loop-rest.rest.now in
-    let so_far = c.loop-rest.invariant in
-    let byte = c.in_ok-push_byte.ensures {u = tt} in
-    let run = c.in_ok-rest-2.ensures in
-    record {
-      whole = more_added (stands c.args.escaping) c.loop-rest.text c.push_byte.new.text rest _ _ (cut_first rest c.in-len1-up.len_at_least) so_far.whole byte.ok run.ok;
-      capacity = room_then _ _ _ so_far.capacity (room_then _ _ _ byte.capacity run.capacity);
-      grows = grows_then _ _ _ so_far.grows (grows_then _ _ _ byte.grows run.grows);
-    }
+    let so_far = one_more _ (byte_in_front (stands c.args.escaping) c.loop-rest.rest.now c.in-len1-up.len_at_least) c.loop-rest.invariant c.in_ok-push_byte.ensures in
+    let plain = c.split_run-in-len1-up.ensures in
+    let cut = plain_in_front (stands c.args.escaping) _ _ _ _ c.class-in-len1-up.ensures plain.parts plain.class in
+    one_more _ cut so_far c.in_ok-push-2.ensures

@@ -1,31 +1,36 @@
-use Rattle.std.proofs.Common.{◌∷◌, arith}
-use Rattle.std.proofs.lemmas.List.Folds.{flat_map-map}
+use Rattle.std.proofs.Common.{◌≡◌, ℕ, suc, ◌+◌, ◌<◌, List, [], ◌∷◌, ◌++◌, length, get_or, drop, sym, ap, ◌∙◌, add-one, drop-cons, arith}
+use Rattle.std.proofs.lemmas.List.{drop_all}
+use Rattle.std.specs.Prelude.{map}
 use Rattle.sign_base.specs.declared.head.Field.{Field}
 use Rattle.signctl_format.specs.Bytes.{space}
+use Rattle.signctl_format.specs.Words.{spaced_words}
 use Rattle.signctl_format.specs.Heads.{field_word}
-use Rattle.signctl_format.proofs.Texts.{grows_then, grows_by, held_more, room_then}
-use Rattle.signctl_format.proofs.ShortTexts.{on_err, short_at}
+use Rattle.signctl_format.proofs.Printing.{all_to_print, one_more, short_in_rest, all_printed}
 use Rattle.signctl_format.proofs.head_text.push_fields.Goals as goal
 
-pub returns-in_err-push_field-clause-err : goal.returns-in_err-push_field-clause-err
-returns-in_err-push_field-clause-err c =
-    let word = λ (f : Field). space ∷ field_word f in
-    let held = rw flat_map-map at c.loop-field.invariant.0 in
-    rw flat_map-map (on_err _ (short_at word c.args.fields.now c.loop-field.field-index _ _ (omega arith) c.field-item.is held c.loop-field.invariant.1 c.in_err-push_field.ensures.err))
+-- the first of what is left
+cut_first : (fields : List Field) (i : ℕ) (f d : Field) → i < length fields → f ≡ get_or fields i d
+    → spaced_words (map field_word (drop i fields))
+    ≡ (space ∷ field_word f) ++ spaced_words (map field_word (drop (i + 1) fields))
+cut_first fields i f d within is =
+    let first : drop i fields ≡ f ∷ drop (i + 1) fields =
+    rw add-one (drop-cons fields i d within ∙ ap (λ (g : Field). g ∷ drop (suc i) fields) (sym is)) in
+    ap (λ (left : List Field). spaced_words (map field_word left)) first
 
-pub returns-in_err-push_field-clause-capacity : goal.returns-in_err-push_field-clause-capacity
-returns-in_err-push_field-clause-capacity c = room_then _ _ _ c.loop-field.invariant.1 c.in_err-push_field.ensures.capacity
+pub loop-field-init : goal.loop-field-init
+loop-field-init c = all_to_print _ _
 
-pub returns-in_err-push_field-clause-grows : goal.returns-in_err-push_field-clause-grows
-returns-in_err-push_field-clause-grows c = grows_then _ _ _ (grows_by _ _ _ c.loop-field.invariant.0) c.in_err-push_field.ensures.grows
+pub returns-in_err-push_field : goal.returns-in_err-push_field
+returns-in_err-push_field c =
+    short_in_rest _ (cut_first c.args.fields.now c.loop-field.field-index _ _ (omega arith) c.field-item.is) c.loop-field.invariant
+    c.from_residual.ensures.0 c.in_err-push_field.ensures
 
 pub loop-field-preserved : goal.loop-field-preserved
 loop-field-preserved c =
-    let word = λ (f : Field). space ∷ field_word f in
-    let held = rw flat_map-map at c.loop-field.invariant.0 in (
-      rw flat_map-map (held_more word c.args.fields.now c.loop-field.field-index _ _ c.args.text.now c.loop-field.text (omega arith) c.field-item.is held c.in_ok-push_field.ensures.ok),
-      room_then _ _ _ c.loop-field.invariant.1 c.in_ok-push_field.ensures.capacity,
-    )
+    one_more _ (cut_first c.args.fields.now c.loop-field.field-index _ _ (omega arith) c.field-item.is) c.loop-field.invariant
+    c.in_ok-push_field.ensures
 
-pub returns-clause-grows : goal.returns-clause-grows
-returns-clause-grows c = grows_by _ _ _ c.loop-field.invariant.0
+pub returns : goal.returns
+returns c =
+    let none : drop c.loop-field.field-index c.args.fields.now ≡ [] = drop_all c.loop-field.field-index c.args.fields.now c.loop-field-test.false in
+    all_printed (ap (λ (left : List Field). spaced_words (map field_word left)) none) c.loop-field.invariant

@@ -1,9 +1,10 @@
-use Rattle.std.proofs.Common.{◌≡◌, ◌≤◌, ◌++◌, take, vec_capacity}
+use Rattle.std.proofs.Common.{drop}
 use Rattle.std.specs.Prelude.{map}
 use Rattle.signctl_format.specs.Words.{spaced_words}
 use Rattle.signctl_format.specs.Heads.{field_word}
+use Rattle.signctl_format.proofs.Printing.{PrintsAllBut}
 use Rattle.signctl_format.proofs.head_text.push_fields.Given as goal
 
 abbrev pub invariant-loop-field : goal.invariant-loop-field
 invariant-loop-field l =
-    (l.text.items ≡ l.fn.text.items ++ spaced_words (map field_word (take l.field-index l.fields))) × (vec_capacity l.fn.text ≤ vec_capacity l.text)
+    PrintsAllBut (spaced_words (map field_word (drop l.field-index l.fields))) (spaced_words (map field_word l.fields)) l.fn.text l.text

@@ -1,13 +1,14 @@
-use Rattle.std.proofs.Common.{◌≡◌, ◌++◌, ◌^◌, ◌<◌, ◌≤◌, vec_capacity}
+use Rattle.std.proofs.Common.{◌^◌, ◌<◌, ◌≤◌}
 use Rattle.signctl_format.specs.Moments.{fraction_digits}
-use Rattle.signctl_format.specs.Lines.{Grows}
+use Rattle.signctl_format.proofs.Printing.{PrintsAllBut}
 use Rattle.signctl_format.proofs.moment_text.push_digits.Given as goal
 
 abbrev pub decreases-loop-rest : goal.decreases-loop-rest
 decreases-loop-rest l = l.places
 
 abbrev pub invariant-loop-rest : goal.invariant-loop-rest
-invariant-loop-rest l =
-    (l.places ≤ 9) × (l.rest < 10 ^ l.places) × Grows l.fn.text.items l.text.items
-    × (l.text.items ++ fraction_digits l.places l.rest ≡ l.fn.text.items ++ fraction_digits l.fn.places l.fn.n)
-    × (vec_capacity l.fn.text ≤ vec_capacity l.text)
+invariant-loop-rest l = record {
+  few : l.places ≤ 9;
+  below : l.rest < 10 ^ l.places;
+  so_far : PrintsAllBut (fraction_digits l.places l.rest) (fraction_digits l.fn.places l.fn.n) l.fn.text l.text;
+}

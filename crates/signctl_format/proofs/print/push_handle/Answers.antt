@@ -1,21 +1,8 @@
-use Rattle.std.proofs.lemmas.Result.{on_ok_weaker, on_err_weaker}
-use Rattle.signctl_format.proofs.Texts.{grows_then, held_then, held_last, room_then}
-use Rattle.signctl_format.proofs.ShortTexts.{on_err, short_first, short_after}
+use Rattle.signctl_format.proofs.Printing.{prints_short, prints_then, prints_last}
 use Rattle.signctl_format.proofs.print.push_handle.Goals as goal
 
-pub returns-in_err-push-clause-err : goal.returns-in_err-push-clause-err
-returns-in_err-push-clause-err c = on_err _ (short_first _ c.in_err-push.ensures.err)
+pub returns-in_err-push : goal.returns-in_err-push
+returns-in_err-push c = prints_short _ c.from_residual.ensures.0 c.in_err-push.ensures
 
-pub returns-clause-err : goal.returns-clause-err
-returns-clause-err c =
-    let name = c.in_ok-push.ensures in
-    on_err_weaker c.push_number.result (λ short. short_after c.push.new.text _ name.ok name.capacity (short_first _ short)) c.push_number.ensures.err
-
-pub returns-clause-capacity : goal.returns-clause-capacity
-returns-clause-capacity c = room_then _ _ _ c.in_ok-push.ensures.capacity c.push_number.ensures.capacity
-
-pub returns-clause-grows : goal.returns-clause-grows
-returns-clause-grows c = grows_then _ _ _ c.in_ok-push.ensures.grows c.push_number.ensures.grows
-
-pub returns-clause-ok : goal.returns-clause-ok
-returns-clause-ok c = on_ok_weaker c.push_number.result (λ last. held_then c.args.text.now c.push.new.text _ _ c.in_ok-push.ensures.ok (held_last c.push.new.text _ last)) c.push_number.ensures.ok
+pub returns : goal.returns
+returns c = prints_then c.in_ok-push.ensures (prints_last c.push_number.ensures)

@@ -1,4 +1,11 @@
+use Rattle.std.proofs.Common.{sym, ◌∙◌}
+use Rattle.signctl_threads.specs.declared.slots.Slot.{Slot}
+use Rattle.signctl_threads.proofs.Checks.{none-any}
 use Rattle.signctl_threads.proofs.seats.serve_slots.Goals as goal
+
+pub work_on_rest-requires-clause-stopped : goal.work_on_rest-requires-clause-stopped
+work_on_rest-requires-clause-stopped g c =
+    none-any (λ (s : Slot). s.out_of_memory) c.run_threads.new.slots (sym c.any_stopped.ensures ∙ c.if-any_stopped.false)
 
 pub returns : goal.returns
 returns g c = record {

@@ -1,4 +1,4 @@
-use Rattle.signer.specs.ObjectPoll.{operation_of}
+use Rattle.desk_driver.specs.Meanings.{operation_of}
 use Rattle.signer.proofs.signer_objects.poll_work.Goals as goal
 
 pub returns-in-Failed : goal.returns-in-Failed

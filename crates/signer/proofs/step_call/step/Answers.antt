@@ -1,10 +1,11 @@
 use Rattle.std.proofs.Common.{refl, sym, subst, slice_get}
 use Rattle.desk_driver.specs.CallAt.{IsWaiting, service_of}
 use Rattle.desk_driver.proofs.Rows.{led-from}
-use Rattle.signer.specs.PollContext.{poll_context, call_with, IsIssuedFor}
+use Rattle.signer.specs.PollContext.{poll_context, IsIssuedFor}
+use Rattle.desk_driver.specs.PolledCall.{call_with}
 use Rattle.signer.specs.StepOutcome.{StepChange, IsStepOutcome}
 use Rattle.signer.specs.declared.sign.SignState.TheVariants.{Waiting}
-use Rattle.signer.proofs.ObjectMeanings.{for-service}
+use Rattle.desk_driver.proofs.ObjectMeanings.{for-service}
 use Rattle.signer.proofs.StepOutcomes.{poll-taken}
 use Rattle.signer.proofs.step_call.step.Goals as goal
 

@@ -12,7 +12,7 @@ returns c =
     let for_date : c.as_slice-2.result.now ≡ mac start date =
     c.as_slice-2.ensures.value ∙ (c.in_ok-for_date.ensures ∙ ap (λ k. mac k date) secret) in
     let for_region : c.as_slice-3.result.now ≡ mac (mac start date) c.args.scope.now.region =
-    c.as_slice-3.ensures.value ∙ (c.in_ok-for_region.ensures ∙ ap₂ mac for_date c.region.ensures) in
+    c.as_slice-3.ensures.value ∙ (c.in_ok-for_region.ensures ∙ ap₂ mac for_date c.region.ensures.value) in
     let for_service : c.as_slice-4.result.now ≡ mac (mac (mac start date) c.args.scope.now.region) c.args.scope.now.service =
-    c.as_slice-4.ensures.value ∙ (c.in_ok-for_service.ensures ∙ ap₂ mac for_region c.service.ensures) in
+    c.as_slice-4.ensures.value ∙ (c.in_ok-for_service.ensures ∙ ap₂ mac for_region c.service.ensures.value) in
     rw (← for_service) c.hmac_sha256-4.ensures

@@ -12,7 +12,7 @@ returns c =
     let now = c.args.now in
     let to_sign = request_to_sign c.args.head.now (plain_target c.args.uri.now) c.args.headers c.args.payload.now in
     let request : c.as_slice.result.now ≡ to_sign =
-    c.as_slice.ensures.value ∙ (c.in_ok-texts.ensures.request ∙ ap (λ word. request_to_sign c.args.head.now (plain_target c.args.uri.now) c.args.headers word) c.word.ensures) in
+    c.as_slice.ensures.value ∙ (c.in_ok-texts.ensures.request ∙ ap (λ word. request_to_sign c.args.head.now (plain_target c.args.uri.now) c.args.headers word) c.hash_or_unsigned.ensures) in
     let names : c.as_slice-2.result.now ≡ signed_headers c.args.headers = c.as_slice-2.ensures.value ∙ c.in_ok-texts.ensures.names in
     let signature : c.as_slice-3.result.now ≡ signature_under key.key key.scope now to_sign =
     c.as_slice-3.ensures ∙ (c.in_ok-signature.ensures ∙ ap (λ text. signature_under key.key key.scope now text) request) in

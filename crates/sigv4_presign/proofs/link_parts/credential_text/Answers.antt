@@ -12,12 +12,12 @@ unfolding scope_text
 returns c =
     let date : c.as_bytes.result.now ≡ date_of c.args.now = c.as_bytes.ensures.value ∙ c.in_ok-format_date.ensures c.requires in
     let slash : List ℕ = 47 ∷ [] in
-    let access : c.in_ok-text.text.items ≡ c.args.credential.now.access = c.in_ok-text.ensures.items ∙ c.access.ensures in
+    let access : c.in_ok-text.text.items ≡ c.args.credential.now.access = c.in_ok-text.ensures.items ∙ c.access.ensures.value in
     c.in_ok-extend_from_slice-4.ensures.items
     ∙ (ap (λ t. t ++ 47 ∷ terminator) (c.in_ok-extend_from_slice-3.ensures.items
     ∙ ap₂ (λ t s. t ++ s) (c.in_ok-push-3.ensures.items
     ∙ ap (λ t. t ++ slash) (c.in_ok-extend_from_slice-2.ensures.items
     ∙ ap₂ (λ t s. t ++ s) (c.in_ok-push-2.ensures.items
     ∙ ap (λ t. t ++ slash) (c.in_ok-extend_from_slice.ensures.items
-    ∙ ap₂ (λ t s. t ++ s) (c.in_ok-push.ensures.items ∙ ap (λ t. t ++ slash) access) date)) c.region.ensures)) c.service.ensures)
+    ∙ ap₂ (λ t s. t ++ s) (c.in_ok-push.ensures.items ∙ ap (λ t. t ++ slash) access) date)) c.region.ensures.value)) c.service.ensures.value)
     ∙ in_a_row c.args.credential.now.access (date_of c.args.now) c.args.scope.now.region c.args.scope.now.service terminator)

@@ -1,5 +1,5 @@
 use Rattle.std.proofs.Common.{length, []}
-use Rattle.sequential_signer.specs.Policy.{policy_of}
+use Rattle.sequential_signer.specs.Policy.{policy_for}
 use Rattle.desk_parts.specs.Adding.{with_handle}
 use Rattle.desk_parts.proofs.AddAnswers.{placed-where_added, good-after, good-where_added}
 use Rattle.grant_desk.specs.GrantDeskState.{GrantRepresents}
@@ -10,7 +10,7 @@ use Rattle.grant_desk.proofs.desk.GrantDesk.add_handle.Goals as goal
 
 pub invariant_of-self : goal.invariant_of-self
 invariant_of-self g c =
-    let policy = policy_of g.K.SigningCredential.valid g.K.SigningCredential.valid_at g.D.DeadlineRule.deadline in
+    let policy = policy_for g.K.SigningCredential g.D.DeadlineRule in
     let s = c.self-inside.inside.0.0.tables in
     let stood : IsGrantDesk policy s = rw (← c.self-inside.view_is) at c.self.invariant in
     good-after (IsGrantDesk policy) s (with_handle c.args.cache c.args.rule s) c.add_handle.new.self c.add_handle.result
@@ -20,7 +20,7 @@ invariant_of-self g c =
 
 pub returns-clause-fresh : goal.returns-clause-fresh
 returns-clause-fresh g c =
-    let policy = policy_of g.K.SigningCredential.valid g.K.SigningCredential.valid_at g.D.DeadlineRule.deadline in
+    let policy = policy_for g.K.SigningCredential g.D.DeadlineRule in
     let s = c.self-inside.inside.0.0.tables in
     let stood : IsGrantDesk policy s = rw (← c.self-inside.view_is) at c.self.invariant in
     good-where_added (λ k. GrantRepresents policy k []) s (with_handle c.args.cache c.args.rule s) c.add_handle.new.self c.add_handle.result

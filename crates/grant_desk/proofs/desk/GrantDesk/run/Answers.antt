@@ -1,7 +1,7 @@
 use Rattle.std.proofs.Common.{◌≡◌, ◌∙◌, ◌<◌, ◌+◌, ◌++◌, ◌∷◌, [], ap, sym, length, take, arith}
 use Rattle.std.proofs.lemmas.List.{take_more, length-append, length-take}
 use Rattle.sequential_signer.specs.declared.grant_event.GrantEvent.{GrantEvent}
-use Rattle.sequential_signer.specs.Policy.{policy_of}
+use Rattle.sequential_signer.specs.Policy.{policy_for}
 use Rattle.grant_desk.specs.GrantSteps.{IsGrantRunStep, grant_entry_of, paired_grants}
 use Rattle.desk_parts.specs.Memory.{ClonesAreFree}
 use Rattle.desk_parts.proofs.MoreSteps.{paired-append, steps-more}
@@ -9,7 +9,7 @@ use Rattle.grant_desk.proofs.desk.GrantDesk.run.Goals as goal
 
 pub loop-event-preserved : goal.loop-event-preserved
 loop-event-preserved g c =
-    let policy = policy_of g.K.SigningCredential.valid g.K.SigningCredential.valid_at g.D.DeadlineRule.deadline in
+    let policy = policy_for g.K.SigningCredential g.D.DeadlineRule in
     let within : c.loop-event.event-index < length c.args.events.now = c.loop-event-test.true in
     let taken : take (c.loop-event.event-index + 1) c.args.events.now ≡ take c.loop-event.event-index c.args.events.now ++ c.event-item.result ∷ [] =
     take_more c.args.events.now c.loop-event.event-index c.event-item.result within ∙ ap (λ (x : GrantEvent g.row.K.Denot). take c.loop-event.event-index c.args.events.now ++ x ∷ []) (sym c.event-item.is) in

@@ -1,5 +1,5 @@
 use Rattle.std.proofs.Common.{◌≡◌, ◌≤◌, ◌++◌, List, length, take, vec_capacity}
-use Rattle.sequential_signer.specs.Policy.{policy_of}
+use Rattle.sequential_signer.specs.Policy.{policy_for}
 use Rattle.sequential_signer.specs.declared.grant_event.GrantEntry.{GrantEntry}
 use Rattle.grant_desk.specs.GrantDeskState.{GrantRepresents}
 use Rattle.desk_parts.specs.Memory.{ClonesAreFree}
@@ -13,15 +13,15 @@ invariant-loop-event g l = record {
   count : length l.replies.items ≡ l.event-index;
   room : length l.events ≤ vec_capacity l.replies;
   steps : AreGrantSteps
-      (policy_of g.K.SigningCredential.valid g.K.SigningCredential.valid_at g.D.DeadlineRule.deadline)
+      (policy_for g.K.SigningCredential g.D.DeadlineRule)
       (ClonesAreFree g.K.SigningCredential.clones_freely)
       (take l.event-index l.events) l.replies.items l.initial.self l.self;
   setup : setup_of l.self ≡ setup_of l.initial.self;
   represents : (entries : List (GrantEntry g.row.K.Denot))
       → GrantRepresents
-      (policy_of g.K.SigningCredential.valid g.K.SigningCredential.valid_at g.D.DeadlineRule.deadline)
+      (policy_for g.K.SigningCredential g.D.DeadlineRule)
       l.initial.self entries
       → GrantRepresents
-      (policy_of g.K.SigningCredential.valid g.K.SigningCredential.valid_at g.D.DeadlineRule.deadline) l.self
+      (policy_for g.K.SigningCredential g.D.DeadlineRule) l.self
       (entries ++ paired_grants (take l.event-index l.events) l.replies.items);
 }

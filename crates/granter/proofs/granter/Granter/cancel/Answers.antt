@@ -2,7 +2,8 @@ use Rattle.std.proofs.Common.{IsSome, slice_get, refl, sym, ◌∙◌, ap, subst
 use Rattle.desk_driver.specs.CallAt.{IsLive}
 use Rattle.desk_driver.specs.CallNumbers.{is_above_all}
 use Rattle.desk_driver.proofs.Rows.{for-there}
-use Rattle.granter.specs.GranterObjects.{call_meaning, meanings_of, objects_of}
+use Rattle.granter.specs.GranterObjects.{meanings_of, objects_of}
+use Rattle.desk_driver.specs.Meanings.{call_meaning}
 use Rattle.granter.specs.IssuedBy.{IsStateIssued, IsGrantIssuedBy}
 use Rattle.granter.specs.GranterView.{granter_view}
 use Rattle.granter.proofs.GranterObjectsAt.{has-objects}

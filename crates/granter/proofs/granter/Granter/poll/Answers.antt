@@ -4,10 +4,11 @@ use Rattle.desk_driver.specs.CallAt.{loader_of}
 use Rattle.desk_driver.specs.ProviderList.{loader_for}
 use Rattle.desk_driver.specs.CallNumbers.{is_above_all}
 use Rattle.desk_driver.proofs.Rows.{for-there, index-is, cache-is}
-use Rattle.granter.specs.Course.{polled_call, IsDriven, IsGrantPoll}
+use Rattle.granter.specs.PollEvents.{polled_call, IsDriven, IsGrantPoll}
 use Rattle.granter.specs.GranterCalls.{IsAnswerIssuedBy}
 use Rattle.granter.specs.GranterInvariant.{GranterState, IsGranter}
-use Rattle.granter.specs.GranterObjects.{call_meaning, meanings_of, objects_of}
+use Rattle.granter.specs.GranterObjects.{meanings_of, objects_of}
+use Rattle.desk_driver.specs.Meanings.{call_meaning}
 use Rattle.desk_driver.specs.Objects.{Objects}
 use Rattle.granter.specs.IssuedBy.{IsStateIssued, IsGrantIssuedBy}
 use Rattle.granter.specs.GranterView.{granter_view}

@@ -32,7 +32,7 @@ returns-in-Ok-clause-added g c =
     let loads : slice_get s.desk.loaders like.cache ≡ Some (loader_for c.index.result.now) = c.self.invariant.loaders like.cache ∙ rw placed (ap (option_map loader_for) at) in
     let place : c.len.result ≡ length s.contexts = c.len.ensures ∙ c.make_room.new.contexts.ok.0 ∙ ap length c.make_room.ensures.contexts in
     let read : slice_index s.provider_places like.cache ≡ c.index-place.result.now = get_or_from_slice_get s.provider_places like.cache c.index-place.result.now 0 placed in
-    let after : GranterState g.row.P.Denot g.row.G.Denot g.row.P-Credential.Denot g.row.P-Ctx.Denot = record { desk = c.add_handle_with_cache.new.self; providers = c.make_room.new.providers.items; provider_places = c.push_reserved.new.self.items; contexts = c.push_reserved-in-Ok-2.new.self.items; context_places = c.push_reserved-in-Ok.new.self.items; begun = c.self.inside.begun } in
+    let after : GranterState g.row.P.Denot g.row.G.Denot g.row.P-Credential.Denot g.row.P-Ctx.Denot = record { desk = c.add_cache_and_handle.new.self; providers = c.make_room.new.providers.items; provider_places = c.push_reserved.new.self.items; contexts = c.push_reserved-in-Ok-2.new.self.items; context_places = c.push_reserved-in-Ok.new.self.items; begun = c.self.inside.begun } in
     let is : after ≡ with_context_handle like (loader_for c.index.result.now) (slice_index s.provider_places like.cache) c.args.ctx s = rw (c.in-Ok.ensures.added, c.make_room.ensures.providers, c.push_reserved.ensures.items, c.make_room.ensures.provider_places, c.push_reserved-in-Ok-2.ensures.items, c.make_room.ensures.contexts, c.push_reserved-in-Ok.ensures.items, c.make_room.ensures.places, place, c.loader_of-loads.ensures, read) refl in
     rw (← c.self.view_is)
     (if-some _ like _ there (if-some _ (loader_for c.index.result.now) _ loads is))

@@ -5,21 +5,21 @@ use Rattle.desk_parts.specs.Tables.{setup_of}
 use Rattle.desk_parts.specs.declared.call_record.Stage.{Stage}
 use Rattle.sign_audit.specs.AuditState.{AuditState}
 use Rattle.sign_audit.specs.IsAudit.{IsAudit}
-use Rattle.sign_audit.specs.LineChange.{line_change, change_before, lines_of, MayCome}
-use Rattle.sign_audit.specs.declared.line_change.LineChange.{LineChange}
-use Rattle.sign_audit.proofs.Accepting.{where-ok, where-err, may-come, counts-there, changed-there, unset-answer, unset-invariant, lost-answer, lost-invariant, happened-answer, happened-invariant}
+use Rattle.sign_audit.specs.OrderChange.{order_change, change_before, orders_of, MayCome}
+use Rattle.sign_audit.specs.declared.order_change.OrderChange.{OrderChange}
+use Rattle.sign_audit.proofs.Accepting.{where-ok, where-err, may-come, changed-there, unset-answer, unset-invariant, lost-answer, lost-invariant, happened-answer, happened-invariant}
 use Rattle.sign_audit.proofs.Blocking.{queue-there, lines-count}
 use Rattle.sign_audit.proofs.audit.Audit.accept.Goals as goal
 
 pub invariant_of-self : goal.invariant_of-self
 invariant_of-self g c =
-    unset-invariant (policy_of g.K.SigningCredential.valid g.K.SigningCredential.valid_at g.D.DeadlineRule.deadline) c.self.inside.desk c.self.inside.counts.items c.args.self.now c.self.view_is c.self.inside.lines c.self.invariant
+    unset-invariant (policy_of g.K.SigningCredential.valid g.K.SigningCredential.valid_at g.D.DeadlineRule.deadline) c.self.inside.desk c.self.inside.counts.items c.args.self.now c.self.view_is c.self.inside.orders c.self.invariant
     c.args.event.now c.args.expected.now c.requires.expected c.requires.kind c.call-call.result c.call-call.ensures c.step-not_now.result c.step-not_now.new.self c.step-not_now.ensures.step c.step-not_now.ensures.transition
     (sym c.cache_of.ensures ∙ c.in_default.is)
 
 pub returns-in_default-clause-answer : goal.returns-in_default-clause-answer
 returns-in_default-clause-answer g c =
-    unset-answer (policy_of g.K.SigningCredential.valid g.K.SigningCredential.valid_at g.D.DeadlineRule.deadline) c.self.inside.desk c.self.inside.counts.items c.args.self.now c.self.view_is c.self.inside.lines c.self.invariant
+    unset-answer (policy_of g.K.SigningCredential.valid g.K.SigningCredential.valid_at g.D.DeadlineRule.deadline) c.self.inside.desk c.self.inside.counts.items c.args.self.now c.self.view_is c.self.inside.orders c.self.invariant
     c.args.event.now c.args.expected.now c.requires.expected c.requires.kind c.call-call.result c.call-call.ensures c.step-not_now.result c.step-not_now.new.self c.step-not_now.ensures.step c.step-not_now.ensures.transition
     (sym c.cache_of.ensures ∙ c.in_default.is)
 
@@ -28,15 +28,15 @@ returns-in_default-clause-setup g c = c.step-not_now.ensures.step.setup ∙ ap (
 
 pub before_step-requires-clause-there : goal.before_step-requires-clause-there
 before_step-requires-clause-there g c =
-    subst (λ n. c.in-Some.cache < n) (sym (ap length c.self.invariant.lines_are ∙ lines-count c.self.inside.desk.queues)) (queue-there c.self.inside.desk c.stage_of.ensures.sound c.call-call.result c.in-Some.cache (sym c.cache_of.ensures ∙ c.in-Some.is))
+    subst (λ n. c.in-Some.cache < n) (sym (ap length c.self.invariant.orders_are ∙ lines-count c.self.inside.desk.queues)) (queue-there c.self.inside.desk c.stage_of.ensures.sound c.call-call.result c.in-Some.cache (sym c.cache_of.ensures ∙ c.in-Some.is))
 
 pub before_step-requires-clause-comes : goal.before_step-requires-clause-comes
 before_step-requires-clause-comes g c =
-    let may : MayCome (line_change c.stage_of.result c.args.expected.now) c.call-call.result (slice_index_or (lines_of c.self.inside.desk.queues) c.in-Some.cache []) =
-    subst (λ (o : Option Stage). MayCome (line_change o c.args.expected.now) c.call-call.result (slice_index_or (lines_of c.self.inside.desk.queues) c.in-Some.cache [])) (sym c.stage_of.ensures.stage)
+    let may : MayCome (order_change c.stage_of.result c.args.expected.now) c.call-call.result (slice_index_or (orders_of c.self.inside.desk.queues) c.in-Some.cache []) =
+    subst (λ (o : Option Stage). MayCome (order_change o c.args.expected.now) c.call-call.result (slice_index_or (orders_of c.self.inside.desk.queues) c.in-Some.cache [])) (sym c.stage_of.ensures.stage)
     (may-come (policy_of g.K.SigningCredential.valid g.K.SigningCredential.valid_at g.D.DeadlineRule.deadline) c.self.inside.desk c.stage_of.ensures.sound c.call-call.result c.in-Some.cache (sym c.cache_of.ensures ∙ c.in-Some.is) c.args.expected.now) in
-    subst (λ (ls : List (List CallId)). MayCome c.line_change-change.result c.call-call.result (slice_index_or ls c.in-Some.cache [])) (sym c.self.invariant.lines_are)
-    (subst (λ (ch : LineChange). MayCome ch c.call-call.result (slice_index_or (lines_of c.self.inside.desk.queues) c.in-Some.cache [])) (sym c.line_change-change.ensures) may)
+    subst (λ (ls : List (List CallId)). MayCome c.order_change-change.result c.call-call.result (slice_index_or ls c.in-Some.cache [])) (sym c.self.invariant.orders_are)
+    (subst (λ (ch : OrderChange). MayCome ch c.call-call.result (slice_index_or (orders_of c.self.inside.desk.queues) c.in-Some.cache [])) (sym c.order_change-change.ensures) may)
 
 pub invariant_of-self-then-is_err : goal.invariant_of-self-then-is_err
 invariant_of-self-then-is_err g c =
@@ -50,16 +50,16 @@ returns-then-is_err-clause-setup g c = ap (λ (a : AuditState g.row.K.Denot g.ro
 
 pub invariant_of-self-then-is_out_of_memory : goal.invariant_of-self-then-is_out_of_memory
 invariant_of-self-then-is_out_of_memory g c =
-    lost-invariant (policy_of g.K.SigningCredential.valid g.K.SigningCredential.valid_at g.D.DeadlineRule.deadline) c.self.inside.desk c.self.inside.counts.items c.args.self.now c.self.view_is c.self.inside.lines c.self.invariant
+    lost-invariant (policy_of g.K.SigningCredential.valid g.K.SigningCredential.valid_at g.D.DeadlineRule.deadline) c.self.inside.desk c.self.inside.counts.items c.args.self.now c.self.view_is c.self.inside.orders c.self.invariant
     c.args.event.now c.args.expected.now c.requires.expected c.requires.kind c.call-call.result c.call-call.ensures c.step-reply.result c.step-reply.new.self c.step-reply.ensures.step c.step-reply.ensures.transition
-    c.in-Some.cache (sym c.cache_of.ensures ∙ c.in-Some.is) c.line_change-change.result (c.line_change-change.ensures ∙ ap (λ (o : Option Stage). line_change o c.args.expected.now) c.stage_of.ensures.stage) c.before_step.new.self (where-ok _ c.before_step.result (sym c.if-is_err.ensures.value) c.before_step.ensures.ok)
+    c.in-Some.cache (sym c.cache_of.ensures ∙ c.in-Some.is) c.order_change-change.result (c.order_change-change.ensures ∙ ap (λ (o : Option Stage). order_change o c.args.expected.now) c.stage_of.ensures.stage) c.before_step.new.self (where-ok _ c.before_step.result (sym c.if-is_err.ensures.value) c.before_step.ensures.ok)
     (sym c.is_out_of_memory.ensures ∙ c.if-is_out_of_memory.true)
 
 pub returns-then-is_out_of_memory-clause-answer : goal.returns-then-is_out_of_memory-clause-answer
 returns-then-is_out_of_memory-clause-answer g c entries stood =
-    lost-answer (policy_of g.K.SigningCredential.valid g.K.SigningCredential.valid_at g.D.DeadlineRule.deadline) c.self.inside.desk c.self.inside.counts.items c.args.self.now c.self.view_is c.self.inside.lines c.self.invariant
+    lost-answer (policy_of g.K.SigningCredential.valid g.K.SigningCredential.valid_at g.D.DeadlineRule.deadline) c.self.inside.desk c.self.inside.counts.items c.args.self.now c.self.view_is c.self.inside.orders c.self.invariant
     c.args.event.now c.args.expected.now c.requires.expected c.requires.kind c.call-call.result c.call-call.ensures c.step-reply.result c.step-reply.new.self c.step-reply.ensures.step c.step-reply.ensures.transition
-    c.in-Some.cache (sym c.cache_of.ensures ∙ c.in-Some.is) c.line_change-change.result (c.line_change-change.ensures ∙ ap (λ (o : Option Stage). line_change o c.args.expected.now) c.stage_of.ensures.stage) c.before_step.new.self (where-ok _ c.before_step.result (sym c.if-is_err.ensures.value) c.before_step.ensures.ok)
+    c.in-Some.cache (sym c.cache_of.ensures ∙ c.in-Some.is) c.order_change-change.result (c.order_change-change.ensures ∙ ap (λ (o : Option Stage). order_change o c.args.expected.now) c.stage_of.ensures.stage) c.before_step.new.self (where-ok _ c.before_step.result (sym c.if-is_err.ensures.value) c.before_step.ensures.ok)
     (sym c.is_out_of_memory.ensures ∙ c.if-is_out_of_memory.true)
 
 pub returns-then-is_out_of_memory-clause-setup : goal.returns-then-is_out_of_memory-clause-setup
@@ -67,26 +67,21 @@ returns-then-is_out_of_memory-clause-setup g c = c.step-reply.ensures.step.setup
 
 pub after_step-requires : goal.after_step-requires
 after_step-requires g c =
-    changed-there (change_before c.line_change-change.result) c.in-Some.cache c.in-Some.cache c.call-call.result c.self.inside.lines c.before_step.new.self (where-ok _ c.before_step.result (sym c.if-is_err.ensures.value) c.before_step.ensures.ok)
-    (subst (λ n. c.in-Some.cache < n) (sym (ap length c.self.invariant.lines_are ∙ lines-count c.self.inside.desk.queues)) (queue-there c.self.inside.desk c.stage_of.ensures.sound c.call-call.result c.in-Some.cache (sym c.cache_of.ensures ∙ c.in-Some.is)))
-
-pub count-requires : goal.count-requires
-count-requires g c =
-    counts-there (policy_of g.K.SigningCredential.valid g.K.SigningCredential.valid_at g.D.DeadlineRule.deadline) c.self.inside.desk c.self.inside.counts.items c.args.self.now c.self.view_is c.self.inside.lines c.self.invariant c.in-Some.cache
-    (queue-there c.self.inside.desk c.stage_of.ensures.sound c.call-call.result c.in-Some.cache (sym c.cache_of.ensures ∙ c.in-Some.is))
+    changed-there (change_before c.order_change-change.result) c.in-Some.cache c.in-Some.cache c.call-call.result c.self.inside.orders c.before_step.new.self (where-ok _ c.before_step.result (sym c.if-is_err.ensures.value) c.before_step.ensures.ok)
+    (subst (λ n. c.in-Some.cache < n) (sym (ap length c.self.invariant.orders_are ∙ lines-count c.self.inside.desk.queues)) (queue-there c.self.inside.desk c.stage_of.ensures.sound c.call-call.result c.in-Some.cache (sym c.cache_of.ensures ∙ c.in-Some.is)))
 
 pub invariant_of-self-2 : goal.invariant_of-self-2
 invariant_of-self-2 g c =
-    happened-invariant (policy_of g.K.SigningCredential.valid g.K.SigningCredential.valid_at g.D.DeadlineRule.deadline) c.self.inside.desk c.self.inside.counts.items c.args.self.now c.self.view_is c.self.inside.lines c.self.invariant
+    happened-invariant (policy_of g.K.SigningCredential.valid g.K.SigningCredential.valid_at g.D.DeadlineRule.deadline) c.self.inside.desk c.self.inside.counts.items c.args.self.now c.self.view_is c.self.inside.orders c.self.invariant
     c.args.event.now c.args.expected.now c.requires.expected c.requires.kind c.call-call.result c.call-call.ensures c.step-reply.result c.step-reply.new.self c.step-reply.ensures.step c.step-reply.ensures.transition
-    c.in-Some.cache (sym c.cache_of.ensures ∙ c.in-Some.is) c.line_change-change.result (c.line_change-change.ensures ∙ ap (λ (o : Option Stage). line_change o c.args.expected.now) c.stage_of.ensures.stage) c.before_step.new.self (where-ok _ c.before_step.result (sym c.if-is_err.ensures.value) c.before_step.ensures.ok)
+    c.in-Some.cache (sym c.cache_of.ensures ∙ c.in-Some.is) c.order_change-change.result (c.order_change-change.ensures ∙ ap (λ (o : Option Stage). order_change o c.args.expected.now) c.stage_of.ensures.stage) c.before_step.new.self (where-ok _ c.before_step.result (sym c.if-is_err.ensures.value) c.before_step.ensures.ok)
     (sym c.is_out_of_memory.ensures ∙ c.if-is_out_of_memory.false) c.after_step.new.self c.after_step.ensures c.count.new.counts.items c.count.ensures
 
 pub returns-clause-answer : goal.returns-clause-answer
 returns-clause-answer g c =
-    happened-answer (policy_of g.K.SigningCredential.valid g.K.SigningCredential.valid_at g.D.DeadlineRule.deadline) c.self.inside.desk c.self.inside.counts.items c.args.self.now c.self.view_is c.self.inside.lines c.self.invariant
+    happened-answer (policy_of g.K.SigningCredential.valid g.K.SigningCredential.valid_at g.D.DeadlineRule.deadline) c.self.inside.desk c.self.inside.counts.items c.args.self.now c.self.view_is c.self.inside.orders c.self.invariant
     c.args.event.now c.args.expected.now c.requires.expected c.requires.kind c.call-call.result c.call-call.ensures c.step-reply.result c.step-reply.new.self c.step-reply.ensures.step c.step-reply.ensures.transition
-    c.in-Some.cache (sym c.cache_of.ensures ∙ c.in-Some.is) c.line_change-change.result (c.line_change-change.ensures ∙ ap (λ (o : Option Stage). line_change o c.args.expected.now) c.stage_of.ensures.stage) c.before_step.new.self (where-ok _ c.before_step.result (sym c.if-is_err.ensures.value) c.before_step.ensures.ok)
+    c.in-Some.cache (sym c.cache_of.ensures ∙ c.in-Some.is) c.order_change-change.result (c.order_change-change.ensures ∙ ap (λ (o : Option Stage). order_change o c.args.expected.now) c.stage_of.ensures.stage) c.before_step.new.self (where-ok _ c.before_step.result (sym c.if-is_err.ensures.value) c.before_step.ensures.ok)
     (sym c.is_out_of_memory.ensures ∙ c.if-is_out_of_memory.false) c.after_step.new.self c.after_step.ensures c.count.new.counts.items c.count.ensures
 
 pub returns-clause-setup : goal.returns-clause-setup

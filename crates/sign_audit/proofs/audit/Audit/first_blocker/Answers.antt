@@ -1,7 +1,7 @@
 use Rattle.std.proofs.Common.{◌≡◌, ◌∙◌, ap, sym}
 use Rattle.sign_base.specs.Calls.{first_of}
 use Rattle.sequential_signer.specs.Policy.{policy_of}
-use Rattle.desk_parts.specs.Queue.{line_at}
+use Rattle.desk_parts.specs.Queue.{queue_at}
 use Rattle.sign_audit.specs.AuditState.{AuditState}
 use Rattle.sign_audit.proofs.Blocking.{lines-there, line-of, blockers-nowhere, first-nobody, first-itself, first-ahead}
 use Rattle.sign_audit.proofs.audit.Audit.first_blocker.Goals as goal
@@ -13,12 +13,12 @@ returns-in_err-cache g c entries stood =
 
 pub at-requires : goal.at-requires
 at-requires g c =
-    lines-there c.self.inside.lines c.self.inside.desk c.args.self.now.desk c.self.invariant.lines_are (ap (λ (a : AuditState g.row.K.Denot g.row.D.Denot). a.desk) c.self.view_is) c.in_ok-cache.cache c.waits_at.result c.in_ok-cache.was c.waits_at.ensures.there
+    lines-there c.self.inside.orders c.self.inside.desk c.args.self.now.desk c.self.invariant.orders_are (ap (λ (a : AuditState g.row.K.Denot g.row.D.Denot). a.desk) c.self.view_is) c.in_ok-cache.cache c.waits_at.result c.in_ok-cache.was c.waits_at.ensures.there
 
 pub returns-in_err-first : goal.returns-in_err-first
 returns-in_err-first g c entries stood =
     let same = ap (λ (a : AuditState g.row.K.Denot g.row.D.Denot). a.desk) c.self.view_is in
-    let line : c.at.result.now ≡ line_at c.in_ok-cache.cache c.args.self.now.desk.queues = c.at.ensures ∙ line-of c.self.inside.lines c.self.inside.desk c.args.self.now.desk c.self.invariant.lines_are same c.in_ok-cache.cache in
+    let line : c.at.result.now ≡ queue_at c.in_ok-cache.cache c.args.self.now.desk.queues = c.at.ensures ∙ line-of c.self.inside.orders c.self.inside.desk c.args.self.now.desk c.self.invariant.orders_are same c.in_ok-cache.cache in
     c.from_residual-in_err-first.ensures
     ∙ first-nobody (policy_of g.K.SigningCredential.valid g.K.SigningCredential.valid_at g.D.DeadlineRule.deadline) c.args.self.now.desk entries stood.desk c.args.call
     c.at.result.now c.in_ok-cache.cache line c.waits_at.result c.waits_at.ensures.says c.in_ok-cache.was c.waits_at.ensures.there
@@ -27,7 +27,7 @@ returns-in_err-first g c entries stood =
 pub returns-then-eq : goal.returns-then-eq
 returns-then-eq g c entries stood =
     let same = ap (λ (a : AuditState g.row.K.Denot g.row.D.Denot). a.desk) c.self.view_is in
-    let line : c.at.result.now ≡ line_at c.in_ok-cache.cache c.args.self.now.desk.queues = c.at.ensures ∙ line-of c.self.inside.lines c.self.inside.desk c.args.self.now.desk c.self.invariant.lines_are same c.in_ok-cache.cache in
+    let line : c.at.result.now ≡ queue_at c.in_ok-cache.cache c.args.self.now.desk.queues = c.at.ensures ∙ line-of c.self.inside.orders c.self.inside.desk c.args.self.now.desk c.self.invariant.orders_are same c.in_ok-cache.cache in
     first-itself (policy_of g.K.SigningCredential.valid g.K.SigningCredential.valid_at g.D.DeadlineRule.deadline) c.args.self.now.desk entries stood.desk c.args.call
     c.at.result.now c.in_ok-cache.cache line c.waits_at.result c.waits_at.ensures.says c.in_ok-cache.was c.waits_at.ensures.there
     c.in_ok-first.first (sym c.first.ensures ∙ c.in_ok-first.was) (sym c.eq.ensures ∙ c.if-eq.true)
@@ -35,7 +35,7 @@ returns-then-eq g c entries stood =
 pub returns : goal.returns
 returns g c entries stood =
     let same = ap (λ (a : AuditState g.row.K.Denot g.row.D.Denot). a.desk) c.self.view_is in
-    let line : c.at.result.now ≡ line_at c.in_ok-cache.cache c.args.self.now.desk.queues = c.at.ensures ∙ line-of c.self.inside.lines c.self.inside.desk c.args.self.now.desk c.self.invariant.lines_are same c.in_ok-cache.cache in
+    let line : c.at.result.now ≡ queue_at c.in_ok-cache.cache c.args.self.now.desk.queues = c.at.ensures ∙ line-of c.self.inside.orders c.self.inside.desk c.args.self.now.desk c.self.invariant.orders_are same c.in_ok-cache.cache in
     first-ahead (policy_of g.K.SigningCredential.valid g.K.SigningCredential.valid_at g.D.DeadlineRule.deadline) c.args.self.now.desk entries stood.desk c.args.call
     c.at.result.now c.in_ok-cache.cache line c.waits_at.result c.waits_at.ensures.says c.in_ok-cache.was c.waits_at.ensures.there
     c.in_ok-first.first (sym c.first.ensures ∙ c.in_ok-first.was) (sym c.eq.ensures ∙ c.if-eq.false)

@@ -2,8 +2,6 @@ use Rattle.std.proofs.Common.{◌∙◌, ap, sym}
 use Rattle.sequential_signer.specs.Policy.{policy_of}
 use Rattle.desk_parts.specs.Tables.{setup_of}
 use Rattle.sign_audit.specs.AuditState.{AuditState}
-use Rattle.sign_audit.proofs.Accepting.{counts-there}
-use Rattle.sign_audit.proofs.Blocking.{queue-there}
 use Rattle.sign_audit.proofs.Missing.{miss-due, miss-unset, miss-counted, miss-invariant}
 use Rattle.sign_audit.proofs.audit.Audit.miss.Goals as goal
 
@@ -17,16 +15,11 @@ returns-in_default-clause-answer g c =
     miss-unset (policy_of g.K.SigningCredential.valid g.K.SigningCredential.valid_at g.D.DeadlineRule.deadline) c.self.inside.desk c.self.inside.counts.items c.args.self.now c.self.view_is
     c.args.event.now c.allocates.result c.allocates.ensures c.if-not-allocates.false c.call-call.result c.call-call.ensures (sym c.cache_of.ensures ∙ c.in_default.is)
 
-pub count-requires : goal.count-requires
-count-requires g c =
-    counts-there (policy_of g.K.SigningCredential.valid g.K.SigningCredential.valid_at g.D.DeadlineRule.deadline) c.self.inside.desk c.self.inside.counts.items c.args.self.now c.self.view_is c.self.inside.lines c.self.invariant c.in-Some.cache
-    (queue-there c.self.inside.desk c.stage_of-placed.ensures.sound c.call-call.result c.in-Some.cache (sym c.cache_of.ensures ∙ c.in-Some.is))
-
 pub invariant_of-self : goal.invariant_of-self
 invariant_of-self g c =
     miss-invariant (policy_of g.K.SigningCredential.valid g.K.SigningCredential.valid_at g.D.DeadlineRule.deadline) c.self.inside.desk c.self.inside.counts.items c.args.self.now c.self.view_is
     c.args.event.now c.allocates.result c.allocates.ensures c.if-not-allocates.false c.call-call.result c.call-call.ensures c.in-Some.cache (sym c.cache_of.ensures ∙ c.in-Some.is)
-    c.count.new.counts.items c.count.ensures c.self.inside.lines c.self.invariant
+    c.count.new.counts.items c.count.ensures c.self.inside.orders c.self.invariant
 
 pub returns-clause-answer : goal.returns-clause-answer
 returns-clause-answer g c =

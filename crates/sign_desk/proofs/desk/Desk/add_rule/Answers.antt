@@ -1,5 +1,5 @@
 use Rattle.std.proofs.Common.{length, []}
-use Rattle.sequential_signer.specs.Policy.{policy_of}
+use Rattle.sequential_signer.specs.Policy.{policy_for}
 use Rattle.desk_parts.specs.Adding.{with_rule}
 use Rattle.desk_parts.proofs.AddAnswers.{on_err-second, unbegun-where_kept, good-after, good-where_added}
 use Rattle.sign_desk.specs.DeskState.{Represents}
@@ -10,7 +10,7 @@ use Rattle.sign_desk.proofs.desk.Desk.add_rule.Goals as goal
 
 pub invariant_of-self : goal.invariant_of-self
 invariant_of-self g c =
-    let policy = policy_of g.K.SigningCredential.valid g.K.SigningCredential.valid_at g.D.DeadlineRule.deadline in
+    let policy = policy_for g.K.SigningCredential g.D.DeadlineRule in
     let s = c.self-inside.inside.0.0.tables in
     let stood : IsDesk policy s = rw (← c.self-inside.view_is) at c.self.invariant in
     good-after (IsDesk policy) s (with_rule c.args.rule s) c.add_rule.new.self c.add_rule.result
@@ -20,7 +20,7 @@ invariant_of-self g c =
 
 pub returns-clause-fresh : goal.returns-clause-fresh
 returns-clause-fresh g c =
-    let policy = policy_of g.K.SigningCredential.valid g.K.SigningCredential.valid_at g.D.DeadlineRule.deadline in
+    let policy = policy_for g.K.SigningCredential g.D.DeadlineRule in
     let s = c.self-inside.inside.0.0.tables in
     let stood : IsDesk policy s = rw (← c.self-inside.view_is) at c.self.invariant in
     good-where_added (λ k. Represents policy k []) s (with_rule c.args.rule s) c.add_rule.new.self c.add_rule.result

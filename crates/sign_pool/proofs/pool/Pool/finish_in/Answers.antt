@@ -1,4 +1,8 @@
 use Rattle.std.proofs.Common.{◌∙◌}
+use Rattle.desk_parts.specs.Tables.{setup_of}
+use Rattle.sequential_signer.specs.Policy.{policy_of}
+use Rattle.sign_pool.specs.Cleared.{joined, lists_of}
+use Rattle.sign_pool.proofs.Signed.{heads-expected}
 use Rattle.sign_pool.proofs.Finishing.{as-many, few-passes, calls-own, noted-own, index-own}
 use Rattle.sign_pool.proofs.pool.Pool.finish_in.Goals as goal
 
@@ -36,7 +40,6 @@ returns-in-Some-clause-uncleared g c =
       record {
         passes_are = closed.passes ∙ handed.passes;
         answers_are = handed.answers;
-        left_are = c.take_rest-left.ensures;
         submitted_are = c.hand_out_submitters-submitted.ensures;
       },
     )
@@ -65,7 +68,6 @@ returns-in-None-clause-values g c =
     record {
       passes_are = c.in-Ok.ensures.passes ∙ handed.passes;
       answers_are = handed.answers;
-      left_are = c.take_rest-left.ensures;
       submitted_are = c.hand_out_submitters-submitted.ensures;
     }
 
@@ -79,7 +81,12 @@ returns-in-Err-clause-close g c =
       record {
         passes_are = back.1 ∙ handed.passes;
         answers_are = handed.answers;
-        left_are = c.take_rest-left.ensures;
         submitted_are = c.hand_out_submitters-submitted.ensures;
       },
     )
+
+pub returns-in-None-clause-heads : goal.returns-in-None-clause-heads
+returns-in-None-clause-heads g c =
+    heads-expected (policy_of g.K.SigningCredential.valid g.K.SigningCredential.valid_at g.D.DeadlineRule.deadline) (setup_of c.in-Ok.settled.desk) c.in-Ok.settled.journal.items
+    c.in-Ok.settled.passes.items (lists_of c.hand_out_workers-passes.result.1.items) c.take_rest-left.result.items (joined (lists_of c.hand_out_submitters-submitted.result.items))
+    c.in-Ok.ensures.desk.1.legal c.in-None.ensures.0 c.in-None.ensures.1

@@ -8,13 +8,13 @@ pub add_cache-requires : goal.add_cache-requires
 add_cache-requires c =
     let a = c.requires.0 in
     let here = as_seen _ _ a c.self.view_is c.requires.1 in
-    caches-fit c.in-Some.desk a (set_up c.in-Some.desk _ _ a here.signer c.in-Some.is) c.requires.3.items
+    caches-fit c.in-Setup.desk a (set_up c.in-Setup.desk _ a here.signer c.in-Setup.is) c.requires.3.items
 
 pub out_of_memory-requires : goal.out_of_memory-requires
 out_of_memory-requires c =
     let a = c.requires.0 in
     let here = as_seen _ _ a c.self.view_is c.requires.1 in
-    cache-out_of_memory c.in-Some.desk a c.in-Err.refusal (set_up c.in-Some.desk _ _ a here.signer c.in-Some.is) c.in-Err.ensures.answer
+    cache-out_of_memory c.in-Setup.desk a c.in-Err.refusal (set_up c.in-Setup.desk _ a here.signer c.in-Setup.is) c.in-Err.ensures.answer
 
 pub overflow_add-self : goal.overflow_add-self
 overflow_add-self c = omega (arith, sessions.caches-fit _ c.requires.0 (as_seen _ _ c.requires.0 c.self.view_is c.requires.1) c.requires.3)
@@ -25,5 +25,5 @@ wants_claim-requires c = lines-fit _ c.requires.0 (as_seen _ _ c.requires.0 c.se
 pub returns-in-Ok-clause-takes : goal.returns-in-Ok-clause-takes
 returns-in-Ok-clause-takes c = λ a stands good.
     let here = as_seen _ _ a c.self.view_is stands in
-    let kept = set_up c.in-Some.desk _ _ a here.signer c.in-Some.is in
-    next-cache _ a c.args.loader c.in-Some.desk _ c.in-Ok.number c.wants_claim.result here good c.in-Some.is c.in-Ok.ensures.added c.in-Ok.ensures.fresh (cache-number c.in-Some.desk a c.in-Ok.number kept c.in-Ok.ensures.answer) c.wants_claim.ensures
+    let kept = set_up c.in-Setup.desk _ a here.signer c.in-Setup.is in
+    next-cache _ a c.args.loader c.in-Setup.desk _ c.in-Ok.number c.wants_claim.result here good c.in-Setup.is c.in-Ok.ensures.added c.in-Ok.ensures.fresh (cache-number c.in-Setup.desk a c.in-Ok.number kept c.in-Ok.ensures.answer) c.wants_claim.ensures

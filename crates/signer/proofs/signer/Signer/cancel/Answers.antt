@@ -3,7 +3,8 @@ use Rattle.desk_driver.specs.CallAt.{IsLive}
 use Rattle.desk_driver.specs.CallNumbers.{is_above_all}
 use Rattle.desk_driver.proofs.Rows.{for-there}
 use Rattle.signer.specs.IssuedBy.{IsStateIssued, IsIssuedBy}
-use Rattle.signer.specs.SignerObjects.{call_meaning, meanings_of, objects_of}
+use Rattle.signer.specs.SignerObjects.{meanings_of, objects_of}
+use Rattle.desk_driver.specs.Meanings.{call_meaning}
 use Rattle.signer.specs.SignerView.{signer_view}
 use Rattle.signer.proofs.SignerObjectsAt.{has-objects}
 use Rattle.signer.proofs.SignerOthers.{keeps-others, issued-live}

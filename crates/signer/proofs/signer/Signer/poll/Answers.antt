@@ -3,11 +3,12 @@ use Rattle.sequential_signer.specs.Policy.{policy_of}
 use Rattle.desk_driver.specs.CallAt.{loader_of}
 use Rattle.desk_driver.specs.CallNumbers.{is_above_all}
 use Rattle.desk_driver.proofs.Rows.{for-there, index-is, cache-is}
-use Rattle.signer.specs.Course.{PollOutcome, polled_call, IsDriven, IsPoll}
+use Rattle.signer.specs.PollEvents.{PollOutcome, polled_call, IsDriven, IsPoll}
 use Rattle.signer.specs.IssuedBy.{IsStateIssued, IsIssuedBy}
 use Rattle.signer.specs.SignerInvariant.{SignerState, IsSigner}
 use Rattle.desk_driver.specs.ProviderList.{loader_for}
-use Rattle.signer.specs.SignerObjects.{call_meaning, meanings_of, objects_of}
+use Rattle.signer.specs.SignerObjects.{meanings_of, objects_of}
+use Rattle.desk_driver.specs.Meanings.{call_meaning}
 use Rattle.desk_driver.specs.Objects.{Objects}
 use Rattle.signer.specs.SignerView.{signer_view}
 use Rattle.signer.proofs.CourseOfSteps.{course-represents}

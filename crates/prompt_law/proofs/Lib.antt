@@ -1,0 +1,14 @@
+pub mod Dealt
+pub mod Picked
+pub mod CallPhases
+pub mod FittingEvents
+pub mod WorkerEvents
+pub mod WorkerCourses
+pub mod Spread
+pub mod DealtPasses
+pub mod HandleEntries
+pub mod ExpectedAtOneProvider
+pub mod PoolStates
+pub mod PoolRuns
+pub mod PoolCounts
+pub mod PromptLaw

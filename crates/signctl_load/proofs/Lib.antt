@@ -1,0 +1,4 @@
+mod LoadSteps
+mod PlayedEvents
+mod LoadLengths
+mod LoadCounts

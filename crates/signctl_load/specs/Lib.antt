@@ -1,0 +1,5 @@
+pub mod LoadRound
+pub mod Load
+pub mod LoadState
+pub use Rattle.sign_io.specs.Faults
+pub use Rattle.signctl_driver.specs.Status

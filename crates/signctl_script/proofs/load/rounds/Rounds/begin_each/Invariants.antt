@@ -1,7 +1,0 @@
-use Rattle.std.proofs.Common.{map, take}
-use Rattle.signctl_script.specs.LoadRound.{begin_event}
-use Rattle.signctl_script.specs.LoadState.{Plays}
-use Rattle.signctl_script.proofs.load.rounds.Rounds.begin_each.Given as goal
-
-abbrev pub invariant-loop-call : goal.invariant-loop-call
-invariant-loop-call l = Plays (map begin_event (take l.call-index l.calls)) l.fn.self l.self

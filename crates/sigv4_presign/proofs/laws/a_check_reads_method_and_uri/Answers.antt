@@ -1,0 +1,8 @@
+use Rattle.sigv4_presign.proofs.SameRequest.{checked-AskTheSame, checked-IsRequestBy}
+use Rattle.sigv4_presign.proofs.laws.a_check_reads_method_and_uri.Goals as goal
+
+pub returns-clause-same : goal.returns-clause-same
+returns-clause-same c = λ keys scope u head other same. checked-AskTheSame keys scope u head other same
+
+pub returns-clause-request : goal.returns-clause-request
+returns-clause-request c = λ keys scope expires now u head link request was by. checked-IsRequestBy keys scope expires now u head link request was by

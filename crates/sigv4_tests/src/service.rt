@@ -1,0 +1,52 @@
+//! What a service of a signer answers to heads that a program makes of its own, and with a duration.
+use crate::signed_heads::{BEFORE_YEAR_0, SIGNED, last_values};
+use crate::suite::{NOW, PLAIN, Suite, moment, request_to};
+use crate::told::{is_text, refusal, text_of};
+use credentials::{Polled, SignRequest};
+use sigv4_core::{FixedMoment, Payload, SigService};
+use std::alloc::Global;
+use std::process::Abort;
+use std::time::Duration;
+
+/// URIs, nanoseconds since 1970, and what is told of the poll.
+const POLLS: [(&str, i128, &str); 5] = [
+    (PLAIN, NOW, SIGNED),
+    ("e.x/a", NOW, "RequestInvalid: head not accepted"),
+    (
+        "/",
+        NOW,
+        "RequestInvalid: request without authority is invalid for signing",
+    ),
+    (
+        "https://e.x/%20",
+        NOW,
+        "RequestInvalid: path with escapes is not supported",
+    ),
+    (PLAIN, BEFORE_YEAR_0, "RequestInvalid: moment out of range"),
+];
+
+#[test]
+fn a_service_signs_or_names_the_cause(rt: HostRuntime) {
+    for (uri, nanos, wanted) in POLLS {
+        let mut by = request_to(&rt, rt.alloc(), uri);
+        is_text(&rt, polled(&rt, rt.alloc(), &mut by, nanos), wanted);
+    }
+}
+
+/// What is told of the poll of a work that is to serve for an hour.
+fn polled(rt: &impl Abort, alloc: Global, by: &mut Suite, nanos: i128) -> String {
+    let context = FixedMoment(moment(rt, nanos));
+    let service = SigService::new(
+        by.scope.try_clone(alloc).expect(rt, "memory"),
+        Payload::of(alloc, b"").expect(rt, "memory"),
+    );
+    let hour = Some(Duration::from_secs(3_600));
+    let work = service.sign_request(alloc, &context, &by.credential, hour);
+    let mut work = work.expect(rt, "memory");
+    match service.poll_sign(alloc, &context, &mut work, &mut by.head) {
+        Polled::Ready(()) => last_values(rt, alloc, &by.head),
+        Polled::Failed(error) => refusal(rt, alloc, Some(error)),
+        Polled::Pending => text_of(rt, alloc, b"pending"),
+        Polled::OutOfMemory => text_of(rt, alloc, b"out of memory"),
+    }
+}
