@@ -51,7 +51,8 @@ unfolding target_to_sign
 target_to_sign-none scope head why (inl memory) = inl memory
 target_to_sign-none scope head why (inr h) = inr (rw h.1 (ap Err (sym h.0)))
 
-module _ (scope : Scope) (head : Head) (uri : Uri) (fine : is_accepted_head head ≡ true) (is : target_of head.uri ≡ Some (plain_target uri)) where
+module _ (scope : Scope) (head : Head) (uri : Uri) (fine : is_accepted_head head ≡ true)
+    (is : target_of head.uri ≡ Some (plain_target uri)) where
   -- that of an accepted head is the target of its URI
   accepted : target_to_sign scope head ≡ by_target scope (Some (plain_target uri))
   unfolding target_to_sign

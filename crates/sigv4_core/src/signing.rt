@@ -3,11 +3,10 @@ ghost use Rattle.std.specs.Prelude.{◌≡◌, ◌⊎◌, ◌++◌, ◌∷◌, [
 ghost use Rattle.sign_time.specs.Calendar.{IsFourDigitYear};
 ghost use Rattle.sign_request.specs.PlainTarget.{plain_target};
 ghost use Rattle.sigv4_core.specs.Signature.{date_of};
-ghost use Rattle.sigv4_core.specs.CanonicalHeaders.{signed_headers};
+ghost use Rattle.sigv4_canonical.specs.CanonicalHeaders.{signed_headers};
 ghost use Rattle.sigv4_core.specs.SignedHead.{field, request_to_sign, authorization, signed_with};
 ghost use Rattle.sigv4_core.specs.SignedHead.{signed_head, signing_with, signing_of};
 
-use crate::canonical_request::{CanonicalTexts, canonical_texts};
 use crate::headers_to_sign::headers_to_sign;
 use crate::moment::is_before_year_0;
 use crate::request_signature::push_scope;
@@ -16,13 +15,14 @@ use crate::{Payload, SigCredential, SigError, SigScope, SigningKey};
 use http::uri::Uri;
 use sign_base::{Field, Fields, Head, NoMemory, Octets, Timestamp};
 use sign_request::HeaderSeeds;
+use sigv4_canonical::{CanonicalTexts, canonical_texts};
 use std::alloc::Global;
 
 /// The head with its signature in the header `authorization`, as AWS Signature Version 4 has it ("Create a
 /// signed AWS API request"): of its method, its path, its query and each of its headers.
 ///
-/// Before the call, put into the head what AWS is to find signed: `x-amz-security-token` with a credential that
-/// has a session token, and for S3 `x-amz-content-sha256` with `Payload::hash_or_unsigned`. Headers
+/// Before the call, put into the head what AWS is to find signed: `x-amz-security-token` with a credential
+/// that has a session token, and for S3 `x-amz-content-sha256` with `Payload::hash_or_unsigned`. Headers
 /// `authorization` and `x-amz-date` are replaced, and a `host` is added where none is there (RFC 9110, 7.2).
 /// After it, send the head as it is, and soon, since AWS compares `x-amz-date` with its clock: a header that
 /// agents on the way change is to be added after signing.

@@ -7,7 +7,7 @@ use Rattle.std.proofs.lemmas.Str.Ascii.{IsAscii-from_all}
 use Rattle.http_uri.specs.ByteClasses.{is_query_byte}
 use Rattle.percent_encoding.specs.Percent.{percent_encode_byte}
 use Rattle.percent_encoding.proofs.PercentLemmas.{IsEscapeByte, All-percent_encode_byte}
-use Rattle.sigv4_core.specs.Encoding.{is_unreserved, percent_encoded}
+use Rattle.sigv4_canonical.specs.Encoding.{is_unreserved, percent_encoded}
 
 -- an unreserved byte, or `%`
 abbrev pub is_encoded_byte : ℕ → Bool

@@ -53,7 +53,8 @@ found_between-Valid t end u = (
 )
 
 -- a link whose values are those of its date and its signature is a matter of time alone
-module _ (keys : Keys) (scope : Scope) (head : Head) (target : PlainTarget) (query : List ℕ) (t : ℤ) (expires : ℕ) where
+module _ (keys : Keys) (scope : Scope) (head : Head) (target : PlainTarget) (query : List ℕ) (t : ℤ)
+    (expires : ℕ) where
   pub record HasValues : Type 0 where
     pub read : raw_query target ≡ query
     pub shaped : is_shaped query ≡ true

@@ -12,7 +12,7 @@ use Rattle.sign_time.specs.Calendar.{civil_of}
 use Rattle.sign_time.specs.MomentText.{iso8601_text}
 use Rattle.sign_request.specs.CanonicalText.{joined_texts, canonical_text, header_text}
 use Rattle.sign_request.specs.Query.{Pair, query_pieces, query_pairs, read_pair}
-use Rattle.sigv4_core.specs.CanonicalTarget.{canonical_query, encoded_pair}
+use Rattle.sigv4_canonical.specs.CanonicalTarget.{canonical_query, encoded_pair}
 use Rattle.sigv4_core.specs.Credential.{Credential as Keys}
 use Rattle.sigv4_core.specs.Scope.{Scope}
 use Rattle.sigv4_core.specs.Signature.{algorithm}

@@ -80,7 +80,8 @@ reorder a c d e h s x y =
 
 -- each of the six names stands once, and algorithm and headers have their value
 pub is_shaped-values : (query : List ℕ) → is_shaped query
-    ≡ (is_value algorithm (only_value query algorithm_name) && (is_value (codes "host") (only_value query headers_name)
+    ≡ (is_value algorithm (only_value query algorithm_name)
+    && (is_value (codes "host") (only_value query headers_name)
     && (is_some (only_value query credential_name) && (is_some (only_value query date_name)
     && (is_some (only_value query expires_name) && is_some (only_value query signature_name))))))
 is_shaped-values query =

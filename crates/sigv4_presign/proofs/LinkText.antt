@@ -21,7 +21,8 @@ use Rattle.sigv4_presign.proofs.PairPieces.{IsPlainPair, pair_piece-is, All-pair
 use Rattle.sigv4_presign.proofs.SignatureBytes.{signature_under-AreUnreserved}
 
 -- what holds of each encoded byte, of `=` and of `&` holds of each byte of joined pieces
-module _ (P : ℕ → Type 0) (encoded : (b : ℕ) → is_encoded_byte b ≡ true → P b) (equals : P 61) (mark : P 38) where
+module _ (P : ℕ → Type 0) (encoded : (b : ℕ) → is_encoded_byte b ≡ true → P b) (equals : P 61)
+    (mark : P 38) where
   pub All-joined : (pairs : List Pair) → All IsPlainPair pairs
       → All P (joined_texts (codes "&") (map pair_piece pairs))
   All-joined [] h = All-nil P
@@ -43,7 +44,9 @@ module _ (P : ℕ → Type 0) (encoded : (b : ℕ) → is_encoded_byte b ≡ tru
         | inr some ↦ rw some (All-append P old (38 ∷ joined) h (All-cons P 38 joined mark (All-joined (signed_pairs keys scope now expires) plain)))
       ]
 
-module _ (keys : Keys) (scope : Scope) (now : ℤ) (expires : ℕ) (old signature : List ℕ) (plain : All IsPlainPair (signed_pairs keys scope now expires)) (last : IsPlainPair (signature_name, signature)) where
+module _ (keys : Keys) (scope : Scope) (now : ℤ) (expires : ℕ) (old signature : List ℕ)
+    (plain : All IsPlainPair (signed_pairs keys scope now expires))
+    (last : IsPlainPair (signature_name, signature)) where
   abbrev query : List ℕ
   query = link_query keys scope now expires old signature
 

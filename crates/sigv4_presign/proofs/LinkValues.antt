@@ -15,8 +15,8 @@ use Rattle.sign_base.specs.Moment.{IsMoment}
 use Rattle.sign_time.specs.MomentText.{two_digits, four_digits, date_text, iso8601_text}
 use Rattle.sign_time.proofs.MomentReadBack.{IsPrintable, civil_of-IsPrintable}
 use Rattle.sign_request.specs.CanonicalText.{joined_texts}
+use Rattle.sigv4_canonical.specs.Encoding.{is_unreserved}
 use Rattle.sigv4_core.specs.Credential.{Credential as Keys, is_credential}
-use Rattle.sigv4_core.specs.Encoding.{is_unreserved}
 use Rattle.sigv4_core.specs.Scope.{Scope, is_scope, is_scope_name, is_scope_byte}
 use Rattle.sigv4_core.specs.Signature.{algorithm, scope_text, terminator, date_of}
 use Rattle.sigv4_presign.specs.LinkPairs.{algorithm_name, credential_name, date_name, expires_name, headers_name, signature_name, credential_text, signed_pairs}

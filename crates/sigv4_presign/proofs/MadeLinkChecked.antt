@@ -15,9 +15,9 @@ use Rattle.sign_base.specs.declared.head.Head.{Head}
 use Rattle.sign_time.proofs.WholeSecond.{civil_of-whole_second}
 use Rattle.sign_request.specs.PlainTarget.{PlainTarget, target_of}
 use Rattle.sign_request.proofs.TargetOf.{target_of-sound}
-use Rattle.sigv4_core.specs.CanonicalHeaders.{canonical_headers, signed_headers}
-use Rattle.sigv4_core.specs.CanonicalRequest.{canonical_request, joined_lines}
-use Rattle.sigv4_core.specs.CanonicalTarget.{canonical_path}
+use Rattle.sigv4_canonical.specs.CanonicalHeaders.{canonical_headers, signed_headers}
+use Rattle.sigv4_canonical.specs.CanonicalRequest.{canonical_request, joined_lines}
+use Rattle.sigv4_canonical.specs.CanonicalTarget.{canonical_path}
 use Rattle.sigv4_core.specs.Credential.{Credential as Keys}
 use Rattle.sigv4_core.specs.PayloadWord.{unsigned_payload}
 use Rattle.sigv4_core.specs.Scope.{Scope}
@@ -45,7 +45,9 @@ use Rattle.sigv4_presign.proofs.SignedTarget.{IsTargetOf, target_to_sign-IsTarge
 or_slash-cons : (rest : List ℕ) → or_slash (47 ∷ rest) ≡ 47 ∷ rest
 or_slash-cons rest = let some : (length (47 ∷ rest) == 0) ≡ false = grind (arith, nat_tests) in rw some refl
 
-module _ (keys : Keys) (scope : Scope) (expires : ℕ) (now : ℤ) (head link : Head) (target : PlainTarget) (was : WasMade keys scope expires now head link) (made : IsMadeOf keys scope expires now head link target) where
+module _ (keys : Keys) (scope : Scope) (expires : ℕ) (now : ℤ) (head link : Head) (target : PlainTarget)
+    (was : WasMade keys scope expires now head link)
+    (made : IsMadeOf keys scope expires now head link target) where
   abbrev old : List ℕ
   old = raw_query target
 
@@ -120,7 +122,8 @@ module _ (keys : Keys) (scope : Scope) (expires : ℕ) (now : ℤ) (head link : 
 
   same_request : canonical_request head.method (path_of tail) (unsigned_query query)
       (field (codes "host") authority ∷ []) unsigned_payload
-      ≡ canonical_request head.method (path_of target.path_and_query) (query_to_sign keys scope now expires old) (field (codes "host") authority ∷ []) unsigned_payload
+      ≡ canonical_request head.method (path_of target.path_and_query)
+      (query_to_sign keys scope now expires old) (field (codes "host") authority ∷ []) unsigned_payload
   unfolding canonical_request
   same_request =
       let host = field (codes "host") authority ∷ [] in
@@ -166,7 +169,8 @@ checked-WasMade keys scope expires now u head link was =
 from_end : (date : ℤ) (n : ℕ) (u : ℤ) → (date +ℤ pos n) ≤ℤ u → date ≤ℤ u
 from_end date n u h = omega (arith, signed_arith, h)
 
-module _ (keys : Keys) (scope : Scope) (expires : ℕ) (now u : ℤ) (head link : Head) (was : WasMade keys scope expires now head link) where
+module _ (keys : Keys) (scope : Scope) (expires : ℕ) (now u : ℤ) (head link : Head)
+    (was : WasMade keys scope expires now head link) where
   pub checked-Valid : (checked keys scope u link ≡ Valid) ↔ IsGood now expires u
   checked-Valid =
       subst (λ c. (c ≡ Valid) ↔ IsGood now expires u) (sym (checked-WasMade keys scope expires now u head link was))

@@ -12,7 +12,7 @@ use Rattle.std.proofs.lemmas.Str.Ascii.{All-from_ascii}
 use Rattle.percent_encoding.proofs.PercentLemmas.{IsByte}
 use Rattle.sign_request.specs.Query.{Pair, decoded_text, is_ampersand, is_equals_sign, read_pair}
 use Rattle.sign_request.proofs.Unescaped.{percent_decode-unescaped}
-use Rattle.sigv4_core.specs.Encoding.{is_unreserved, percent_encoded}
+use Rattle.sigv4_canonical.specs.Encoding.{is_unreserved, percent_encoded}
 use Rattle.sigv4_presign.specs.LinkPairs.{pair_piece}
 use Rattle.sigv4_presign.proofs.EncodedBytes.{is_encoded_byte, AreUnreserved, unreserved_is_encoded, percent_encoded-AreEncoded, AreUnreserved-IsAscii}
 use Rattle.sigv4_presign.proofs.LinkReadBack.{first_mark}

@@ -5,7 +5,7 @@ use Rattle.std.specs.List.{list_any}
 use Rattle.std.proofs.lemmas.Bool.{cases_Bool}
 use Rattle.std.proofs.lemmas.Bool.Decides.{Decides-eqb, nat_tests}
 use Rattle.std.proofs.lemmas.List.{take_more, take-append-drop}
-use Rattle.sigv4_core.proofs.JoinedOn.{joined-first, joined-more}
+use Rattle.sigv4_canonical.proofs.JoinedOn.{joined-first, joined-more}
 use Rattle.sign_request.specs.Query.{Pair, query_pieces, query_pairs, read_pair}
 use Rattle.sign_request.specs.CanonicalText.{joined_texts}
 use Rattle.sigv4_presign.specs.LinkPairs.{signature_name, is_link_name, has_link_name}
@@ -114,7 +114,8 @@ module _ (test : List ℕ → Bool) where
         | inr fails ↦ rw fails (texts_where-append xs ys)
       ]
 
-  module _ (pieces : List Piece) (i : ℕ) (p : Piece) (within : i < length pieces) (here : p ≡ get_or pieces i p) where
+  module _ (pieces : List Piece) (i : ℕ) (p : Piece) (within : i < length pieces)
+      (here : p ≡ get_or pieces i p) where
     next : take (i + 1) pieces ≡ take i pieces ++ p ∷ []
     next = take_more pieces i p within ∙ ap (λ x. take i pieces ++ x ∷ []) (sym here)
 

@@ -7,7 +7,7 @@ use Rattle.sign_time.specs.Calendar.{second_nanos}
 use Rattle.sign_base.specs.declared.head.Head.{Head}
 use Rattle.sign_request.specs.AcceptedHead.{is_token, is_accepted_head}
 use Rattle.sign_request.specs.PlainTarget.{PlainTarget, target_of}
-use Rattle.sigv4_core.specs.CanonicalRequest.{canonical_request}
+use Rattle.sigv4_canonical.specs.CanonicalRequest.{canonical_request}
 use Rattle.sigv4_core.specs.Credential.{Credential as Keys}
 use Rattle.sigv4_core.specs.PayloadWord.{unsigned_payload}
 use Rattle.sigv4_core.specs.Scope.{Scope}
@@ -36,7 +36,8 @@ module _ (keys : Keys) (scope : Scope) (u : ℤ) (head other : Head) (same : Ask
       ap (λ method. signature_of keys.secret scope t (canonical_request method (path_of target.path_and_query) query (field (codes "host") (unwrap_or target.authority []) ∷ []) unsigned_payload)) same.method
 
   same_between : (target : PlainTarget) (t : ℤ) (expires : ℕ)
-      → checked_between keys scope u head target t expires ≡ checked_between keys scope u other target t expires
+      → checked_between keys scope u head target t expires
+      ≡ checked_between keys scope u other target t expires
   same_between target t expires =
       let query = raw_query target in
       ap (λ signature. if not (bytes_eq (value_of query credential_name) (credential_text keys scope t)) then Credential
@@ -46,12 +47,14 @@ module _ (keys : Keys) (scope : Scope) (u : ℤ) (head other : Head) (same : Ask
       (same_signature t target (unsigned_query query))
 
   same_shape : (target : PlainTarget) (moment : Option ℤ) (expires : Option ℕ)
-      → checked_shape keys scope u head target moment expires ≡ checked_shape keys scope u other target moment expires
+      → checked_shape keys scope u head target moment expires
+      ≡ checked_shape keys scope u other target moment expires
   same_shape target None expires = refl
   same_shape target (Some t) None = refl
   same_shape target (Some t) (Some expires) = same_between target t expires
 
-  same_at : (answer : Result PlainTarget SigError) → checked_at keys scope u head answer ≡ checked_at keys scope u other answer
+  same_at : (answer : Result PlainTarget SigError)
+      → checked_at keys scope u head answer ≡ checked_at keys scope u other answer
   same_at (Err refusal.Head) = refl
   same_at (Err refusal.Authority) = refl
   same_at (Err refusal.Path) = refl
@@ -86,9 +89,9 @@ bare_request-IsRequestBy keys scope expires now head link was =
     record { method = refl; uri = refl; accepted = rw (method.0, target.0) refl }
 
 -- so what is found at the bare request of a link is what is found at the link
-pub found-bare : (keys : Keys) (scope : Scope) (expires : ℕ) (now u : ℤ) (head link request : Head) (found : Checked)
-    → WasMade keys scope expires now head link → request ≡ bare_request link → found ≡ checked keys scope u request
-    → found ≡ checked keys scope u link
+pub found-bare : (keys : Keys) (scope : Scope) (expires : ℕ) (now u : ℤ) (head link request : Head)
+    (found : Checked) → WasMade keys scope expires now head link → request ≡ bare_request link
+    → found ≡ checked keys scope u request → found ≡ checked keys scope u link
 found-bare keys scope expires now u head link request found was bare is =
     is ∙ (ap (checked keys scope u) bare
     ∙ checked-IsRequestBy keys scope expires now u head link (bare_request link) was (bare_request-IsRequestBy keys scope expires now head link was))

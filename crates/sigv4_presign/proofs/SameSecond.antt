@@ -5,7 +5,7 @@ use Rattle.sha2.specs.Sha256.{sha256}
 use Rattle.sign_time.specs.Calendar.{civil_of}
 use Rattle.sign_time.specs.MomentText.{date_text, iso8601_text}
 use Rattle.sign_request.specs.CanonicalText.{joined_texts}
-use Rattle.sigv4_core.specs.CanonicalRequest.{joined_lines}
+use Rattle.sigv4_canonical.specs.CanonicalRequest.{joined_lines}
 use Rattle.sigv4_core.specs.Credential.{Credential as Keys}
 use Rattle.sigv4_core.specs.Scope.{Scope}
 use Rattle.sigv4_core.specs.Signature.{algorithm, terminator, mac, date_of, scope_text, string_to_sign, signing_key, signature_under, signature_of}

@@ -7,7 +7,7 @@ use Rattle.std.proofs.lemmas.List.Elements.{All-nil, All-cons, All-append, All-h
 use Rattle.hex.specs.Hex.{encode_with, encode_lower, lower_digits}
 use Rattle.percent_encoding.proofs.PercentLemmas.{IsByte}
 use Rattle.sha2.specs.Sha256.{digest_bytes, sha256}
-use Rattle.sigv4_core.specs.Encoding.{is_unreserved}
+use Rattle.sigv4_canonical.specs.Encoding.{is_unreserved}
 use Rattle.sigv4_core.specs.Scope.{Scope}
 use Rattle.sigv4_core.specs.Signature.{signature_under}
 use Rattle.sigv4_presign.proofs.EncodedBytes.{AreUnreserved}

@@ -3,7 +3,7 @@ ghost use Rattle.std.specs.Prelude.{◌≡◌, ◌++◌, ◌∷◌, [], IfOk, On
 ghost use Rattle.sign_time.specs.Calendar.{IsFourDigitYear};
 ghost use Rattle.sign_request.specs.CanonicalText.{joined_texts};
 ghost use Rattle.sign_request.specs.PlainTarget.{plain_target};
-ghost use Rattle.sigv4_core.specs.Encoding.{percent_encoded};
+ghost use Rattle.sigv4_canonical.specs.Encoding.{percent_encoded};
 ghost use Rattle.sigv4_presign.specs.LinkPairs.{credential_text, pair_piece, signed_pairs, query_to_sign};
 ghost use Rattle.sigv4_presign.specs.PresignedLink.{link_of, presigned_link};
 

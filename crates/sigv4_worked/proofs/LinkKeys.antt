@@ -2,7 +2,7 @@
 use Rattle.std.proofs.Common.{◌≡◌, ℕ, List, [], ◌∷◌, codes, refl}
 use Rattle.hex.specs.Hex.{encode_lower, encode_with}
 use Rattle.sha2.specs.Sha256.{compress, digest_bytes, first_words, hash_after, rounds, schedule, sha256}
-use Rattle.sigv4_core.specs.CanonicalRequest.{joined_lines}
+use Rattle.sigv4_canonical.specs.CanonicalRequest.{joined_lines}
 use Rattle.sigv4_core.specs.Signature.{algorithm, mac}
 
 -- the string to sign

@@ -8,10 +8,10 @@ use Rattle.sign_request.specs.AcceptedHead.{is_accepted_head, is_token, takes_fi
 use Rattle.sign_request.specs.TargetTests.{starts_origin, has_scheme, is_scheme, is_authority, each_may_follow, may_follow, is_path_input, is_path_and_query, may_start_path}
 use Rattle.percent_encoding.specs.Percent.{percent_decode, percent_encode_byte}
 use Rattle.sign_request.specs.CanonicalText.{canonical_text, sorted_pairs}
-use Rattle.sigv4_core.specs.Encoding.{percent_encoded}
-use Rattle.sigv4_core.specs.CanonicalTarget.{canonical_path, canonical_query}
-use Rattle.sigv4_core.specs.CanonicalHeaders.{single_spaced, signed_names, canonical_headers}
-use Rattle.sigv4_core.specs.CanonicalRequest.{joined_lines, canonical_request}
+use Rattle.sigv4_canonical.specs.Encoding.{percent_encoded}
+use Rattle.sigv4_canonical.specs.CanonicalTarget.{canonical_path, canonical_query}
+use Rattle.sigv4_canonical.specs.CanonicalHeaders.{single_spaced, signed_names, canonical_headers}
+use Rattle.sigv4_canonical.specs.CanonicalRequest.{joined_lines, canonical_request}
 use Rattle.sign_request.specs.CanonicalText.{joined_texts}
 use Rattle.sign_request.specs.PlainTarget.{PlainTarget, target_of, form_of, absolute_form}
 use Rattle.sign_request.specs.Query.{query_pairs}

@@ -2,9 +2,9 @@
 use Rattle.std.proofs.Common.{◌≡◌, codes, refl, ap, ◌∙◌}
 use Rattle.hex.specs.Hex.{encode_lower, encode_with}
 use Rattle.sha2.specs.Sha256.{compress, digest_bytes, first_words, hash_after, rounds, schedule, sha256}
-use Rattle.sigv4_core.specs.CanonicalRequest.{joined_lines}
+use Rattle.sigv4_canonical.specs.CanonicalRequest.{joined_lines}
 use Rattle.sigv4_core.specs.Signature.{mac, signature_of}
-use Rattle.sigv4_core.specs.WorkedRequest.{iam_lines}
+use Rattle.sigv4_worked.specs.WorkedRequest.{iam_lines}
 use Rattle.sigv4_worked.specs.WorkedSignature.{IamDigest, IamSignature, LinkDigest, iam_key, iam_scope, iam_moment, link_key, link_scope, link_moment, link_lines}
 use Rattle.sigv4_worked.proofs.KeyChain.{signature_of-dated}
 use Rattle.sigv4_worked.proofs.Moments.{iam_date, iam_time, link_date, link_time}

@@ -6,12 +6,12 @@ use Rattle.sha2.specs.Sha256.{sha256}
 use Rattle.sign_base.specs.declared.head.Field.{Field}
 use Rattle.sign_base.specs.declared.head.Head.{Head}
 use Rattle.sign_base.specs.declared.head.Version.TheVariants.{V11}
-use Rattle.sigv4_core.specs.CanonicalRequest.{joined_lines}
+use Rattle.sigv4_canonical.specs.CanonicalRequest.{joined_lines}
 use Rattle.sigv4_core.specs.Credential.{Credential}
 use Rattle.sigv4_core.specs.Scope.{Scope}
 use Rattle.sigv4_core.specs.Signature.{signature_of}
 use Rattle.sigv4_core.specs.SignedHead.{field, signing_of}
-use Rattle.sigv4_core.specs.WorkedRequest.{iam_lines, no_payload}
+use Rattle.sigv4_worked.specs.WorkedRequest.{iam_lines, no_payload}
 use Rattle.sigv4_presign.specs.PresignedLink.{presigning_of}
 
 -- a key that does not expire

@@ -1,6 +1,6 @@
 use Rattle.std.proofs.Common.{◌≡◌, ◌∙◌, ap, ap₂}
 use Rattle.sign_request.specs.PlainTarget.{plain_target}
-use Rattle.sigv4_core.specs.CanonicalHeaders.{signed_headers}
+use Rattle.sigv4_canonical.specs.CanonicalHeaders.{signed_headers}
 use Rattle.sigv4_core.specs.Signature.{signature_under}
 use Rattle.sigv4_core.specs.SignedHead.{authorization, request_to_sign, signed_with}
 use Rattle.sigv4_core.proofs.signing.signed_with.Goals as goal

@@ -2,7 +2,7 @@ use Rattle.std.proofs.Common.{◌≡◌, ◌++◌, List, ℕ, codes, append_asso
 use Rattle.std.specs.Prelude.{decimal}
 use Rattle.sign_time.specs.Calendar.{civil_of}
 use Rattle.sign_time.specs.MomentText.{iso8601_text}
-use Rattle.sigv4_core.specs.Encoding.{percent_encoded}
+use Rattle.sigv4_canonical.specs.Encoding.{percent_encoded}
 use Rattle.sigv4_core.specs.Signature.{algorithm}
 use Rattle.sigv4_presign.specs.LinkPairs.{credential_text}
 use Rattle.sigv4_presign.proofs.link_parts.push_pairs.Goals as goal

@@ -1,7 +1,7 @@
 use Rattle.std.proofs.Common.{◌≡◌, ◌==◌, ℕ, Bool, not, true, false, List, length, take, codes, ap, sym, ◌∙◌}
 use Rattle.std.specs.Prelude.{bytes_eq, string_bytes}
 use Rattle.sign_request.specs.CanonicalText.{joined_texts}
-use Rattle.sigv4_core.proofs.JoinedOn.{none_yet-push}
+use Rattle.sigv4_canonical.proofs.JoinedOn.{none_yet-push}
 use Rattle.sigv4_presign.specs.LinkPairs.{signature_name}
 use Rattle.sigv4_presign.specs.LinkPieces.{keyed_pieces, texts_where}
 use Rattle.sigv4_presign.proofs.PiecesRead.{texts_where-more, texts_where-same, joined_step}

@@ -1,7 +1,0 @@
-use Rattle.std.proofs.Common.{◌≡◌, take}
-use Rattle.std.specs.List.{flat_map}
-use Rattle.sigv4_core.proofs.headers.lowercase_names.Given as goal
-
--- the names so far, as they are spelled
-abbrev pub invariant-loop-field : goal.invariant-loop-field
-invariant-loop-field l = l.names.items ≡ flat_map (λ f. f.name) (take l.field-index l.fields)
