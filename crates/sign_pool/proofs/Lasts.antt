@@ -4,10 +4,10 @@ use Rattle.std.specs.Option.{option_map}
 use Rattle.std.proofs.lemmas.List.{take_all}
 use Rattle.sequential_signer.specs.Transcript.{last_of}
 use Rattle.signer_book.specs.declared.pass.Receipt.{Receipt}
+use Rattle.pool_books.specs.declared.answer.Answer.{Answer}
+use Rattle.pool_books.specs.declared.answer.Outcome.{Outcome}
+use Rattle.pool_books.specs.declared.job.Ticket.{Ticket}
 use Rattle.sign_pool.specs.Work.{last_place, last_reply, outcome_of}
-use Rattle.sign_pool.specs.declared.answer.Answer.{Answer}
-use Rattle.sign_pool.specs.declared.answer.Outcome.{Outcome}
-use Rattle.sign_pool.specs.declared.job.Ticket.{Ticket}
 
 last-at : {X : Type 0} (xs : List X) (n : ℕ) (d : X) → n + 1 ≡ length xs → last_of xs ≡ Some (get_or xs n d)
 last-at [] n d e = absurd (omega (arith, e))
@@ -39,7 +39,12 @@ module _ {K : Type 0} (before now added r slice : List (Receipt K)) (b : ℕ) wh
       → l ≡ last_place b slice → o ≡ outcome_of (last_reply slice) out
       → after
       ≡ answers
-      ++ record { ticket = ticket; call = record { handle = handle; number = m + 1 }; last = last_place (length before) added; outcome = outcome_of (last_reply added) out }
+      ++ record {
+        ticket = ticket;
+        call = record { handle = handle; number = m + 1 };
+        last = last_place (length before) added;
+        outcome = outcome_of (last_reply added) out;
+      }
       ∷ []
   answer-is answers after ticket handle n m l o out is pushed grown same count cut place end =
       let d : drop b r ≡ added = ap (drop b) (same ∙ grown) ∙ (ap (λ n. drop n (before ++ added)) count ∙ drop-past before added) in

@@ -1,11 +1,4 @@
 mod Lasts
 mod OwnCalls
-mod Joined
-mod TicketClaims
-mod ClaimSteps
-mod Indexes
-mod CallNotes
-mod Balances
-mod Books
+mod SettledCalls
 mod Finishing
-mod Signed

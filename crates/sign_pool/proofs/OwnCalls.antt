@@ -16,8 +16,8 @@ use Rattle.signer_shared.specs.Gates.{GateMeaning}
 use Rattle.signer_shared.specs.Serving.{replies, IsNext, next_after, IsStep, goes_on, gives_up, runs_out, IsEventSequence, ServesAll, StopsAtAJob, IsServing}
 use Rattle.signer_shared.specs.declared.job.Job.{Job}
 use Rattle.signer_shared.specs.declared.job.Served.{Served}
+use Rattle.pool_books.specs.declared.answer.Answer.{Answer}
 use Rattle.sign_pool.specs.Calls.{calls_of, has_only_calls_of}
-use Rattle.sign_pool.specs.declared.answer.Answer.{Answer}
 
 both : (a b : Bool) → a ≡ true → b ≡ true → (a && b) ≡ true
 both a b h k = rw (h, k) refl
@@ -78,7 +78,8 @@ module _ {K : Type 0} where
       (among-more answers a (call_of r.entry.event) here)
       (only-more answers a pass (and_right (is_among (call_of r.entry.event) (calls_of answers)) (has_only_calls_of answers pass) h))
 
-  module _ (gate : GateMeaning K) (turns : ℕ) (job : Job) (answers : List Answer) (here : is_among job.call (calls_of answers) ≡ true) where
+  module _ (gate : GateMeaning K) (turns : ℕ) (job : Job) (answers : List Answer)
+      (here : is_among job.call (calls_of answers) ≡ true) where
     -- the course of the job's call behind this reply
     abbrev CourseAfter : Reply K → List (Receipt K) → Type 0
     CourseAfter r own = (end : _) × IsEventSequence gate turns job (next_after r) own end
@@ -133,9 +134,23 @@ module _ {K : Type 0} where
     -- the receipts of the job at which the work stopped, by the parts of what is known of it
     own-calls : (jobs : List Job) (added : List (Receipt K)) (given_up : ℕ) (before : List Job)
         (stopped : Job) (after : List Job) (served own : List (Receipt K)) (not_now : Bool)
-        (jobs_are : jobs ≡ before ++ stopped ∷ after) (added_are : added ≡ served ++ own) (serves : ServesAll gate turns before served) (stops : _) (counted : given_up ≡ replies is_cancelled served)
+        (jobs_are : jobs ≡ before ++ stopped ∷ after) (added_are : added ≡ served ++ own)
+        (serves : ServesAll gate turns before served) (stops : _)
+        (counted : given_up ≡ replies is_cancelled served)
         (s : StopsAtAJob gate turns jobs added given_up)
-        → s ≡ record { before = before; job = stopped; after = after; served = served; own = own; not_now = not_now; jobs_are = jobs_are; added_are = added_are; serves = serves; stops = stops; counted = counted }
+        → s ≡ record {
+          before = before;
+          job = stopped;
+          after = after;
+          served = served;
+          own = own;
+          not_now = not_now;
+          jobs_are = jobs_are;
+          added_are = added_are;
+          serves = serves;
+          stops = stops;
+          counted = counted;
+        }
         → is_among stopped.call (calls_of answers) ≡ true → has_only_calls_of answers own ≡ true
     own-calls jobs added given_up before stopped after served [] not_now jobs_are added_are serves stops counted s e here = refl
     own-calls jobs added given_up before stopped after served (x ∷ rest) not_now jobs_are added_are serves stops counted s e here =

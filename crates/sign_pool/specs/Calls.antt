@@ -5,7 +5,7 @@ use Rattle.sign_base.specs.declared.call_id.CallId.{CallId}
 use Rattle.sign_base.specs.Calls.{is_among}
 use Rattle.sequential_signer.specs.Transcript.{call_of}
 use Rattle.signer_book.specs.declared.pass.Receipt.{Receipt}
-use Rattle.sign_pool.specs.declared.answer.Answer.{Answer}
+use Rattle.pool_books.specs.declared.answer.Answer.{Answer}
 
 -- the calls of answers
 abbrev pub calls_of : List Answer → List CallId

@@ -2,15 +2,11 @@ pub mod Pools
 pub mod Seats
 pub mod Calls
 pub mod Work
-pub mod Cleared
-pub mod TrueAnswers
-pub mod Index
-pub mod Notes
 pub mod Room
 pub mod Finish
-pub mod Laws
 pub use Rattle.crossbeam_queue.specs.Passes
 pub use Rattle.desk_parts.specs.Tables
+pub use Rattle.pool_books.specs.Finished
 pub use Rattle.sequential_signer.specs.Policy
 pub use Rattle.sign_desk.specs.DeskState
 pub use Rattle.signer_book.specs.Close

@@ -1,8 +1,10 @@
 -- The memory that is taken before a pool is finished.
 use Rattle.std.specs.Prelude.{◌≡◌, ◌≤◌, ℕ, List, [], length, MatchOption, vec_capacity}
-use Rattle.sign_pool.specs.Cleared.{joined}
-use Rattle.sign_pool.specs.Index.{HaveOwnTickets, IsIndexOf, jobs_of}
-use Rattle.sign_pool.specs.Notes.{AreBlank, HaveNotes, answers_of}
+use Rattle.pool_books.specs.Cleared.{joined}
+use Rattle.pool_books.specs.Index.{HaveOwnTickets, IsIndexOf}
+use Rattle.pool_books.specs.Notes.{AreBlank, HaveNotes}
+use Rattle.sign_pool.specs.Seats.{jobs_of}
+use Rattle.sign_pool.specs.Seats.{answers_of}
 use Rattle.sign_pool.specs.declared.room.FinishRoom.{FinishRoom}
 use Rattle.sign_pool.specs.declared.seats.Submitter.{Submitter}
 use Rattle.sign_pool.specs.declared.seats.Worker.{Worker}

@@ -1,5 +1,6 @@
 -- What a worker adds for one job.
-use Rattle.std.specs.Prelude.{◌≡◌, ◌+◌, ◌-◌, ◌++◌, ◌∷◌, ℕ, Bool, List, [], Option, Some, length, option_map, if◌then◌else◌}
+use Rattle.std.specs.Prelude.{◌≡◌, ◌+◌, ◌-◌, ◌++◌, ◌∷◌, ℕ, Bool, List, [], Option, Some, length, option_map}
+use Rattle.std.specs.Prelude.{if◌then◌else◌}
 use Rattle.crossbeam_queue.specs.Passes.{view}
 use Rattle.sequential_signer.specs.Transcript.{last_of}
 use Rattle.sequential_signer.specs.declared.event.Reply.{Reply}
@@ -9,9 +10,9 @@ use Rattle.signer_shared.specs.Gates.{GateMeaning}
 use Rattle.signer_shared.specs.Serving.{IsServing}
 use Rattle.signer_shared.specs.declared.job.Job.{Job}
 use Rattle.signer_shared.specs.declared.job.Served.{Served}
-use Rattle.sign_pool.specs.declared.answer.Outcome.{Outcome}
-use Rattle.sign_pool.specs.declared.answer.Outcome.TheVariants as ended
-use Rattle.sign_pool.specs.declared.job.PoolJob.{PoolJob}
+use Rattle.pool_books.specs.declared.answer.Outcome.{Outcome}
+use Rattle.pool_books.specs.declared.answer.Outcome.TheVariants as ended
+use Rattle.pool_books.specs.declared.job.PoolJob.{PoolJob}
 use Rattle.sign_pool.specs.declared.seats.Worker.{Worker}
 use Rattle.sign_pool.specs.declared.work.Work.{Work}
 use Rattle.sign_pool.specs.declared.work.Work.TheVariants as work

@@ -4,17 +4,17 @@ ghost use Rattle.crossbeam_queue.specs.Passes.{IsPassOf, ruled_capacity};
 ghost use Rattle.sequential_signer.specs.Policy.{policy_of};
 ghost use Rattle.sign_desk.specs.DeskState.{Represents};
 ghost use Rattle.signer_book.specs.Close.{IsCloseCause};
-ghost use Rattle.sign_pool.specs.Finish.{HasAllSeats, HandsOut, HasExpectedHeads, HasGoodAnswers};
-ghost use Rattle.sign_pool.specs.Finish.{IfEarly, IfNotClosed, IfUncleared, IsFinishError};
-ghost use Rattle.sign_pool.specs.Finish.{IsClearedPool, IsClosed, IsFinishCause};
+ghost use Rattle.pool_books.specs.Finished.{HasExpectedHeads, HasGoodAnswers, IsClearedPool, IsFinishCause};
+ghost use Rattle.sign_pool.specs.Finish.{HasAllSeats, HandsOut, IsClosed, IsFinishError};
+ghost use Rattle.sign_pool.specs.Finish.{OnEarly, OnNotClosed, OnUncleared};
 ghost use Rattle.sign_pool.specs.Room.{HasRoom};
 
-use crate::compare::finish_cause;
-use crate::finished::{FinishError, FinishRefused, Finished};
 use crate::pool::Pool;
+use crate::refused::{FinishError, FinishRefused};
 use crate::rest::take_rest;
 use crate::room::{FinishRoom, hand_out_submitters, hand_out_workers};
 use crate::seats::{Submitter, Worker};
+use pool_books::{Finished, finish_cause};
 use sequential_signer::{DeadlineRule, SigningCredential};
 use sign_base::EqualByValue;
 use std::sync::Wait;
@@ -50,17 +50,17 @@ where
         ensures values { IfOk result (λ f. HandsOut submitters.items workers.items
             f.settled.passes.items f.answers.items f.submitted.items) }
 
-        ensures back { IfErr result (λ r. IfEarly r (λ pool ss ws why.
+        ensures back { IfErr result (λ r. OnEarly r (λ pool ss ws why.
             (pool ≡ self) × (ss ≡ submitters) × (ws ≡ workers)
             × IsFinishError self.submitters self.workers submitters.items workers.items why)) }
-        ensures close { IfErr result (λ r. IfNotClosed r (λ close answers left submitted.
+        ensures close { IfErr result (λ r. OnNotClosed r (λ close answers left submitted.
             HasAllSeats self.submitters self.workers submitters.items workers.items
             × (close.plan ≡ self.shared)
             × Represents (policy_of K.valid K.valid_at D.deadline) close.book.desk close.book.journal
             × IsCloseCause self.shared close.book close.passes.items close.why
             × HandsOut submitters.items workers.items
             close.passes.items answers.items submitted.items)) }
-        ensures uncleared { IfErr result (λ r. IfUncleared r (λ f why.
+        ensures uncleared { IfErr result (λ r. OnUncleared r (λ f why.
             HasAllSeats self.submitters self.workers submitters.items workers.items
             × IsClosed (policy_of K.valid K.valid_at D.deadline) self.shared f × IsFinishCause f why
             × HandsOut submitters.items workers.items
@@ -116,14 +116,14 @@ where
         ensures closed { IfOk result (IsClosed (policy_of K.valid K.valid_at D.deadline) self.shared) }
         ensures values { IfOk result (λ f. HandsOut submitters.items workers.items
             f.settled.passes.items f.answers.items f.submitted.items) }
-        ensures back { IfErr result (λ r. IfEarly r (λ pool ss ws why. ⊥)) }
-        ensures close { IfErr result (λ r. IfNotClosed r (λ close answers left submitted.
+        ensures back { IfErr result (λ r. OnEarly r (λ pool ss ws why. ⊥)) }
+        ensures close { IfErr result (λ r. OnNotClosed r (λ close answers left submitted.
             (close.plan ≡ self.shared)
             × Represents (policy_of K.valid K.valid_at D.deadline) close.book.desk close.book.journal
             × IsCloseCause self.shared close.book close.passes.items close.why
             × HandsOut submitters.items workers.items
             close.passes.items answers.items submitted.items)) }
-        ensures uncleared { IfErr result (λ r. IfUncleared r (λ f why.
+        ensures uncleared { IfErr result (λ r. OnUncleared r (λ f why.
             IsClosed (policy_of K.valid K.valid_at D.deadline) self.shared f × IsFinishCause f why
             × HandsOut submitters.items workers.items
             f.settled.passes.items f.answers.items f.submitted.items)) }

@@ -1,8 +1,9 @@
 //! A pool, and its seats.
-ghost use Rattle.std.specs.Prelude.{◌≡◌, ◌<◌, ◌≤◌, ◌+◌, [], true, false, length, replicate, slice_set, slice_get, Some, MatchOption, IfOk, IfErr, OnErr};
+ghost use Rattle.std.specs.Prelude.{◌≡◌, ◌<◌, ◌≤◌, ◌+◌, [], true, false, length, replicate, slice_set};
+ghost use Rattle.std.specs.Prelude.{slice_get, Some, MatchOption, IfOk, IfErr, OnErr};
 ghost use Rattle.crossbeam_queue.specs.Passes.{view, IsPassOf, ruled_capacity};
 
-use crate::job::JobQueue;
+use crate::queue::JobQueue;
 use crate::seats::{Submitter, Worker};
 use sequential_signer::{DeadlineRule, SigningCredential};
 use sign_base::NoMemory;

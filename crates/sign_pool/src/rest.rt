@@ -1,7 +1,8 @@
 //! Taking out of the queue what is left in it.
 ghost use Rattle.std.specs.Prelude.{◌≡◌, ◌++◌, ◌∷◌, []};
 
-use crate::job::{JobQueue, PoolJob, Takes};
+use crate::queue::{JobQueue, PopStep};
+use pool_books::PoolJob;
 use std::sync::Wait;
 
 /// Takes jobs out of the queue until it is empty, each to the end of the list. It may wait for a step at the
@@ -9,7 +10,7 @@ use std::sync::Wait;
 pub(crate) fn take_rest<R: Wait>(rt: &R, queue: &JobQueue, mut left: Vec<PoolJob>) -> Vec<PoolJob> {
     let mut seat = queue.pass();
     for _ in rt.forever() {
-        let Some(job) = queue.pop_as::<Takes, R>(rt, &mut seat) else {
+        let Some(job) = queue.pop_as::<PopStep, R>(rt, &mut seat) else {
             return left;
         };
         keep(rt, &mut left, job);

@@ -2,11 +2,9 @@
 ghost use Rattle.std.specs.Prelude.{◌≡◌, IfOk, map, length, vec_capacity};
 ghost use Rattle.sign_pool.specs.Room.{HasRoom, IsRoomFor};
 
-use crate::answer::Answer;
-use crate::index::{JobIndex, index_jobs};
-use crate::job::PoolJob;
-use crate::notes::{CallNotes, blank_notes};
+use crate::seat_books::{blank_notes, index_jobs};
 use crate::seats::{Submitter, Worker};
+use pool_books::{Answer, CallNotes, JobIndex, PoolJob};
 use sequential_signer::SigningCredential;
 use sign_base::NoMemory;
 use signer_book::Pass;

@@ -2,8 +2,8 @@
 ghost use Rattle.std.specs.Prelude.{◌≡◌, true};
 ghost use Rattle.sign_pool.specs.Calls.{has_only_calls_of};
 
-use crate::answer::Answer;
-use crate::job::{PoolJob, Seat};
+use crate::queue::Seat;
+use pool_books::{Answer, PoolJob};
 use signer_book::Pass;
 
 /// Puts jobs into the queue, and keeps a copy of each, in order.

@@ -1,11 +1,12 @@
 //! Putting jobs into the queue.
-ghost use Rattle.std.specs.Prelude.{◌≡◌, length, IfOk, IfErr, OnOk, OnErr};
-ghost use Rattle.crossbeam_queue.specs.Passes.{IsPassOf, ruled_capacity};
+ghost use Rattle.std.specs.Prelude.{◌≡◌, length, IfOk, IfErr, OnErr};
+ghost use Rattle.crossbeam_queue.specs.Passes.{IsPassOf};
 ghost use Rattle.sign_pool.specs.Seats.{Submits, IsSameSubmitter};
 
-use crate::job::{PoolJob, Puts, Ticket};
 use crate::pool::Pool;
+use crate::queue::PushStep;
 use crate::seats::Submitter;
+use pool_books::{PoolJob, Ticket};
 use sequential_signer::{DeadlineRule, SigningCredential};
 use sign_base::Head;
 use std::sync::Wait;
@@ -74,7 +75,7 @@ impl<K: SigningCredential, D: DeadlineRule<Credential = K>> Pool<K, D> {
             head,
             expires_in,
         };
-        match self.queue.push_as::<Puts, R>(rt, &mut seat.seat, job) {
+        match self.queue.push_as::<PushStep, R>(rt, &mut seat.seat, job) {
             Ok(()) => {
                 seat.jobs.push_reserved(PoolJob {
                     ticket,

@@ -1,13 +1,13 @@
 //! Taking jobs out of the queue and serving them.
 ghost use Rattle.std.specs.Prelude.{◌≡◌, ◌<◌, ◌+◌, ◌^◌, Some, length, vec_capacity, if◌then◌else◌};
 ghost use Rattle.crossbeam_queue.specs.Passes.{IsPassOf};
+ghost use Rattle.pool_books.specs.declared.answer.Outcome.TheVariants.{GivenUp, OutOfMemory};
 ghost use Rattle.sign_pool.specs.Work.{outcome_of, last_reply, last_place, Serves, Works};
-ghost use Rattle.sign_pool.specs.declared.answer.Outcome.TheVariants.{GivenUp, OutOfMemory};
 
-use crate::answer::{Answer, Outcome};
-use crate::job::{PoolJob, Takes, Ticket};
 use crate::pool::Pool;
+use crate::queue::PopStep;
 use crate::seats::Worker;
+use pool_books::{Answer, Outcome, PoolJob, Ticket};
 use sequential_signer::{DeadlineRule, Reply, SigningCredential};
 use sign_base::CallId;
 use signer_book::Receipt;
@@ -46,7 +46,7 @@ impl<K: SigningCredential, D: DeadlineRule<Credential = K>> Pool<K, D> {
         if seat.answers.reserve(1).is_err() {
             return Work::OutOfMemory;
         }
-        let Some(job) = self.queue.pop_as::<Takes, R>(rt, &mut seat.seat) else {
+        let Some(job) = self.queue.pop_as::<PopStep, R>(rt, &mut seat.seat) else {
             return Work::Empty;
         };
         let ticket = job.ticket;

@@ -7,10 +7,10 @@ use Rattle.crossbeam_queue.specs.declared.array_queue.Slotted.{Slotted}
 use Rattle.signctl_format.specs.declared.credential.ScriptCredential.{ScriptCredential}
 use Rattle.signer_book.specs.declared.pass.Receipt.{Receipt}
 use Rattle.signer_shared.specs.Gates.{GateMeaning}
+use Rattle.pool_books.specs.declared.answer.Answer.{Answer}
+use Rattle.pool_books.specs.declared.job.PoolJob.{PoolJob}
 use Rattle.sign_pool.specs.Work.{IsSameWorker, Serves, Works, last_place, last_reply, outcome_of}
-use Rattle.sign_pool.specs.declared.answer.Answer.{Answer}
-use Rattle.sign_pool.specs.declared.job.Hand.{Hand}
-use Rattle.sign_pool.specs.declared.job.PoolJob.{PoolJob}
+use Rattle.sign_pool.specs.declared.queue.SeatHistory.{SeatHistory}
 use Rattle.sign_pool.specs.declared.seats.Worker.{Worker}
 use Rattle.sign_pool.specs.declared.work.Work.{Work}
 use Rattle.sign_pool.specs.declared.work.Work.TheVariants as work
@@ -43,7 +43,7 @@ module _ (gate : GateMeaning ScriptCredential) where
         one_answer_more handle (suc number) (before + length served.0) answers served.1 own answer served.4 (moved handle _ _ _ _ own answer n b h),
       )
 
-  module _ {Q A : Type 0} (queue : Slotted (Option PoolJob) (Doing PoolJob Hand) Q A) where
+  module _ {Q A : Type 0} (queue : Slotted (Option PoolJob) (Doing PoolJob SeatHistory) Q A) where
     served : (before after : Worker ScriptCredential) (job : PoolJob) → IsWorker queue gate before
         → IsPassOf queue after.seat → Serves gate 1 before after job → IsWorker queue gate after
     served before after job h seat did =

@@ -2,7 +2,7 @@
 use Rattle.std.proofs.Common.{◌≡◌, ℕ, zero, suc, ◌+◌, ◌<◌, ◌≤◌, List, [], ◌∷◌, length, take, get_or, ap, arith}
 use Rattle.std.specs.Global.{Vec}
 use Rattle.std.proofs.lemmas.List.{length-append}
-use Rattle.sign_pool.specs.Cleared.{joined, lists_of}
+use Rattle.pool_books.specs.Cleared.{joined, lists_of}
 
 -- the items of the lists before one, and its own, are no more than all
 pub lists_before : {X : Type 0} (vectors : List (Vec X)) (i : ℕ) (v : Vec X) → i < length vectors

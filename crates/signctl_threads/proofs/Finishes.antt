@@ -8,11 +8,12 @@ use Rattle.signctl_format.specs.Policy.{script_policy}
 use Rattle.signctl_format.specs.declared.credential.ScriptCredential.{ScriptCredential}
 use Rattle.signctl_format.specs.declared.credential.ScriptRule.{ScriptRule}
 use Rattle.signer_shared.specs.Gates.{GateMeaning}
-use Rattle.sign_pool.specs.Cleared.{answered_tickets, joined, lists_of, tickets_of}
-use Rattle.sign_pool.specs.Finish.{HandsOut, IsClearedPool, IsClosed}
-use Rattle.sign_pool.specs.declared.answer.Answer.{Answer}
-use Rattle.sign_pool.specs.declared.finished.Finished.{Finished}
-use Rattle.sign_pool.specs.declared.job.PoolJob.{PoolJob}
+use Rattle.pool_books.specs.Cleared.{answered_tickets, joined, lists_of, tickets_of}
+use Rattle.pool_books.specs.Finished.{IsClearedPool}
+use Rattle.pool_books.specs.declared.answer.Answer.{Answer}
+use Rattle.pool_books.specs.declared.finished.Finished.{Finished}
+use Rattle.pool_books.specs.declared.job.PoolJob.{PoolJob}
+use Rattle.sign_pool.specs.Finish.{HandsOut, IsClosed}
 use Rattle.sign_pool.specs.declared.seats.Submitter.{Submitter}
 use Rattle.sign_pool.specs.declared.seats.Worker.{Worker}
 use Rattle.pool_jobs.specs.Setup.{pool_setup}

@@ -12,8 +12,8 @@ use Rattle.signer_book.specs.declared.pass.Receipt.{Receipt}
 use Rattle.signer_shared.specs.Gates.{GateMeaning}
 use Rattle.signer_shared.specs.Serving.{next_after, IsLive, IsNext, IsGivenUp, IsStep, goes_on, gives_up, runs_out, IsEventSequence, ServesAll, StopsAtAJob, ran_out, replies}
 use Rattle.signer_shared.specs.declared.job.Job.{Job}
+use Rattle.pool_books.specs.declared.answer.Outcome.TheVariants as outcome
 use Rattle.sign_pool.specs.Work.{last_reply, outcome_of}
-use Rattle.sign_pool.specs.declared.answer.Outcome.TheVariants as outcome
 
 -- a job with this last reply, for which an allocation failed, is neither done nor refused
 abbrev RanOut : {K : Type 0} → Option (Reply K) → Type 0

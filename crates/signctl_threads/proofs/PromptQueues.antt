@@ -22,12 +22,12 @@ use Rattle.signer_shared.specs.Pools.{ServesLists}
 use Rattle.signer_shared.specs.Serving.{ServesAll, StopsAtAJob, replies}
 use Rattle.signer_shared.specs.declared.job.Job.{Job}
 use Rattle.signer_shared.specs.declared.job.Served.{Served}
-use Rattle.sign_pool.specs.Cleared.{AreBegunAs, IsBegunAs, joined, lists_of}
-use Rattle.sign_pool.specs.TrueAnswers.{AreGoodAnswers, IsGoodAnswer}
+use Rattle.pool_books.specs.Cleared.{AreBegunAs, IsBegunAs, joined, lists_of}
+use Rattle.pool_books.specs.TrueAnswers.{AreGoodAnswers, IsGoodAnswer}
+use Rattle.pool_books.specs.declared.answer.Answer.{Answer}
+use Rattle.pool_books.specs.declared.answer.Outcome.TheVariants as outcome
+use Rattle.pool_books.specs.declared.job.PoolJob.{PoolJob}
 use Rattle.sign_pool.specs.Work.{job_of, last_reply, outcome_of}
-use Rattle.sign_pool.specs.declared.answer.Answer.{Answer}
-use Rattle.sign_pool.specs.declared.answer.Outcome.TheVariants as outcome
-use Rattle.sign_pool.specs.declared.job.PoolJob.{PoolJob}
 use Rattle.pool_jobs.specs.Laws.{SignsAll}
 use Rattle.pool_jobs.specs.Meaning.{pool_credential, pool_meaning}
 use Rattle.prompt_law.specs.PromptGates.{AreWorkerJobs, AreWorkerLists, jobs_in}

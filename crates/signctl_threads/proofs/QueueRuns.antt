@@ -3,8 +3,8 @@ use Rattle.std.proofs.Common.{◌≡◌, ℕ, length, refl, ap}
 use Rattle.signer_shared.specs.Gates.{GateMeaning}
 use Rattle.signctl_format.specs.declared.credential.ScriptCredential.{ScriptCredential}
 use Rattle.signctl_format.specs.declared.credential.ScriptRule.{ScriptRule}
-use Rattle.sign_pool.specs.Cleared.{joined, lists_of}
-use Rattle.sign_pool.specs.declared.finished.Finished.{Finished}
+use Rattle.pool_books.specs.Cleared.{joined, lists_of}
+use Rattle.pool_books.specs.declared.finished.Finished.{Finished}
 use Rattle.pool_jobs.specs.Run.{loads}
 use Rattle.signctl_threads.specs.Run.{IsFinishedQueue}
 use Rattle.signctl_threads.specs.Line.{books_line, queue_line}

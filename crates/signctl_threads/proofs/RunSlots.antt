@@ -9,9 +9,9 @@ use Rattle.crossbeam_queue.specs.declared.array_queue.Doing.{Doing}
 use Rattle.crossbeam_queue.specs.declared.array_queue.Slotted.{Slotted}
 use Rattle.signctl_format.specs.declared.credential.ScriptCredential.{ScriptCredential}
 use Rattle.signer_shared.specs.Gates.{GateMeaning}
-use Rattle.sign_pool.specs.Cleared.{joined, lists_of}
-use Rattle.sign_pool.specs.declared.job.Hand.{Hand}
-use Rattle.sign_pool.specs.declared.job.PoolJob.{PoolJob}
+use Rattle.pool_books.specs.Cleared.{joined, lists_of}
+use Rattle.pool_books.specs.declared.job.PoolJob.{PoolJob}
+use Rattle.sign_pool.specs.declared.queue.SeatHistory.{SeatHistory}
 use Rattle.sign_pool.specs.declared.seats.Submitter.{Submitter}
 use Rattle.sign_pool.specs.declared.seats.Worker.{Worker}
 use Rattle.signctl_threads.specs.Jobs.{IsQueueJob}
@@ -32,13 +32,14 @@ abbrev pub jobs_lists : List Submitter → List (List PoolJob)
 jobs_lists submitters = lists_of (map (λ s. s.jobs) submitters)
 
 -- one new slot more
-pub new_slot_more : {Q A : Type 0} (first second third : Slotted (Option PoolJob) (Doing PoolJob Hand) Q A)
+pub new_slot_more : {Q A : Type 0}
+    (first second third : Slotted (Option PoolJob) (Doing PoolJob SeatHistory) Q A)
     → second ≡ first → third ≡ second → (count : ℕ) (slots : List Slot) (slot : Slot)
     → AreNewSlots first count slots → IsPassOf second slot.submitter.seat → slot.submitter.jobs.items ≡ []
     → IsPassOf third slot.worker.seat → slot.worker.handle ≡ count → slot.worker.pass ≡ []
     → slot.worker.answers.items ≡ [] → AreNewSlots third (count + 1) (slots ++ slot ∷ [])
 new_slot_more {Q} {A} first second third one two count slots slot all submitter jobs worker handle pass answers =
-    let Queue : Type 0 = Slotted (Option PoolJob) (Doing PoolJob Hand) Q A in
+    let Queue : Type 0 = Slotted (Option PoolJob) (Doing PoolJob SeatHistory) Q A in
     let same : first ≡ third = sym (two ∙ one) in
     let each : EachFrom (IsNewSlot third) 0 slots = subst (λ (q : Queue). EachFrom (IsNewSlot q) 0 slots) same all.each in
     let here : IsNewSlot third count slot = record {
@@ -55,7 +56,7 @@ new_slot_more {Q} {A} first second third one two count slots slot all submitter 
       each = each_push (IsNewSlot third) 0 slots slot each (subst (λ k. IsNewSlot third k slot) at here);
     }
 
-module _ {Q A : Type 0} (queue : Slotted (Option PoolJob) (Doing PoolJob Hand) Q A) where
+module _ {Q A : Type 0} (queue : Slotted (Option PoolJob) (Doing PoolJob SeatHistory) Q A) where
   module _ (gate : GateMeaning ScriptCredential) where
     pub new_slot : (place : ℕ) (slot : Slot) → IsNewSlot queue place slot → IsSlot queue gate slot
     new_slot place slot h = record {
@@ -139,7 +140,8 @@ none_ran_out (s ∷ slots) h =
     All-append DidNotRunOut s.worker.answers.items (joined (lists_of (map (λ w. w.answers) (workers_of slots))))
     (All-head NoAnswerRanOut s slots h) (none_ran_out slots (All-tail NoAnswerRanOut s slots h))
 
-module _ {Q A : Type 0} (queue : Slotted (Option PoolJob) (Doing PoolJob Hand) Q A) (gate : GateMeaning ScriptCredential) (workers jobs : ℕ) where
+module _ {Q A : Type 0} (queue : Slotted (Option PoolJob) (Doing PoolJob SeatHistory) Q A)
+    (gate : GateMeaning ScriptCredential) (workers jobs : ℕ) where
   serves_queue : (slots : List Slot) → AreServedSlots queue gate workers jobs slots
       → ServesQueue gate workers jobs (map (λ w. w.pass) (workers_of slots))
       (lists_of (map (λ w. w.answers) (workers_of slots)))

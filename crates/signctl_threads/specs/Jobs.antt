@@ -1,6 +1,6 @@
 -- The jobs of a queue, and how they are shared out to the threads.
 use Rattle.std.specs.Prelude.{◌≡◌, ℕ, nat_lt, ◌+◌, ◌%◌, ◌/◌, None, if◌then◌else◌}
-use Rattle.sign_pool.specs.declared.job.PoolJob.{PoolJob}
+use Rattle.pool_books.specs.declared.job.PoolJob.{PoolJob}
 use Rattle.pool_jobs.specs.Work.{pool_head}
 
 -- a job of the command: nothing says how long it may take

@@ -6,7 +6,7 @@ use Rattle.signctl_format.specs.Words.{line_of}
 use Rattle.signctl_format.specs.declared.credential.ScriptCredential.{ScriptCredential}
 use Rattle.signctl_format.specs.declared.credential.ScriptRule.{ScriptRule}
 use Rattle.signer_book.specs.declared.settled.Settled.{Settled}
-use Rattle.sign_pool.specs.declared.finished.Finished.{Finished}
+use Rattle.pool_books.specs.declared.finished.Finished.{Finished}
 use Rattle.pool_jobs.specs.Meaning.{pool_meaning}
 use Rattle.signctl_threads.specs.Run.{IsFinishedQueue}
 use Rattle.signctl_threads.specs.Line.{books_line, pool_line, queue_line}

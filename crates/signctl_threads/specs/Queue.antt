@@ -1,7 +1,7 @@
 -- What a run of a queue gives, by how it ended.
 use Rattle.std.specs.Prelude.{◌≡◌, ℕ}
 use Rattle.std.specs.Io.KnownBytes.{Appends}
-use Rattle.sign_pool.specs.declared.finished.Finished.{Finished}
+use Rattle.pool_books.specs.declared.finished.Finished.{Finished}
 use Rattle.signer_shared.specs.Gates.{GateMeaning}
 use Rattle.signctl_driver.specs.Output.{AppendsPrefix}
 use Rattle.signctl_driver.specs.declared.status.Status.TheVariants as status

@@ -2,7 +2,7 @@
 use Rattle.std.specs.Prelude.{◌≡◌, ℕ, min}
 use Rattle.signctl_format.specs.declared.credential.ScriptCredential.{ScriptCredential}
 use Rattle.signctl_format.specs.declared.credential.ScriptRule.{ScriptRule}
-use Rattle.sign_pool.specs.declared.finished.Finished.{Finished}
+use Rattle.pool_books.specs.declared.finished.Finished.{Finished}
 use Rattle.pool_jobs.specs.Laws.{NoCallIsRefused}
 use Rattle.pool_jobs.specs.Meaning.{pool_meaning}
 use Rattle.pool_jobs.specs.Run.{loads, signed}

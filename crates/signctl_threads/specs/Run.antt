@@ -8,11 +8,12 @@ use Rattle.signctl_format.specs.declared.credential.ScriptRule.{ScriptRule}
 use Rattle.signer_book.specs.Close.{IsCloseCause}
 use Rattle.signer_book.specs.declared.settled.CloseRefused.{CloseRefused}
 use Rattle.signer_shared.specs.Gates.{GateMeaning}
-use Rattle.sign_pool.specs.Cleared.{lists_of}
-use Rattle.sign_pool.specs.Finish.{HasGoodAnswers, IsClearedPool, IsClosed, IsFinishCause}
-use Rattle.sign_pool.specs.declared.answer.Answer.{Answer}
-use Rattle.sign_pool.specs.declared.finished.FinishCause.{FinishCause}
-use Rattle.sign_pool.specs.declared.finished.Finished.{Finished}
+use Rattle.pool_books.specs.Cleared.{lists_of}
+use Rattle.pool_books.specs.Finished.{HasGoodAnswers, IsClearedPool, IsFinishCause}
+use Rattle.pool_books.specs.declared.answer.Answer.{Answer}
+use Rattle.pool_books.specs.declared.finished.FinishCause.{FinishCause}
+use Rattle.pool_books.specs.declared.finished.Finished.{Finished}
+use Rattle.sign_pool.specs.Finish.{IsClosed}
 use Rattle.pool_jobs.specs.Setup.{pool_setup}
 use Rattle.signctl_threads.specs.Served.{AreSubmitted, ServesQueue}
 use Rattle.signctl_threads.specs.declared.refused.QueueRefused.{QueueRefused}

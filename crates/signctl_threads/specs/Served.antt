@@ -5,11 +5,11 @@ use Rattle.signer_book.specs.declared.pass.Receipt.{Receipt}
 use Rattle.signer_shared.specs.Gates.{GateMeaning}
 use Rattle.signer_shared.specs.Serving.{IsServing}
 use Rattle.signer_shared.specs.declared.job.Served.{Served}
-use Rattle.sign_pool.specs.Cleared.{joined}
+use Rattle.pool_books.specs.Cleared.{joined}
+use Rattle.pool_books.specs.declared.answer.Answer.{Answer}
+use Rattle.pool_books.specs.declared.answer.Outcome.TheVariants.{OutOfMemory}
+use Rattle.pool_books.specs.declared.job.PoolJob.{PoolJob}
 use Rattle.sign_pool.specs.Work.{job_of, last_place, last_reply, outcome_of}
-use Rattle.sign_pool.specs.declared.answer.Answer.{Answer}
-use Rattle.sign_pool.specs.declared.answer.Outcome.TheVariants.{OutOfMemory}
-use Rattle.sign_pool.specs.declared.job.PoolJob.{PoolJob}
 use Rattle.signctl_threads.specs.Jobs.{IsQueueJob}
 
 -- no allocation of the answer's job failed

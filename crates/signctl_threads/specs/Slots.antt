@@ -5,9 +5,9 @@ use Rattle.crossbeam_queue.specs.declared.array_queue.Doing.{Doing}
 use Rattle.crossbeam_queue.specs.declared.array_queue.Slotted.{Slotted}
 use Rattle.signctl_format.specs.declared.credential.ScriptCredential.{ScriptCredential}
 use Rattle.signer_shared.specs.Gates.{GateMeaning}
-use Rattle.sign_pool.specs.Cleared.{lists_of}
-use Rattle.sign_pool.specs.declared.job.Hand.{Hand}
-use Rattle.sign_pool.specs.declared.job.PoolJob.{PoolJob}
+use Rattle.pool_books.specs.Cleared.{lists_of}
+use Rattle.pool_books.specs.declared.job.PoolJob.{PoolJob}
+use Rattle.sign_pool.specs.declared.queue.SeatHistory.{SeatHistory}
 use Rattle.sign_pool.specs.declared.seats.Submitter.{Submitter}
 use Rattle.sign_pool.specs.declared.seats.Worker.{Worker}
 use Rattle.signctl_threads.specs.Jobs.{IsQueueJob, share}
@@ -31,7 +31,7 @@ NoAnswerRanOut slot = All DidNotRunOut slot.worker.answers.items
 abbrev pub answered_in : List Slot → ℕ
 answered_in slots = sum_by (λ slot. length slot.worker.answers.items) slots
 
-module _ {Q A : Type 0} (queue : Slotted (Option PoolJob) (Doing PoolJob Hand) Q A) where
+module _ {Q A : Type 0} (queue : Slotted (Option PoolJob) (Doing PoolJob SeatHistory) Q A) where
   -- a submitter of this queue, who submitted jobs of the command
   pub record IsSubmitter (submitter : Submitter) : Type 0 where
     pub seat : IsPassOf queue submitter.seat

@@ -3,7 +3,7 @@
 ghost use Rattle.std.specs.Prelude.{◌≡◌, ◌<◌, ◌^◌, ◌++◌, ◌∷◌, [], IfOk, OnOk, length, decimal, codes};
 ghost use Rattle.signctl_format.specs.Words.{spaced_words};
 ghost use Rattle.pool_jobs.specs.Run.{loads};
-ghost use Rattle.sign_pool.specs.Cleared.{joined, lists_of};
+ghost use Rattle.pool_books.specs.Cleared.{joined, lists_of};
 ghost use Rattle.signctl_threads.specs.Line.{books_line};
 
 use crate::line::{loads, push_count};

@@ -1,5 +1,5 @@
 use Rattle.std.proofs.Common.{◌≡◌, length, take}
-use Rattle.sign_pool.specs.Cleared.{joined, lists_of}
+use Rattle.pool_books.specs.Cleared.{joined, lists_of}
 use Rattle.signctl_threads.proofs.books.count_all.Given as goal
 
 abbrev pub invariant-loop-list : goal.invariant-loop-list

@@ -1,8 +1,8 @@
 use Rattle.std.proofs.Common.{◌∙◌}
 use Rattle.desk_parts.specs.Tables.{setup_of}
 use Rattle.sequential_signer.specs.Policy.{policy_of}
-use Rattle.sign_pool.specs.Cleared.{joined, lists_of}
-use Rattle.sign_pool.proofs.Signed.{heads-expected}
+use Rattle.pool_books.specs.Cleared.{joined, lists_of}
+use Rattle.pool_books.proofs.Signed.{heads-expected}
 use Rattle.sign_pool.proofs.Finishing.{as-many, few-passes, calls-own, noted-own, index-own}
 use Rattle.sign_pool.proofs.pool.Pool.finish_in.Goals as goal
 

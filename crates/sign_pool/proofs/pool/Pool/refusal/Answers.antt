@@ -1,12 +1,13 @@
-use Rattle.std.proofs.Common.{◌≡◌, ℕ, ◌<◌, ◌≤◌, Bool, true, false, List, length, get_or, Some, slice_get, refl, sym, ◌∙◌, subst}
+use Rattle.std.proofs.Common.{◌≡◌, ℕ, ◌<◌, ◌≤◌, Bool, true, false, List, length, get_or, Some, slice_get, refl, sym, subst}
 use Rattle.std.proofs.Math.Dec.{ltb}
 use Rattle.std.proofs.lemmas.Bool.{ltb-true, ltb-false}
 use Rattle.std.proofs.lemmas.Option.{slice_get_read}
 use Rattle.sign_pool.proofs.pool.Pool.refusal.Goals as goal
 
 -- what a mark that was read says of its handle
-mark-read : (taken read : List Bool) (handle : ℕ) (mark : Bool) → read ≡ taken → true ≡ ltb handle (length read)
-    → mark ≡ get_or read handle mark → (handle < length taken) × (slice_get taken handle ≡ Some mark)
+mark-read : (taken read : List Bool) (handle : ℕ) (mark : Bool) → read ≡ taken
+    → true ≡ ltb handle (length read) → mark ≡ get_or read handle mark
+    → (handle < length taken) × (slice_get taken handle ≡ Some mark)
 mark-read taken read handle mark same within is =
     let below : handle < length read = ltb-true handle (length read) (sym within) in
     subst (λ (marks : List Bool). (handle < length marks) × (slice_get marks handle ≡ Some mark)) same (below, slice_get_read read (length read) handle mark refl below is)

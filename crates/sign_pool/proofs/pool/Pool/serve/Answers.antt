@@ -1,7 +1,7 @@
 use Rattle.std.proofs.Common.{rules, ◌≡◌, ℕ, ◌+◌, List, ◌∷◌, ◌++◌, [], refl, sym, ap, subst, length, ◌<◌, vec_capacity}
 use Rattle.signer_shared.specs.Serving.{IsServing}
+use Rattle.pool_books.specs.declared.answer.Answer.{Answer}
 use Rattle.sign_pool.specs.Work.{job_of}
-use Rattle.sign_pool.specs.declared.answer.Answer.{Answer}
 use Rattle.sign_pool.proofs.Lasts.{answer-is}
 use Rattle.sign_pool.proofs.OwnCalls.{last-among, served-calls, still-own}
 use Rattle.sign_pool.proofs.pool.Pool.serve.Goals as goal

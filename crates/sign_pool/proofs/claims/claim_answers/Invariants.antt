@@ -1,8 +1,0 @@
-use Rattle.std.proofs.Common.{◌++◌, take}
-use Rattle.std.specs.Prelude.{IsPermutation}
-use Rattle.std.specs.HashMap.{keys}
-use Rattle.sign_pool.specs.Cleared.{joined, lists_of, answered_tickets}
-use Rattle.sign_pool.proofs.claims.claim_answers.Given as goal
-
-abbrev pub invariant-loop-list : goal.invariant-loop-list
-invariant-loop-list l = IsPermutation (keys l.initial.index) (answered_tickets (joined (take l.list-index (lists_of l.answers))) ++ keys l.index)

@@ -1,7 +1,0 @@
-use Rattle.std.proofs.Common.{take}
-use Rattle.std.specs.Prelude.{All, Contains}
-use Rattle.sign_pool.specs.Cleared.{joined, lists_of}
-use Rattle.sign_pool.proofs.cleared.are_as_submitted.Given as goal
-
-abbrev pub invariant-loop-job : goal.invariant-loop-job
-invariant-loop-job l = All (Contains (joined (lists_of l.submitted))) (take l.job-index l.left)

@@ -1,6 +1,0 @@
-use Rattle.std.proofs.Common.{take}
-use Rattle.sign_pool.specs.Notes.{AreBlank, HaveNotes, answers_of}
-use Rattle.sign_pool.proofs.notes.blank_notes.Given as goal
-
-abbrev pub invariant-loop-worker : goal.invariant-loop-worker
-invariant-loop-worker g l = AreBlank l.notes × HaveNotes (answers_of (take l.worker-index l.workers)) l.notes

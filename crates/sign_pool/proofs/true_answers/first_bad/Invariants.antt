@@ -1,7 +1,0 @@
-use Rattle.std.proofs.Common.{take}
-use Rattle.sign_pool.specs.Cleared.{lists_of}
-use Rattle.sign_pool.specs.TrueAnswers.{AreGoodAnswers}
-use Rattle.sign_pool.proofs.true_answers.first_bad.Given as goal
-
-abbrev pub invariant-loop-worker : goal.invariant-loop-worker
-invariant-loop-worker g l = AreGoodAnswers l.journal (take l.worker l.passes) (take l.worker (lists_of l.answers))
