@@ -4,7 +4,7 @@ use Rattle.sign_base.specs.declared.head.Head.{Head}
 use Rattle.sign_base.specs.declared.head.Field.{Field}
 use Rattle.sequential_signer.specs.declared.event.Answer.TheVariants.{Found}
 use Rattle.sequential_signer.specs.declared.event.Verdict.TheVariants.{Accepted}
-use Rattle.signctl_format.specs.Moments.{last_second, nanos_of_second}
+use Rattle.line_words.specs.Moments.{last_second, nanos_of_second}
 use Rattle.signctl_format.specs.declared.credential.ScriptCredential.{ScriptCredential}
 use Rattle.signer_shared.specs.Gates.{GateMeaning}
 

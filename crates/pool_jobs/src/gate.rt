@@ -1,6 +1,6 @@
 //! The gate of a pool: its provider and its service answer at once, and its clock stands still.
 ghost use Rattle.std.specs.Prelude.{◌≡◌, ◌≤◌, ◌*◌, IfOk, pos};
-ghost use Rattle.signctl_format.specs.Moments.{nanos_of_second, last_second};
+ghost use Rattle.line_words.specs.Moments.{nanos_of_second, last_second};
 ghost use Rattle.pool_jobs.specs.Meaning.{pool_meaning, pool_credential, accepted_head};
 
 use crate::head::added_field;

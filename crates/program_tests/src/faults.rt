@@ -270,8 +270,8 @@ fn allowed(rt: &impl Abort, alloc: Global) -> Vec<u64> {
     lengths
 }
 
-/// At each read of the script, in pieces of so many bytes, the sink holds every answer that the bytes given so
-/// far allow, and no other.
+/// At each read of the script, in pieces of so many bytes, the sink holds every answer that the bytes given
+/// so far allow, and no other.
 fn is_in_time(rt: &impl Abort, alloc: Global, piece: usize) {
     let written = AtomicU64::new(0);
     let allowed = allowed(rt, alloc);

@@ -1,6 +1,6 @@
 //! What no clause of `signctl_core` and of the crates of its commands says, as tests: faults, limits, debug
-//! forms, and what a clock sees. They stand in a crate of their own, since a crate with tests is proved twice.
-//! Nothing stands on this crate. Whole inputs with their answers are rows of `command_rows`.
+//! forms, and what a clock sees. They stand in a crate of their own, since a crate with tests is proved
+//! twice. Nothing stands on this crate. Whole inputs with their answers are rows of `command_rows`.
 #![tactic(auto)]
 
 #[cfg(test)]

@@ -4,7 +4,7 @@
 
 use sign_io::{Sink, StdSink, StdSource};
 use signctl_core::{HeaderSeeds, Status, run_program};
-use signctl_driver::reason::report;
+use signctl_driver::status::report;
 use signctl_threads::{is_for_threads, run_threads};
 use std::hash::RandomState;
 use std::process::ExitCode;

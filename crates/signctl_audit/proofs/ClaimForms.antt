@@ -5,14 +5,15 @@ use Rattle.std.specs.Str.{bytes_eq}
 use Rattle.std.specs.Fmt.{decimal}
 use Rattle.sign_base.specs.declared.head.Head.{Head}
 use Rattle.sign_base.specs.declared.call_id.CallId.{CallId}
-use Rattle.signctl_format.specs.Words.{greatest_u32, greatest_u64}
-use Rattle.signctl_format.specs.Heads.{head_words, IsLineHead}
+use Rattle.line_words.specs.Words.{greatest_u32, greatest_u64}
+use Rattle.line_words.specs.Heads.{head_words, IsLineHead, head_in}
+use Rattle.line_words.specs.Steps.{◌>>=◌, at_end_of_line, number_at}
+use Rattle.line_words.proofs.ReadingSteps.{same_word, some_is, chosen, passed_test, bind_some, ended_some}
+use Rattle.line_words.proofs.Headers.{head_in-words, head_in-some}
+use Rattle.line_words.proofs.Places.{number_at-decimal, number_at-some}
 use Rattle.signctl_format.specs.Lines.{wake_words}
-use Rattle.signctl_format.specs.Steps.{◌>>=◌, at_end_of_line}
-use Rattle.signctl_format.specs.Reading.{number_at, call_at, head_in}
-use Rattle.signctl_format.proofs.ReadingSteps.{same_word, some_is, chosen, passed_test, bind_some, ended_some}
-use Rattle.signctl_format.proofs.Headers.{head_in-words, head_in-some}
-use Rattle.signctl_format.proofs.Calls.{number_at-decimal, number_at-some, call_at-words, call_at-some}
+use Rattle.signctl_format.specs.Reading.{call_at}
+use Rattle.signctl_format.proofs.Calls.{call_at-words, call_at-some}
 use Rattle.signctl_format.proofs.Forms.{Has}
 use Rattle.signctl_audit.specs.ClaimedLines.{claimed_why_words, IsLineWake, IsLineWhy, SpellsReply}
 use Rattle.signctl_audit.specs.ClaimReading.{woken_in, wake_in, loader_at, service_at, why_at, cache_claim, handle_claim, ask_claim, sign_claim, refused_claim, done_claim, cancelled_claim}

@@ -8,12 +8,12 @@ use Rattle.std.proofs.lemmas.Slice.Eq.{bytes_eq-Decides}
 use Rattle.sequential_signer.specs.declared.event.Reply.{Reply}
 use Rattle.sequential_signer.specs.declared.event.Reply.TheVariants as reply
 use Rattle.sequential_signer.specs.declared.event.Why.TheVariants as why
+use Rattle.line_words.specs.Words.{words}
+use Rattle.line_words.proofs.ReadingSteps.{same_word, some_is, chosen, passed_test}
+use Rattle.line_words.proofs.SameLines.{same_line}
 use Rattle.signctl_format.specs.declared.credential.ScriptCredential.{ScriptCredential}
-use Rattle.signctl_format.specs.Words.{words}
 use Rattle.signctl_format.specs.Lines.{reply_line}
-use Rattle.signctl_format.proofs.ReadingSteps.{same_word, some_is, chosen, passed_test}
 use Rattle.signctl_format.proofs.Forms.{Has}
-use Rattle.signctl_format.proofs.Grammars.{same_line}
 use Rattle.signctl_audit.specs.ClaimedLines.{shown, claimed_line, SpellsReply}
 use Rattle.signctl_audit.specs.ClaimReading.{cache_claim, handle_claim, ask_claim, sign_claim, refused_claim, done_claim, cancelled_claim, claim_form, claim_words_say, claim_of}
 use Rattle.signctl_audit.specs.declared.claimed_reply.ClaimedReply.{ClaimedReply}

@@ -1,6 +1,6 @@
 -- How the output of `audit` closes.
 use Rattle.std.proofs.Common.{◌≡◌, ℕ, suc, List, ◌++◌, append_assoc, append-nil, sym, ap, ◌∙◌}
-use Rattle.signctl_format.specs.Lines.{with_newline}
+use Rattle.line_words.specs.Words.{with_newline}
 use Rattle.signctl_format.specs.ScriptSetup.{setup_in}
 use Rattle.sign_audit.specs.Counts.{counts_of}
 use Rattle.signctl_audit.specs.Account.{Account}

@@ -23,6 +23,7 @@ use Rattle.sequential_signer.proofs.Run.{legal-more}
 use Rattle.signctl_driver.specs.Command.{BadLine, blamed}
 use Rattle.signctl_driver.specs.Lines.{End, lines_of, is_too_long}
 use Rattle.signctl_driver.specs.LinesRead.{LinesRead, too_long_line, reading_of, read_on, read_from, lines_read}
+use Rattle.line_words.proofs.ReadingSteps.{same_word}
 use Rattle.signctl_format.specs.declared.credential.ScriptCredential.{ScriptCredential}
 use Rattle.signctl_format.specs.declared.credential.ScriptRule.{ScriptRule}
 use Rattle.signctl_format.specs.declared.item.Item.TheVariants as item
@@ -30,7 +31,6 @@ use Rattle.signctl_format.specs.Lines.{reply_line}
 use Rattle.signctl_format.specs.Policy.{script_policy}
 use Rattle.signctl_format.specs.ScriptEvents.{ScriptItem}
 use Rattle.signctl_format.specs.ScriptSetup.{setup_in, events_in}
-use Rattle.signctl_format.proofs.ReadingSteps.{same_word}
 use Rattle.signctl_format.proofs.SetupIn.{setup_in-silent, setup_in-event, events_in-more}
 use Rattle.signctl_audit.specs.Account.{Account, reply_due, subject_of, subject_in, is_missed, claimed_entry}
 use Rattle.signctl_audit.specs.Account.{entries_with, with_item, with_claim, with_line, account_of}

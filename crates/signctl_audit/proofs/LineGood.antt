@@ -2,9 +2,9 @@
 use Rattle.std.proofs.Common.{◌≡◌, ℕ, List, Bool, true, false, ◌&&◌, if◌then◌else◌, Option, Some, None, Ok, refl, sym, ap, subst}
 use Rattle.std.specs.Prelude.{is_none}
 use Rattle.signctl_driver.specs.Command.{MayFollow}
+use Rattle.line_words.proofs.ReadingSteps.{same_word}
 use Rattle.signctl_format.specs.ScriptEvents.{ScriptItem}
 use Rattle.signctl_format.specs.Grammar.{version_line, is_version_line}
-use Rattle.signctl_format.proofs.ReadingSteps.{same_word}
 use Rattle.signctl_audit.specs.ClaimReading.{claim_text, claim_of}
 use Rattle.signctl_format.specs.Reading.{item_of}
 use Rattle.signctl_audit.specs.Account.{Account, account_of, version_in, subject_in}

@@ -14,13 +14,14 @@ use Rattle.sign_desk.specs.DeskState.{DeskState, Represents, with_cache}
 use Rattle.desk_parts.specs.Tables.{setup_of}
 use Rattle.desk_parts.specs.Adding.{with_handle, AddAnswer, late_refusal, handle_refusal}
 use Rattle.desk_parts.specs.declared.adding.AddError.{AddError}
+use Rattle.desk_parts.specs.declared.limits.TheConstants.{MOST_ROWS}
 use Rattle.desk_parts.proofs.AddAnswers.{cache-allowed, handle-allowed}
 use Rattle.sign_audit.specs.AuditState.{AuditState, AuditRepresents}
+use Rattle.line_words.specs.declared.read_error.LineError.{LineError}
+use Rattle.line_words.specs.declared.moment.ScriptVersion.{ScriptVersion}
 use Rattle.signctl_format.specs.declared.credential.ScriptCredential.{ScriptCredential}
 use Rattle.signctl_format.specs.declared.credential.ScriptRule.{ScriptRule}
 use Rattle.signctl_format.specs.declared.item.Item.TheVariants as item
-use Rattle.signctl_format.specs.declared.line_error.LineError.{LineError}
-use Rattle.signctl_format.specs.declared.script_version.ScriptVersion.{ScriptVersion}
 use Rattle.signctl_format.specs.Policy.{script_policy}
 use Rattle.signctl_format.specs.ScriptEvents.{ScriptItem, plain_event}
 use Rattle.signctl_format.specs.ScriptSetup.{is_empty, place_of_rule, setup_in, events_in, item_error}
@@ -226,12 +227,12 @@ handles-same desk a stands = ap (λ (s : Setup ScriptRule). s.handles) stands.se
 
 -- there is a number for one cache more
 pub caches-fit : (desk : DeskState ScriptCredential ScriptRule) (a : Account) → IsSetUp desk a
-    → length a.items < input_limit → length desk.loaders < 4294967295
+    → length a.items < input_limit → length desk.loaders < MOST_ROWS
 caches-fit desk a stands few = omega (arith, few, caches-few a.items, ap (λ (v : List Loader). length v) (loaders-same desk a stands))
 
 -- and for one handle more
 pub handles-fit : (desk : DeskState ScriptCredential ScriptRule) (a : Account) → IsSetUp desk a
-    → length a.items < input_limit → length desk.handles < 4294967295
+    → length a.items < input_limit → length desk.handles < MOST_ROWS
 handles-fit desk a stands few = omega (arith, few, handles-few a.items, ap (λ (v : List Handle). length v) (handles-same desk a stands))
 
 not_started : (desk : DeskState ScriptCredential ScriptRule) (a : Account) → IsSetUp desk a

@@ -11,13 +11,13 @@ use Rattle.sequential_signer.proofs.Run.{expected_in_memory}
 use Rattle.sign_audit.specs.Answers.{ClaimFits, AnswersTest}
 use Rattle.sign_audit.specs.AuditState.{AuditState}
 use Rattle.sign_audit.specs.declared.claim.Claim.{Claim}
+use Rattle.line_words.proofs.ReadingSteps.{same_word}
 use Rattle.signctl_format.specs.declared.credential.ScriptCredential.{ScriptCredential}
 use Rattle.signctl_format.specs.declared.credential.ScriptRule.{ScriptRule}
 use Rattle.signctl_format.specs.Lines.{reply_line}
 use Rattle.signctl_format.specs.Policy.{script_policy}
 use Rattle.signctl_format.specs.ScriptEvents.{plain_event}
 use Rattle.signctl_format.specs.ScriptSetup.{setup_in}
-use Rattle.signctl_format.proofs.ReadingSteps.{same_word}
 use Rattle.signctl_audit.specs.Account.{Account, reply_due, subject_in, is_missed}
 use Rattle.signctl_audit.specs.AuditReading.{may_miss, is_right, subject_error, claim_error}
 use Rattle.signctl_audit.specs.ClaimReading.{claim_of}
@@ -93,8 +93,10 @@ module _ (a : Account) (seen : Event ScriptCredential) (claimed : ClaimedReply) 
       not_printed (reply_due a seen) (expected_in_memory script_policy (setup_in a.items) (committed_entries a.entries) seen)
       (sym printed ∙ missed-text text claimed read m)
 
-module _ (audit : AuditState ScriptCredential ScriptRule) (a : Account) (stands : IsAudited audit a) (event seen : Event ScriptCredential) (is_seen : plain_event event ≡ seen)
-    (about : subject_in a ≡ Some (Happened seen)) (claimed : ClaimedReply) (missed : Bool) (says_missed : missed ≡ is_missed claimed) (right : IsRightClaim a claimed) where
+module _ (audit : AuditState ScriptCredential ScriptRule) (a : Account) (stands : IsAudited audit a)
+    (event seen : Event ScriptCredential) (is_seen : plain_event event ≡ seen)
+    (about : subject_in a ≡ Some (Happened seen)) (claimed : ClaimedReply) (missed : Bool)
+    (says_missed : missed ≡ is_missed claimed) (right : IsRightClaim a claimed) where
   about-event : subject_error a (Happened seen) claimed right.0 ≡ None
   about-event = subst (λ (s : Option Subject). claim_error a s claimed right.0 ≡ None) about right.2
 

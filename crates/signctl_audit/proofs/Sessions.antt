@@ -4,10 +4,10 @@ use Rattle.std.proofs.lemmas.List.{length-append}
 use Rattle.sign_io.specs.Lines.{input_limit}
 use Rattle.sign_desk.specs.DeskState.{DeskState, Represents}
 use Rattle.desk_parts.specs.Tables.{setup_of}
+use Rattle.line_words.specs.declared.moment.ScriptVersion.{ScriptVersion}
 use Rattle.signctl_format.specs.declared.credential.ScriptCredential.{ScriptCredential}
 use Rattle.signctl_format.specs.declared.credential.ScriptRule.{ScriptRule}
 use Rattle.signctl_format.specs.declared.credential.ScriptRule.TheVariants.{Now, Cred}
-use Rattle.signctl_format.specs.declared.script_version.ScriptVersion.{ScriptVersion}
 use Rattle.signctl_format.specs.Policy.{script_policy}
 use Rattle.signctl_format.specs.ScriptSetup.{setup_in, events_in, event_in}
 use Rattle.signctl_format.proofs.SetupIn.{picked-few, caches-few}
@@ -36,14 +36,14 @@ unfolding setup_in events_in
 first-account desk setup fresh = record { lines = refl; caches = refl; events = refl; version = refl; unclaimed = refl; signer = set_up-first desk setup fresh }
 
 -- a session before the first line
-pub first-session : (desk : DeskState ScriptCredential ScriptRule)
+pub first_session : (desk : DeskState ScriptCredential ScriptRule)
     → setup_of desk ≡ record { loaders = []; rules = Now ∷ Cred ∷ []; handles = [] }
     → Represents script_policy desk []
     → SessionRepresents
     (record { stage = Setup desk; lines = 0; caches = 0; events = 0; version = None; unclaimed = None })
     []
 unfolding account_of
-first-session desk setup fresh = record { account = first-account desk setup fresh; few = omega arith }
+first_session desk setup fresh = record { account = first-account desk setup fresh; few = omega arith }
 
 -- where an input has room for more lines, there is room in what they come to
 pub has-room : (lines : List AuditLine) → length lines < input_limit → HasRoom (account_of lines)

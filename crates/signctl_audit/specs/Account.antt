@@ -7,10 +7,10 @@ use Rattle.sequential_signer.specs.declared.event.Entry.{Entry}
 use Rattle.sequential_signer.specs.declared.event.Event.{Event}
 use Rattle.sequential_signer.specs.declared.event.Reply.{Reply}
 use Rattle.sequential_signer.specs.declared.event.Reply.TheVariants as reply
+use Rattle.line_words.specs.declared.moment.ScriptVersion.{ScriptVersion}
+use Rattle.line_words.specs.declared.moment.ScriptVersion.TheVariants.{One, Two}
 use Rattle.signctl_format.specs.declared.credential.ScriptCredential.{ScriptCredential}
 use Rattle.signctl_format.specs.declared.item.Item.TheVariants as item
-use Rattle.signctl_format.specs.declared.script_version.ScriptVersion.{ScriptVersion}
-use Rattle.signctl_format.specs.declared.script_version.ScriptVersion.TheVariants.{One, Two}
 use Rattle.signctl_format.specs.Policy.{script_policy}
 use Rattle.signctl_format.specs.ScriptEvents.{ScriptItem}
 use Rattle.signctl_format.specs.ScriptSetup.{setup_in}

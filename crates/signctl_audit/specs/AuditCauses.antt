@@ -1,8 +1,9 @@
 -- Why a line of `audit` is bad, in words.
 use Rattle.std.specs.Prelude.{ℕ, List, [], ◌∷◌, ◌++◌, Option, Some, None, codes}
 use Rattle.sign_base.specs.declared.call_id.CallId.{CallId}
-use Rattle.signctl_format.specs.Words.{spaced_words}
-use Rattle.signctl_format.specs.Lines.{call_words, cache_line, handle_line, reply_line, line_error_text}
+use Rattle.line_words.specs.Words.{spaced_words}
+use Rattle.line_words.specs.LineErrors.{line_error_text}
+use Rattle.signctl_format.specs.Lines.{call_words, cache_line, handle_line, reply_line}
 use Rattle.signctl_audit.specs.declared.audit_error.AuditError.{AuditError}
 use Rattle.signctl_audit.specs.declared.audit_error.AuditError.TheVariants.{Line, OutOfPlace}
 use Rattle.signctl_audit.specs.declared.audit_error.AuditError.TheVariants.{NoClaim, Differs}

@@ -5,8 +5,7 @@ use Rattle.std.specs.Fmt.{decimal}
 use Rattle.signctl_driver.specs.Command.{Command}
 use Rattle.signctl_driver.specs.Lines.{Ending}
 use Rattle.signctl_driver.specs.Output.{output}
-use Rattle.signctl_format.specs.Words.{line_of}
-use Rattle.signctl_format.specs.Lines.{with_newline}
+use Rattle.line_words.specs.Words.{line_of, with_newline}
 use Rattle.signctl_format.specs.ScriptSetup.{setup_in, events_in}
 use Rattle.sign_audit.specs.Counts.{counts_of}
 use Rattle.sign_audit.specs.declared.counts.Counts.{Counts}

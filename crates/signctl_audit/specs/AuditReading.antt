@@ -7,8 +7,8 @@ use Rattle.sign_base.specs.Calls.{first_of}
 use Rattle.sequential_signer.specs.Transcript.{committed_entries, call_of}
 use Rattle.sequential_signer.specs.Phase.{is_pending}
 use Rattle.sequential_signer.specs.Legal.{allocates}
-use Rattle.signctl_format.specs.declared.line_error.LineError.{LineError}
-use Rattle.signctl_format.specs.declared.line_error.LineError.TheVariants.{NotUnderstood}
+use Rattle.line_words.specs.declared.read_error.LineError.{LineError}
+use Rattle.line_words.specs.declared.read_error.LineError.TheVariants.{NotUnderstood}
 use Rattle.signctl_format.specs.Policy.{script_policy}
 use Rattle.signctl_format.specs.ScriptEvents.{ScriptItem}
 use Rattle.signctl_format.specs.ScriptSetup.{setup_in, item_error}

@@ -2,10 +2,11 @@
 use Rattle.std.specs.Prelude.{ℕ, ◌&&◌, ◌==◌, List, [], ◌∷◌, Option, Some, None, if◌then◌else◌, codes}
 use Rattle.std.specs.Str.{bytes_eq}
 use Rattle.sign_base.specs.declared.call_id.CallId.{CallId}
-use Rattle.signctl_format.specs.Bytes.{space, equals_sign}
-use Rattle.signctl_format.specs.Words.{words, greatest_u32, greatest_u64}
-use Rattle.signctl_format.specs.Steps.{◌>>=◌, at_end_of_line}
-use Rattle.signctl_format.specs.Reading.{number_at, call_at, head_in}
+use Rattle.line_words.specs.Bytes.{space, equals_sign}
+use Rattle.line_words.specs.Words.{words, greatest_u32, greatest_u64}
+use Rattle.line_words.specs.Steps.{◌>>=◌, at_end_of_line, number_at}
+use Rattle.line_words.specs.Heads.{head_in}
+use Rattle.signctl_format.specs.Reading.{call_at}
 use Rattle.signctl_audit.specs.declared.claimed_reply.ClaimedReply.{ClaimedReply}
 use Rattle.signctl_audit.specs.declared.claimed_reply.ClaimedReply.TheVariants.{Cache, Handle, Begun}
 use Rattle.signctl_audit.specs.declared.claimed_reply.ClaimedReply.TheVariants.{Pending, NotNow, OutOfMemory}

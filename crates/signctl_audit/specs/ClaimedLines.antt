@@ -6,9 +6,9 @@ use Rattle.sequential_signer.specs.declared.event.Reply.{Reply}
 use Rattle.sequential_signer.specs.declared.event.Reply.TheVariants as reply
 use Rattle.sequential_signer.specs.declared.event.Why.{Why}
 use Rattle.sequential_signer.specs.declared.event.Why.TheVariants as why
+use Rattle.line_words.specs.Words.{words, line_of, greatest_u32, greatest_u64}
+use Rattle.line_words.specs.Heads.{IsLineHead, head_words}
 use Rattle.signctl_format.specs.declared.credential.ScriptCredential.{ScriptCredential}
-use Rattle.signctl_format.specs.Words.{words, line_of, greatest_u32, greatest_u64}
-use Rattle.signctl_format.specs.Heads.{IsLineHead, head_words}
 use Rattle.signctl_format.specs.Lines.{wake_words}
 use Rattle.signctl_format.specs.Grammar.{IsLineCall}
 use Rattle.signctl_audit.specs.declared.claimed_reply.ClaimedReply.{ClaimedReply}

@@ -7,5 +7,5 @@ pub mod AuditOutput
 pub mod SessionState
 pub mod Taking
 pub mod LegalLogs
+pub use Rattle.line_words.specs.Readers
 pub use Rattle.signctl_format.specs.Lines
-pub use Rattle.signctl_format.specs.Readers

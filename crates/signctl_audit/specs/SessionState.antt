@@ -5,9 +5,9 @@ use Rattle.sequential_signer.specs.declared.event.Entry.{Entry}
 use Rattle.sign_desk.specs.DeskState.{DeskState, Represents}
 use Rattle.desk_parts.specs.Tables.{setup_of}
 use Rattle.sign_audit.specs.AuditState.{AuditState, AuditRepresents}
+use Rattle.line_words.specs.declared.moment.ScriptVersion.{ScriptVersion}
 use Rattle.signctl_format.specs.declared.credential.ScriptCredential.{ScriptCredential}
 use Rattle.signctl_format.specs.declared.credential.ScriptRule.{ScriptRule}
-use Rattle.signctl_format.specs.declared.script_version.ScriptVersion.{ScriptVersion}
 use Rattle.signctl_format.specs.Policy.{script_policy}
 use Rattle.signctl_format.specs.ScriptEvents.{plain_event}
 use Rattle.signctl_format.specs.ScriptSetup.{is_empty, setup_in, events_in}

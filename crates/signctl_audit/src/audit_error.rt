@@ -1,11 +1,11 @@
 //! Why a line of `audit` is bad, and the text of each cause.
 ghost use Rattle.std.specs.Prelude.{◌≡◌, ◌++◌, OnOk};
-ghost use Rattle.signctl_format.specs.Words.{spaced_words};
+ghost use Rattle.line_words.specs.Words.{spaced_words};
 ghost use Rattle.signctl_audit.specs.AuditCauses.{behind_words, due_line, audit_error_text};
 
+use line_words::text::{push, push_number, push_word};
 use sequential_signer::Reply;
 use sign_base::{CallId, NoMemory};
-use signctl_format::text::{push, push_number, push_word};
 use signctl_format::{LineError, ScriptCredential, push_cache, push_handle, push_reply};
 
 /// The answer that is due to a line.

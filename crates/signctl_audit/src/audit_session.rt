@@ -1,9 +1,6 @@
 //! `signctl audit` as a command over lines, and what it keeps of them.
 ghost use Rattle.std.specs.Prelude.{◌≡◌, ◌+◌, ◌<◌, [], Some, length, OnOk, IfOk, unwrap_or};
-ghost use Rattle.sign_desk.specs.DeskState.{Represents};
-ghost use Rattle.desk_parts.specs.Adding.{with_rule};
-ghost use Rattle.signctl_format.specs.declared.script_version.ScriptVersion.TheVariants.{One};
-ghost use Rattle.signctl_format.specs.Policy.{script_policy};
+ghost use Rattle.line_words.specs.declared.moment.ScriptVersion.TheVariants.{One};
 ghost use Rattle.signctl_audit.specs.SessionState.{SessionRepresents};
 
 use crate::audit_error::{AuditError, push_audit_error};
@@ -49,8 +46,12 @@ impl AuditSession {
         ensures { IfOk result (λ s. SessionRepresents s []) }
     {
         let mut desk = Desk::new(alloc);
-        add_rule(&mut desk, ScriptRule::Now)?;
-        add_rule(&mut desk, ScriptRule::Cred)?;
+        if desk.add_rule(ScriptRule::Now).is_err() {
+            return Err(NoMemory { back: () });
+        }
+        if desk.add_rule(ScriptRule::Cred).is_err() {
+            return Err(NoMemory { back: () });
+        }
         Ok(AuditSession {
             stage: LogStage::Setup(desk),
             lines: 0,
@@ -151,20 +152,5 @@ impl LineCommand for AuditSession {
                 Ok(Ok(()))
             }
         }
-    }
-}
-
-/// Adds a rule to a new desk.
-fn add_rule(
-    desk: &mut Desk<ScriptCredential, ScriptRule>,
-    rule: ScriptRule,
-) -> Result<(), NoMemory<()>>
-    requires { length desk.old.rules < 4294967295 }
-    ensures added { OnOk result (desk.new ≡ with_rule rule desk.old) }
-    ensures fresh { OnOk result (Represents script_policy desk.new []) }
-{
-    match desk.add_rule(rule) {
-        Ok(_) => Ok(()),
-        Err(_) => Err(NoMemory { back: () }),
     }
 }

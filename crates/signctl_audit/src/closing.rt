@@ -1,9 +1,8 @@
 //! The lines that close the output of `audit`.
-ghost use Rattle.std.specs.Prelude.{◌≡◌, ◌++◌, ◌∷◌, ◌<◌, [], List, OnOk};
-ghost use Rattle.sign_base.specs.Bytes.{newline};
+ghost use Rattle.std.specs.Prelude.{◌≡◌, ◌++◌, ◌<◌, List, OnOk};
 ghost use Rattle.sign_audit.specs.Counts.{counts_of};
+ghost use Rattle.line_words.specs.Words.{spaced_words};
 ghost use Rattle.signctl_format.specs.ScriptSetup.{setup_in};
-ghost use Rattle.signctl_format.specs.Words.{spaced_words};
 ghost use Rattle.signctl_audit.specs.Account.{account_of};
 ghost use Rattle.signctl_audit.specs.AuditOutput.{closing_lines, legal_line, count_words, count_line};
 ghost use Rattle.signctl_audit.specs.SessionState.{SessionRepresents};
@@ -11,10 +10,11 @@ ghost use Rattle.signctl_audit.specs.declared.audit_line.AuditLine.{AuditLine};
 
 use crate::audit_session::AuditSession;
 use crate::log_stage::LogStage;
+use line_words::text::{push, push_number, push_word};
 use sign_audit::Counts;
 use sign_base::NoMemory;
+use signctl_driver::end_line;
 use signctl_format::push_cache;
-use signctl_format::text::{push, push_number, push_word};
 
 impl AuditSession {
     /// Adds the lines that close the output.
@@ -74,11 +74,4 @@ fn push_count(text: &mut Vec<u8>, name: &[u8], count: u64) -> Result<(), NoMemor
 {
     push_word(text, name)?;
     push_number(text, count)
-}
-
-/// Ends a line of the text.
-fn end_line(text: &mut Vec<u8>) -> Result<(), NoMemory<()>>
-    ensures { OnOk result (text.new.items ≡ text.old.items ++ newline ∷ []) }
-{
-    Ok(text.push(b'\n')?)
 }

@@ -1,19 +1,19 @@
 //! Reading a claim: one function for each form, by the word that begins it.
 ghost use Rattle.std.specs.Prelude.{◌≡◌, IsTrue, Some, None, MatchOption};
 ghost use Rattle.std.specs.Str.{bytes_eq};
-ghost use Rattle.signctl_format.specs.Readers.{words_after, Reads, Gives};
+ghost use Rattle.line_words.specs.Readers.{words_after, Reads, Gives};
 ghost use Rattle.signctl_audit.specs.ClaimReading.{claim_text, woken_in, wake_in, loader_at};
 ghost use Rattle.signctl_audit.specs.ClaimReading.{service_at, why_at, cache_claim, handle_claim};
 ghost use Rattle.signctl_audit.specs.ClaimReading.{ask_claim, sign_claim, refused_claim, done_claim};
 ghost use Rattle.signctl_audit.specs.ClaimReading.{cancelled_claim, claim_form, claim_words_say, claim_of};
 
 use crate::claimed_reply::{ClaimedReply, ClaimedWhy};
+use line_words::NotUnderstood;
+use line_words::head::parse_head;
+use line_words::word::{at_end_of_line, next_word, number_at, split_word, u32_at, word_at};
 use sign_base::CallId;
 use signctl_format::ReadError;
-use signctl_format::head::head;
 use signctl_format::read::call_at;
-use signctl_format::read_error::NotUnderstood;
-use signctl_format::word::{at_end_of_line, next_word, number_at, split_word, u32_at, word_at};
 use std::alloc::Global;
 
 /// What stands after the mark of a claim line, where a line is one.
@@ -46,34 +46,34 @@ pub fn read_claimed_reply(alloc: Global, text: &[u8]) -> Result<ClaimedReply, Re
         return Ok(ClaimedReply::OutOfMemory);
     }
     let (name, rest) = split_word(text);
-    form(alloc, name, rest)
+    parse_form(alloc, name, rest)
 }
 
 #[tactic(auto, unfolding(crate::specs::ClaimReading::claim_form))]
-fn form(alloc: Global, name: &[u8], rest: &[u8]) -> Result<ClaimedReply, ReadError>
+fn parse_form(alloc: Global, name: &[u8], rest: &[u8]) -> Result<ClaimedReply, ReadError>
     ensures { Gives (λ c. c) result (claim_form name.now (words_after rest.now)) }
 {
     if name == b"cache".as_slice() {
-        Ok(cache(rest)?)
+        Ok(parse_cache(rest)?)
     } else if name == b"handle".as_slice() {
-        Ok(handle(rest)?)
+        Ok(parse_handle(rest)?)
     } else if name == b"ask".as_slice() {
-        Ok(ask(rest)?)
+        Ok(parse_ask(rest)?)
     } else if name == b"sign".as_slice() {
-        Ok(sign(rest)?)
+        Ok(parse_sign(rest)?)
     } else if name == b"refused".as_slice() {
-        Ok(refused(rest)?)
+        Ok(parse_refused(rest)?)
     } else if name == b"done".as_slice() {
-        done(alloc, rest)
+        parse_done(alloc, rest)
     } else if name == b"cancelled".as_slice() {
-        Ok(cancelled(rest)?)
+        Ok(parse_cancelled(rest)?)
     } else {
         Err(ReadError::NotUnderstood)
     }
 }
 
 #[tactic(auto, unfolding(crate::specs::ClaimReading::cache_claim))]
-fn cache(rest: &[u8]) -> Result<ClaimedReply, NotUnderstood>
+fn parse_cache(rest: &[u8]) -> Result<ClaimedReply, NotUnderstood>
     ensures { Reads (λ c. c) result (cache_claim (words_after rest.now)) }
 {
     let (number, rest) = u32_at(rest)?;
@@ -81,7 +81,7 @@ fn cache(rest: &[u8]) -> Result<ClaimedReply, NotUnderstood>
 }
 
 #[tactic(auto, unfolding(crate::specs::ClaimReading::handle_claim))]
-fn handle(rest: &[u8]) -> Result<ClaimedReply, NotUnderstood>
+fn parse_handle(rest: &[u8]) -> Result<ClaimedReply, NotUnderstood>
     ensures { Reads (λ c. c) result (handle_claim (words_after rest.now)) }
 {
     let (number, rest) = u32_at(rest)?;
@@ -89,7 +89,7 @@ fn handle(rest: &[u8]) -> Result<ClaimedReply, NotUnderstood>
 }
 
 #[tactic(auto, unfolding(crate::specs::ClaimReading::ask_claim))]
-fn ask(rest: &[u8]) -> Result<ClaimedReply, NotUnderstood>
+fn parse_ask(rest: &[u8]) -> Result<ClaimedReply, NotUnderstood>
     ensures { Reads (λ c. c) result (ask_claim (words_after rest.now)) }
 {
     let (provider, rest) = u32_at(rest)?;
@@ -97,35 +97,35 @@ fn ask(rest: &[u8]) -> Result<ClaimedReply, NotUnderstood>
 }
 
 #[tactic(auto, unfolding(crate::specs::ClaimReading::sign_claim))]
-fn sign(rest: &[u8]) -> Result<ClaimedReply, NotUnderstood>
+fn parse_sign(rest: &[u8]) -> Result<ClaimedReply, NotUnderstood>
     ensures { Reads (λ c. c) result (sign_claim (words_after rest.now)) }
 {
     let (generation, rest) = number_at(u64::MAX, rest)?;
-    let wake = wake(rest)?;
+    let wake = parse_wake(rest)?;
     Ok(ClaimedReply::Sign { generation, wake })
 }
 
 #[tactic(auto, unfolding(crate::specs::ClaimReading::refused_claim))]
-fn refused(rest: &[u8]) -> Result<ClaimedReply, NotUnderstood>
+fn parse_refused(rest: &[u8]) -> Result<ClaimedReply, NotUnderstood>
     ensures { Reads (λ c. c) result (refused_claim (words_after rest.now)) }
 {
     let (why, rest) = why_at(rest)?;
-    let wake = wake(rest)?;
+    let wake = parse_wake(rest)?;
     Ok(ClaimedReply::Refused { why, wake })
 }
 
 #[tactic(auto, unfolding(crate::specs::ClaimReading::done_claim))]
-fn done(alloc: Global, rest: &[u8]) -> Result<ClaimedReply, ReadError>
+fn parse_done(alloc: Global, rest: &[u8]) -> Result<ClaimedReply, ReadError>
     ensures { Gives (λ c. c) result (done_claim (words_after rest.now)) }
 {
-    Ok(ClaimedReply::Done(head(alloc, rest)?))
+    Ok(ClaimedReply::Done(parse_head(alloc, rest)?))
 }
 
 #[tactic(auto, unfolding(crate::specs::ClaimReading::cancelled_claim))]
-fn cancelled(rest: &[u8]) -> Result<ClaimedReply, NotUnderstood>
+fn parse_cancelled(rest: &[u8]) -> Result<ClaimedReply, NotUnderstood>
     ensures { Reads (λ c. c) result (cancelled_claim (words_after rest.now)) }
 {
-    let wake = wake(rest)?;
+    let wake = parse_wake(rest)?;
     Ok(ClaimedReply::Cancelled { wake })
 }
 
@@ -154,7 +154,7 @@ fn why_at(rest: &[u8]) -> Result<(ClaimedWhy, &[u8]), NotUnderstood>
 
 /// The call to wake that the words at the end of a line name, or none where there are no words.
 #[tactic(auto, unfolding(crate::specs::ClaimReading::wake_in, crate::specs::ClaimReading::woken_in))]
-fn wake(rest: &[u8]) -> Result<Option<CallId>, NotUnderstood>
+fn parse_wake(rest: &[u8]) -> Result<Option<CallId>, NotUnderstood>
     ensures { Reads (λ w. w) result (wake_in (words_after rest.now)) }
 {
     let Some((word, rest)) = next_word(rest) else {

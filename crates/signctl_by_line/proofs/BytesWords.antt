@@ -12,10 +12,10 @@ use Rattle.base64.proofs.Tables.{all_below_at}
 use Rattle.hex.specs.Hex.{IsBytes, decode_of, decode_pairs, digit_or_error, hex_digit_value, encode_lower, encode_with, lower_digits, pair_value, value_at, ◌>>=◌}
 use Rattle.hex.specs.declared.error.FromHexError.{FromHexError}
 use Rattle.hex.proofs.HexLemmas.{IsDigits-lower_digits, decode_of-encode_lower, decode_of-even, decode_of-ok}
-use Rattle.signctl_format.specs.Bytes.{lower_a, is_byte, is_visible, hex_digit}
-use Rattle.signctl_format.specs.Words.{is_target}
-use Rattle.signctl_format.proofs.ReadingSteps.{some_is, chosen, passed_test, same_word}
-use Rattle.signctl_format.proofs.Values.{hex_digit-some}
+use Rattle.line_words.specs.Bytes.{lower_a, is_byte, is_visible, hex_digit}
+use Rattle.line_words.specs.Words.{is_target}
+use Rattle.line_words.proofs.ReadingSteps.{some_is, chosen, passed_test, same_word}
+use Rattle.line_words.proofs.Values.{hex_digit-some}
 use Rattle.signctl_by_line.specs.BytesWords.{dash_word, text_word, hex_word, is_lower_hex, is_hex_word, bytes_of, text_of}
 
 -- ---- digits

@@ -1,9 +1,9 @@
 -- Each form of a line of `hmac`: its words read as its item, and what reads as an item spells it.
 use Rattle.std.proofs.Common.{◌≡◌, ℕ, cond, List, [], ◌∷◌, Option, Some, refl, ap, subst, ◌∙◌, inl, inr}
 use Rattle.std.specs.Str.{bytes_eq}
-use Rattle.signctl_format.specs.Words.{words}
-use Rattle.signctl_format.specs.Steps.{◌>>=◌, first_word, at_end_of_line}
-use Rattle.signctl_format.proofs.ReadingSteps.{same_word, some_is, chosen, bind_some, first_word_some, ended_some}
+use Rattle.line_words.specs.Words.{words}
+use Rattle.line_words.specs.Steps.{◌>>=◌, first_word, at_end_of_line}
+use Rattle.line_words.proofs.ReadingSteps.{same_word, some_is, chosen, bind_some, first_word_some, ended_some}
 use Rattle.signctl_by_line.specs.declared.hmac_item.HashCall.{HashCall}
 use Rattle.signctl_by_line.specs.declared.hmac_item.HashCall.TheVariants as of
 use Rattle.signctl_by_line.specs.declared.hmac_item.HmacItem.{HmacItem}

@@ -4,12 +4,12 @@ use Rattle.std.specs.Prelude.{◌↔◌}
 use Rattle.std.specs.List.{list_all}
 use Rattle.signctl_by_line.specs.LineByLine.{SpellsLine}
 use Rattle.signctl_by_line.proofs.LinesSaid as said
-use Rattle.signctl_format.specs.Bytes.{is_visible}
-use Rattle.signctl_format.specs.Words.{is_silent, words, line_of}
-use Rattle.signctl_format.specs.Steps.{first_word}
-use Rattle.signctl_format.proofs.Grammars.{named_silent, same_line}
-use Rattle.signctl_format.proofs.ReadingSteps.{bind_some, first_word_some}
-use Rattle.signctl_format.proofs.Spellings.{words_of_line, no_words, one_word}
+use Rattle.line_words.specs.Bytes.{is_visible}
+use Rattle.line_words.specs.Words.{is_silent, words, line_of}
+use Rattle.line_words.specs.Steps.{first_word}
+use Rattle.line_words.proofs.SameLines.{named_silent, same_line}
+use Rattle.line_words.proofs.ReadingSteps.{bind_some, first_word_some}
+use Rattle.line_words.proofs.VisibleLines.{words_of_line, no_words, one_word}
 use Rattle.signctl_by_line.specs.declared.hmac_item.HashCall.{HashCall}
 use Rattle.signctl_by_line.specs.declared.hmac_item.HashCall.TheVariants as of
 use Rattle.signctl_by_line.specs.declared.hmac_item.HmacItem.{HmacItem}

@@ -2,10 +2,10 @@
 use Rattle.std.proofs.Common.{◌≡◌, ℕ, true, false, not, List, ◌∷◌, Option, Some, None, Result, Ok, refl, sym, ap, ◌∙◌, inl, inr}
 use Rattle.std.specs.Prelude.{◌↔◌, IsTrue}
 use Rattle.std.proofs.lemmas.Bool.{not-true}
-use Rattle.signctl_format.specs.Words.{is_silent, words}
-use Rattle.signctl_format.specs.declared.line_error.LineError.{LineError}
-use Rattle.signctl_format.proofs.Grammars.{named_silent}
-use Rattle.signctl_format.proofs.ReadingSteps.{chosen}
+use Rattle.line_words.specs.Words.{is_silent, words}
+use Rattle.line_words.specs.declared.read_error.LineError.{LineError}
+use Rattle.line_words.proofs.SameLines.{named_silent}
+use Rattle.line_words.proofs.ReadingSteps.{chosen}
 use Rattle.signctl_by_line.specs.LineByLine.{understood, said_by, SpellsLine}
 
 -- a line reads as an item exactly where it spells it

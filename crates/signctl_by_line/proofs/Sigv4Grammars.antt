@@ -6,18 +6,17 @@ use Rattle.sigv4_core.specs.Credential.{Credential}
 use Rattle.sigv4_core.specs.Scope.{Scope}
 use Rattle.signctl_by_line.specs.LineByLine.{SpellsLine}
 use Rattle.signctl_by_line.proofs.LinesSaid as said
-use Rattle.signctl_format.specs.declared.script_version.ScriptVersion.TheVariants.{One}
-use Rattle.signctl_format.specs.Escapes.{value_word}
-use Rattle.signctl_format.specs.Heads.{head_words}
-use Rattle.signctl_format.specs.Moments.{moment_word}
-use Rattle.signctl_format.specs.Reading.{moment_at, head_in}
-use Rattle.signctl_format.specs.Steps.{◌>>=◌}
-use Rattle.signctl_format.specs.Words.{is_silent, line_of, words}
-use Rattle.signctl_format.proofs.Calls.{moment_at-word, moment_at-some}
-use Rattle.signctl_format.proofs.Grammars.{same_line}
-use Rattle.signctl_format.proofs.Headers.{head_in-words, head_in-some}
-use Rattle.signctl_format.proofs.ReadingSteps.{some_is, bind_some}
-use Rattle.signctl_format.proofs.Spellings.{words_of_line, one_word, visible_head, visible_moment}
+use Rattle.line_words.specs.declared.moment.ScriptVersion.TheVariants.{One}
+use Rattle.line_words.specs.Escapes.{value_word}
+use Rattle.line_words.specs.Heads.{head_words, head_in}
+use Rattle.line_words.specs.Moments.{moment_word, moment_at}
+use Rattle.line_words.specs.Steps.{◌>>=◌}
+use Rattle.line_words.specs.Words.{is_silent, line_of, words}
+use Rattle.line_words.proofs.Places.{moment_at-word, moment_at-some}
+use Rattle.line_words.proofs.SameLines.{same_line}
+use Rattle.line_words.proofs.Headers.{head_in-words, head_in-some}
+use Rattle.line_words.proofs.ReadingSteps.{some_is, bind_some}
+use Rattle.line_words.proofs.VisibleLines.{words_of_line, one_word, visible_head, visible_moment}
 use Rattle.signctl_by_line.specs.declared.form.Form.{Form}
 use Rattle.signctl_by_line.specs.declared.sigv4_item.Asked.{Asked}
 use Rattle.signctl_by_line.specs.declared.sigv4_item.Asked.TheVariants.{Sign, Presign, Verify}

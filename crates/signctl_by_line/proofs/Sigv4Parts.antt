@@ -8,16 +8,15 @@ use Rattle.std.proofs.lemmas.Bool.{and_parts, and_from, or_cases, eqb-true, leb-
 use Rattle.sigv4_core.specs.Credential.{Credential, is_credential}
 use Rattle.sigv4_core.specs.PayloadWord.{unsigned_payload, is_digest, is_lower_hex}
 use Rattle.sigv4_core.specs.Scope.{Scope, is_scope, is_scope_name, is_scope_byte}
-use Rattle.signctl_format.specs.Bytes.{is_byte, is_digit, is_visible}
-use Rattle.signctl_format.specs.Escapes.{is_plain, value_word, value_of}
-use Rattle.signctl_format.specs.Reading.{number_at}
-use Rattle.signctl_format.specs.Steps.{◌>>=◌, first_word}
-use Rattle.signctl_format.specs.Words.{greatest_u32}
-use Rattle.signctl_format.proofs.Calls.{number_at-decimal, number_at-some}
-use Rattle.signctl_format.proofs.ReadingSteps.{same_word, some_is, chosen, passed_test, bind_some, first_word_some}
-use Rattle.signctl_format.proofs.Spellings.{AreVisibleWords, is_visible_word, one_word, visible_escapes}
-use Rattle.signctl_format.proofs.Values.{value_of-word, value_of-some}
-use Rattle.signctl_format.proofs.VisibleWords.{all_wider, digit_visible, decimal_of_digits}
+use Rattle.line_words.specs.Bytes.{is_byte, is_digit, is_visible}
+use Rattle.line_words.specs.Escapes.{is_plain, value_word, value_of}
+use Rattle.line_words.specs.Steps.{number_at, ◌>>=◌, first_word}
+use Rattle.line_words.specs.Words.{greatest_u32}
+use Rattle.line_words.proofs.Places.{number_at-decimal, number_at-some}
+use Rattle.line_words.proofs.ReadingSteps.{same_word, some_is, chosen, passed_test, bind_some, first_word_some}
+use Rattle.line_words.proofs.VisibleLines.{AreVisibleWords, is_visible_word, one_word, visible_escapes}
+use Rattle.line_words.proofs.Values.{value_of-word, value_of-some}
+use Rattle.line_words.proofs.VisibleWords.{all_wider, digit_visible, decimal_of_digits}
 use Rattle.signctl_by_line.specs.declared.form.Form.{Form}
 use Rattle.signctl_by_line.specs.declared.form.Form.TheVariants as form
 use Rattle.signctl_by_line.specs.declared.sigv4_item.Asked.{Asked}

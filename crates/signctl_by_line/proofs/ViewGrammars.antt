@@ -4,11 +4,11 @@ use Rattle.std.specs.Prelude.{◌↔◌}
 use Rattle.sign_base.specs.declared.head.Head.{Head}
 use Rattle.signctl_by_line.specs.LineByLine.{SpellsLine}
 use Rattle.signctl_by_line.proofs.LinesSaid as said
-use Rattle.signctl_format.specs.Heads.{head_words}
-use Rattle.signctl_format.specs.Words.{line_of, words}
-use Rattle.signctl_format.proofs.Grammars.{same_line}
-use Rattle.signctl_format.proofs.Headers.{head_in-words, head_in-some}
-use Rattle.signctl_format.proofs.Spellings.{words_of_line, visible_head}
+use Rattle.line_words.specs.Heads.{head_words}
+use Rattle.line_words.specs.Words.{line_of, words}
+use Rattle.line_words.proofs.SameLines.{same_line}
+use Rattle.line_words.proofs.Headers.{head_in-words, head_in-some}
+use Rattle.line_words.proofs.VisibleLines.{words_of_line, visible_head}
 use Rattle.signctl_by_line.specs.ViewAnswers.{view_command}
 use Rattle.signctl_by_line.specs.ViewGrammar.{IsViewHead, SpellsView, head_of_line}
 

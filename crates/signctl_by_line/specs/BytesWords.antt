@@ -5,8 +5,8 @@ use Rattle.std.specs.List.{list_all}
 use Rattle.std.specs.Result.{result_ok}
 use Rattle.std.specs.Str.{bytes_eq}
 use Rattle.hex.specs.Hex.{encode_lower, decode_of}
-use Rattle.signctl_format.specs.Bytes.{dash, lower_a, hex_digit}
-use Rattle.signctl_format.specs.Words.{is_target}
+use Rattle.line_words.specs.Bytes.{dash, lower_a, hex_digit}
+use Rattle.line_words.specs.Words.{is_target}
 
 -- the word `-`
 abbrev pub dash_word : List ℕ

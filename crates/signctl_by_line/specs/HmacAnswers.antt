@@ -9,8 +9,8 @@ use Rattle.sha2.specs.Sha256.{sha256}
 use Rattle.hmac_core.specs.Hmac.{hmac_of}
 use Rattle.signctl_driver.specs.Command.{Command}
 use Rattle.signctl_by_line.specs.LineByLine.{line_by_line}
-use Rattle.signctl_format.specs.Lines.{with_newline}
-use Rattle.signctl_format.specs.declared.line_error.LineError.{LineError}
+use Rattle.line_words.specs.Words.{with_newline}
+use Rattle.line_words.specs.declared.read_error.LineError.{LineError}
 use Rattle.signctl_by_line.specs.declared.hmac_item.HmacItem.{HmacItem}
 use Rattle.signctl_by_line.specs.declared.hmac_item.HmacItem.TheVariants.{Unkeyed, Keyed, Base64Decode}
 use Rattle.signctl_by_line.specs.declared.hmac_item.KeyedCall.{KeyedCall}

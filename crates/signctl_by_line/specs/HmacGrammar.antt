@@ -1,8 +1,8 @@
 -- The grammar of the lines of `hmac`: the name of a call and its arguments.
 use Rattle.std.specs.Prelude.{◌≡◌, ◌≢◌, ℕ, List, [], ◌∷◌, IsTrue, codes}
 use Rattle.std.specs.List.{list_all}
-use Rattle.signctl_format.specs.Bytes.{is_byte, is_visible}
-use Rattle.signctl_format.specs.Words.{words}
+use Rattle.line_words.specs.Bytes.{is_byte, is_visible}
+use Rattle.line_words.specs.Words.{words}
 use Rattle.signctl_by_line.specs.declared.hmac_item.HashCall.{HashCall}
 use Rattle.signctl_by_line.specs.declared.hmac_item.HashCall.TheVariants as of
 use Rattle.signctl_by_line.specs.declared.hmac_item.HmacItem.{HmacItem}

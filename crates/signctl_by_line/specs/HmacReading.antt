@@ -1,8 +1,8 @@
 -- What a line of `hmac` says: its grammar as a function.
 use Rattle.std.specs.Prelude.{◌≡◌, ℕ, List, ◌∷◌, Option, Some, None, IsSome, if◌then◌else◌, codes}
 use Rattle.std.specs.Str.{bytes_eq}
-use Rattle.signctl_format.specs.Words.{words}
-use Rattle.signctl_format.specs.Steps.{◌>>=◌, first_word, at_end_of_line}
+use Rattle.line_words.specs.Words.{words}
+use Rattle.line_words.specs.Steps.{◌>>=◌, first_word, at_end_of_line}
 use Rattle.signctl_by_line.specs.declared.hmac_item.HashCall.{HashCall}
 use Rattle.signctl_by_line.specs.declared.hmac_item.HashCall.TheVariants as of
 use Rattle.signctl_by_line.specs.declared.hmac_item.HmacItem.{HmacItem}

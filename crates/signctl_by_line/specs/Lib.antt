@@ -8,6 +8,6 @@ pub mod ViewAnswers
 pub mod Sigv4Grammar
 pub mod Sigv4Reading
 pub mod Sigv4Answers
-pub use Rattle.signctl_format.specs.Heads
-pub use Rattle.signctl_format.specs.Readers
-pub use Rattle.signctl_format.specs.Words
+pub use Rattle.line_words.specs.Heads
+pub use Rattle.line_words.specs.Readers
+pub use Rattle.line_words.specs.Words

@@ -1,10 +1,10 @@
 -- Commands that answer each line by itself.
 use Rattle.std.specs.Prelude.{ℕ, not, List, [], Option, Some, None, Result, Ok, Err, IsTrue, if◌then◌else◌}
 use Rattle.signctl_driver.specs.Command.{Command}
-use Rattle.signctl_format.specs.Lines.{line_error_text}
-use Rattle.signctl_format.specs.Words.{is_silent}
-use Rattle.signctl_format.specs.declared.line_error.LineError.{LineError}
-use Rattle.signctl_format.specs.declared.line_error.LineError.TheVariants.{NotUnderstood}
+use Rattle.line_words.specs.LineErrors.{line_error_text}
+use Rattle.line_words.specs.Words.{is_silent}
+use Rattle.line_words.specs.declared.read_error.LineError.{LineError}
+use Rattle.line_words.specs.declared.read_error.LineError.TheVariants.{NotUnderstood}
 
 -- the item that a line spells, or that the line is not understood
 abbrev pub understood : {Item : Type 0} → Option Item → Result (Option Item) LineError

@@ -13,10 +13,9 @@ use Rattle.sigv4_presign.specs.declared.presign_error.PresignError.{PresignError
 use Rattle.sigv4_presign.specs.declared.presign_error.PresignError.TheVariants as presign
 use Rattle.signctl_driver.specs.Command.{Command}
 use Rattle.signctl_by_line.specs.LineByLine.{line_by_line}
-use Rattle.signctl_format.specs.Heads.{head_words}
-use Rattle.signctl_format.specs.Lines.{with_newline}
-use Rattle.signctl_format.specs.Words.{line_of}
-use Rattle.signctl_format.specs.declared.line_error.LineError.{LineError}
+use Rattle.line_words.specs.Heads.{head_words}
+use Rattle.line_words.specs.Words.{with_newline, line_of}
+use Rattle.line_words.specs.declared.read_error.LineError.{LineError}
 use Rattle.signctl_by_line.specs.declared.sigv4_item.Asked.{Asked}
 use Rattle.signctl_by_line.specs.declared.sigv4_item.Asked.TheVariants.{Sign, Presign, Verify}
 use Rattle.signctl_by_line.specs.declared.sigv4_item.Sigv4Item.{Sigv4Item}

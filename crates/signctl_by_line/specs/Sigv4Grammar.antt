@@ -5,12 +5,12 @@ use Rattle.std.specs.Str.{bytes_eq}
 use Rattle.sigv4_core.specs.Credential.{Credential, is_credential}
 use Rattle.sigv4_core.specs.PayloadWord.{unsigned_payload, is_digest}
 use Rattle.sigv4_core.specs.Scope.{is_scope}
-use Rattle.signctl_format.specs.declared.script_version.ScriptVersion.TheVariants.{One}
-use Rattle.signctl_format.specs.Bytes.{is_byte}
-use Rattle.signctl_format.specs.Words.{words, greatest_u32}
-use Rattle.signctl_format.specs.Escapes.{value_word}
-use Rattle.signctl_format.specs.Heads.{head_words, IsLineHead}
-use Rattle.signctl_format.specs.Moments.{moment_word, IsLineMoment}
+use Rattle.line_words.specs.declared.moment.ScriptVersion.TheVariants.{One}
+use Rattle.line_words.specs.Bytes.{is_byte}
+use Rattle.line_words.specs.Words.{words, greatest_u32}
+use Rattle.line_words.specs.Escapes.{value_word}
+use Rattle.line_words.specs.Heads.{head_words, IsLineHead}
+use Rattle.line_words.specs.Moments.{moment_word, IsLineMoment}
 use Rattle.signctl_by_line.specs.declared.sigv4_item.Asked.{Asked}
 use Rattle.signctl_by_line.specs.declared.sigv4_item.Asked.TheVariants.{Sign, Presign, Verify}
 use Rattle.signctl_by_line.specs.declared.sigv4_item.Sigv4Item.{Sigv4Item}

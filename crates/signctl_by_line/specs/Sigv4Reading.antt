@@ -3,11 +3,12 @@ use Rattle.std.specs.Prelude.{◌≡◌, ℕ, List, [], ◌∷◌, Option, Some,
 use Rattle.std.specs.Str.{bytes_eq}
 use Rattle.sigv4_core.specs.Credential.{Credential, is_credential}
 use Rattle.sigv4_core.specs.Scope.{Scope, is_scope}
-use Rattle.signctl_format.specs.declared.script_version.ScriptVersion.TheVariants.{One}
-use Rattle.signctl_format.specs.Words.{words, greatest_u32}
-use Rattle.signctl_format.specs.Steps.{◌>>=◌, first_word}
-use Rattle.signctl_format.specs.Escapes.{value_of}
-use Rattle.signctl_format.specs.Reading.{number_at, moment_at, head_in}
+use Rattle.line_words.specs.declared.moment.ScriptVersion.TheVariants.{One}
+use Rattle.line_words.specs.Words.{words, greatest_u32}
+use Rattle.line_words.specs.Steps.{◌>>=◌, first_word, number_at}
+use Rattle.line_words.specs.Escapes.{value_of}
+use Rattle.line_words.specs.Moments.{moment_at}
+use Rattle.line_words.specs.Heads.{head_in}
 use Rattle.signctl_by_line.specs.declared.form.Form.{Form}
 use Rattle.signctl_by_line.specs.declared.form.Form.TheVariants as form
 use Rattle.signctl_by_line.specs.declared.sigv4_item.Asked.{Asked}

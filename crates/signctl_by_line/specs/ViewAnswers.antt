@@ -7,11 +7,10 @@ use Rattle.sign_request.specs.declared.head_view.ViewRefusal.TheVariants as refu
 use Rattle.sign_base.specs.declared.head.Head.{Head}
 use Rattle.signctl_driver.specs.Command.{Command}
 use Rattle.signctl_by_line.specs.LineByLine.{line_by_line}
-use Rattle.signctl_format.specs.Bytes.{space, equals_sign}
-use Rattle.signctl_format.specs.Escapes.{with_escapes, is_plain, is_pair_plain}
-use Rattle.signctl_format.specs.Lines.{with_newline}
-use Rattle.signctl_format.specs.Words.{line_of}
-use Rattle.signctl_format.specs.declared.line_error.LineError.{LineError}
+use Rattle.line_words.specs.Bytes.{space, equals_sign}
+use Rattle.line_words.specs.Escapes.{with_escapes, is_plain, is_pair_plain}
+use Rattle.line_words.specs.Words.{with_newline, line_of}
+use Rattle.line_words.specs.declared.read_error.LineError.{LineError}
 use Rattle.signctl_by_line.specs.ViewGrammar.{head_of_line}
 
 -- a name, and a text after one space

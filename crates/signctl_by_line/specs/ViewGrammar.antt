@@ -1,9 +1,8 @@
 -- The grammar of the lines of `view`: a request head, as in scripts.
 use Rattle.std.specs.Prelude.{◌≡◌, ℕ, not, List, Option, IsTrue}
 use Rattle.sign_base.specs.declared.head.Head.{Head}
-use Rattle.signctl_format.specs.Words.{is_silent, words}
-use Rattle.signctl_format.specs.Heads.{head_words, IsLineHead}
-use Rattle.signctl_format.specs.Reading.{head_in}
+use Rattle.line_words.specs.Words.{is_silent, words}
+use Rattle.line_words.specs.Heads.{head_words, IsLineHead, head_in}
 
 -- a head that a line may name. Its method does not begin with `#`, as a line would that says nothing
 abbrev pub IsViewHead : Head → Type 0

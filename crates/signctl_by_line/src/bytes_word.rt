@@ -2,17 +2,17 @@
 ghost use Rattle.std.specs.Prelude.{◌≡◌, ◌*◌, ◌≤◌, ◌∷◌, ℕ, length, IsTrue, Some, Ok};
 ghost use Rattle.std.specs.List.{list_all};
 ghost use Rattle.hex.specs.Hex.{decode_of, hex_digit_value, pair_value};
-ghost use Rattle.signctl_format.specs.Readers.{Gives};
+ghost use Rattle.line_words.specs.Readers.{Gives};
 ghost use Rattle.signctl_by_line.specs.BytesWords.{is_lower_hex, bytes_of, text_of};
 
+use line_words::ReadError;
+use line_words::head::is_target;
 use sign_base::Octets;
-use signctl_format::head::is_target;
-use signctl_format::read_error::ReadError;
 use std::alloc::Global;
 
 /// The bytes that a word spells in lower-case hexadecimal. Their room is taken once.
 #[tactic(auto, unfolding(crate::specs::BytesWords::bytes_of))]
-pub(crate) fn bytes(alloc: Global, word: &[u8]) -> Result<Octets, ReadError>
+pub(crate) fn parse_bytes(alloc: Global, word: &[u8]) -> Result<Octets, ReadError>
     ensures { Gives (λ o. o) result (bytes_of word.now) }
 {
     if word == b"-".as_slice() {
@@ -78,7 +78,7 @@ fn nibble(b: u8) -> u8
 
 /// The text of visible bytes that a word spells.
 #[tactic(auto, unfolding(crate::specs::BytesWords::text_of))]
-pub(crate) fn text(alloc: Global, word: &[u8]) -> Result<Octets, ReadError>
+pub(crate) fn parse_text(alloc: Global, word: &[u8]) -> Result<Octets, ReadError>
     ensures { Gives (λ o. o) result (text_of word.now) }
 {
     if word == b"-".as_slice() {

@@ -1,9 +1,9 @@
 //! What a command is asked that answers each line by itself.
 ghost use Rattle.std.specs.Prelude.{◌≡◌, ◌++◌, ℕ, List, Option, Some, OnOk};
-ghost use Rattle.signctl_format.specs.Readers.{Gives};
+ghost use Rattle.line_words.specs.Readers.{Gives};
 
+use line_words::ReadError;
 use sign_base::NoMemory;
-use signctl_format::ReadError;
 use std::alloc::Global;
 
 /// A command that answers each line by itself. It is asked only for lines that say something.

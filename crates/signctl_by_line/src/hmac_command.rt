@@ -4,8 +4,8 @@ ghost use Rattle.signctl_by_line.specs.HmacAnswers.{hmac_answer};
 
 use crate::hmac_answer::push_answer;
 use crate::{EachLine, HmacItem, read_hmac_line};
+use line_words::ReadError;
 use sign_base::NoMemory;
-use signctl_format::ReadError;
 use std::alloc::Global;
 
 /// The command `hmac`.

@@ -2,8 +2,8 @@
 ghost use Rattle.std.specs.Prelude.{◌≡◌, ◌↔◌, ℕ, List, Option, Some, Ok};
 ghost use Rattle.sign_base.specs.declared.head.Head.{Head};
 ghost use Rattle.signctl_by_line.specs.LineByLine.{SpellsLine};
-ghost use Rattle.signctl_format.specs.Heads.{head_words};
-ghost use Rattle.signctl_format.specs.Words.{line_of};
+ghost use Rattle.line_words.specs.Heads.{head_words};
+ghost use Rattle.line_words.specs.Words.{line_of};
 ghost use Rattle.signctl_by_line.specs.declared.hmac_item.HmacItem.{HmacItem};
 ghost use Rattle.signctl_by_line.specs.HmacGrammar.{SpellsHmac, IsHmacItem, hmac_words};
 ghost use Rattle.signctl_by_line.specs.HmacAnswers.{hmac_command};

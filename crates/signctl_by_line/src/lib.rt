@@ -3,9 +3,9 @@
 //! links and checks them.
 //!
 //! Such a command is an item type, how a line reads as an item, and the answer to an item (`EachLine`). The
-//! lines that say nothing are known here: each is counted, and is an item of no grammar. The grammars stand in
-//! specs/: `SpellsHmac`, `SpellsView` and `SpellsSigv4` say which lines spell an item. No form of an item of
-//! `sigv4`, and no line that is printed, shows a secret.
+//! lines that say nothing are known here: each is counted, and is an item of no grammar. The grammars stand
+//! in specs/: `SpellsHmac`, `SpellsView` and `SpellsSigv4` say which lines spell an item. No form of an item
+//! of `sigv4`, and no line that is printed, shows a secret.
 #![tactic(auto)]
 
 mod bytes_word;

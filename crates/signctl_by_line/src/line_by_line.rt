@@ -1,13 +1,13 @@
 //! The command over lines that a command makes which answers each line by itself.
 ghost use Rattle.std.specs.Prelude.{◌≡◌, false, List, Option, OnErr, IfOk};
-ghost use Rattle.signctl_format.specs.Words.{is_silent};
+ghost use Rattle.line_words.specs.Words.{is_silent};
 ghost use Rattle.signctl_by_line.specs.LineByLine.{line_by_line};
 
 use crate::EachLine;
+use line_words::word::is_silent;
+use line_words::{LineError, ReadError};
 use sign_base::NoMemory;
 use signctl_driver::LineCommand;
-use signctl_format::word::is_silent;
-use signctl_format::{LineError, ReadError};
 use std::alloc::Global;
 
 /// A command that answers each line by itself, as a command over lines. It keeps nothing of the lines so far.

@@ -1,16 +1,18 @@
-//! Reading a line of `sigv4`, word by word. What its words say is taken as the types of `sigv4_core` take it.
+//! Reading a line of `sigv4`, word by word. The types of `sigv4_core` say which of its words are good.
 ghost use Rattle.std.specs.Prelude.{◌≡◌, IfOk};
 ghost use Rattle.sign_base.specs.declared.error_kind.ErrorKind.TheVariants as kind;
-ghost use Rattle.signctl_format.specs.Readers.{words_after, Gives, NeedsMemory};
-ghost use Rattle.signctl_by_line.specs.Sigv4Reading.{NamesForm, credential_of, credential_at, scope_of, scope_at, payload_of, asked_at, item_form, sigv4_item_of};
+ghost use Rattle.line_words.specs.Readers.{words_after, Gives, NeedsMemory};
+ghost use Rattle.signctl_by_line.specs.Sigv4Reading.{NamesForm, credential_of, credential_at, scope_of};
+ghost use Rattle.signctl_by_line.specs.Sigv4Reading.{scope_at, payload_of, asked_at, item_form};
+ghost use Rattle.signctl_by_line.specs.Sigv4Reading.{sigv4_item_of};
 
 use crate::form::{Form, form_named};
 use crate::sigv4_item::{Asked, Sigv4Item};
+use line_words::head::{parse_head, parse_value};
+use line_words::moment::parse_moment;
+use line_words::word::{split_word, u32_at, word_at};
+use line_words::{ReadError, ScriptVersion};
 use sign_base::{Error, ErrorKind};
-use signctl_format::head::{head, value};
-use signctl_format::moment::moment;
-use signctl_format::word::{split_word, u32_at, word_at};
-use signctl_format::{ReadError, ScriptVersion};
 use sigv4_core::{Payload, SigCredential, SigScope};
 use std::alloc::Global;
 
@@ -25,22 +27,22 @@ pub fn read_sigv4_line(alloc: Global, line: &[u8]) -> Result<Sigv4Item, ReadErro
 {
     let (name, rest) = split_word(line);
     match form_named(name) {
-        Some(form) => item(alloc, form, rest),
+        Some(form) => parse_item(alloc, form, rest),
         None => Err(ReadError::NotUnderstood),
     }
 }
 
 /// The item of a line of this form, by the words after its name.
-#[tactic(auto, unfolding(crate::specs::Sigv4Reading::item_form, signctl_format::specs::Reading::moment_at))]
-fn item(alloc: Global, form: Form, rest: &[u8]) -> Result<Sigv4Item, ReadError>
+#[tactic(auto, unfolding(crate::specs::Sigv4Reading::item_form, line_words::specs::Moments::moment_at))]
+fn parse_item(alloc: Global, form: Form, rest: &[u8]) -> Result<Sigv4Item, ReadError>
     ensures { Gives (λ i. i) result (item_form form (words_after rest.now)) }
 {
     let (credential, rest) = credential_at(alloc, rest)?;
     let (scope, rest) = scope_at(alloc, rest)?;
     let (word, rest) = word_at(rest)?;
-    let moment = moment(ScriptVersion::One, word)?;
+    let moment = parse_moment(ScriptVersion::One, word)?;
     let (asked, rest) = asked_at(alloc, form, rest)?;
-    let head = head(alloc, rest)?;
+    let head = parse_head(alloc, rest)?;
     Ok(Sigv4Item {
         credential,
         scope,
@@ -58,7 +60,7 @@ fn asked_at(alloc: Global, form: Form, rest: &[u8]) -> Result<(Asked, &[u8]), Re
     match form {
         Form::Sign => {
             let (word, rest) = word_at(rest)?;
-            Ok((Asked::Sign(payload(alloc, word)?), rest))
+            Ok((Asked::Sign(parse_payload(alloc, word)?), rest))
         }
         Form::Presign => {
             let (seconds, rest) = u32_at(rest)?;
@@ -75,11 +77,11 @@ fn credential_at(alloc: Global, rest: &[u8]) -> Result<(SigCredential, &[u8]), R
 {
     let (access, rest) = word_at(rest)?;
     let (word, rest) = word_at(rest)?;
-    let secret = value(alloc, word)?;
-    Ok((credential(alloc, access, secret.as_slice())?, rest))
+    let secret = parse_value(alloc, word)?;
+    Ok((parse_credential(alloc, access, secret.as_slice())?, rest))
 }
 
-fn credential(alloc: Global, access: &[u8], secret: &[u8]) -> Result<SigCredential, ReadError>
+fn parse_credential(alloc: Global, access: &[u8], secret: &[u8]) -> Result<SigCredential, ReadError>
     ensures { Gives (λ c. c) result (credential_of access.now secret.now) }
 {
     match SigCredential::new(alloc, access, secret, None) {
@@ -95,10 +97,10 @@ fn scope_at(alloc: Global, rest: &[u8]) -> Result<(SigScope, &[u8]), ReadError>
 {
     let (region, rest) = word_at(rest)?;
     let (service, rest) = word_at(rest)?;
-    Ok((scope(alloc, region, service)?, rest))
+    Ok((parse_scope(alloc, region, service)?, rest))
 }
 
-fn scope(alloc: Global, region: &[u8], service: &[u8]) -> Result<SigScope, ReadError>
+fn parse_scope(alloc: Global, region: &[u8], service: &[u8]) -> Result<SigScope, ReadError>
     ensures { Gives (λ s. s) result (scope_of region.now service.now) }
 {
     match SigScope::new(alloc, region, service) {
@@ -108,7 +110,7 @@ fn scope(alloc: Global, region: &[u8], service: &[u8]) -> Result<SigScope, ReadE
 }
 
 /// The payload that a word names: `UNSIGNED-PAYLOAD`, or by its digest.
-fn payload(alloc: Global, word: &[u8]) -> Result<Payload, ReadError>
+fn parse_payload(alloc: Global, word: &[u8]) -> Result<Payload, ReadError>
     ensures { Gives (λ p. p) result (payload_of word.now) }
 {
     if word == b"UNSIGNED-PAYLOAD".as_slice() {

@@ -1,14 +1,15 @@
 //! The answer to a line of `sigv4`, added at the end of a text. Where an allocation fails, a part of it may
 //! stand there.
 ghost use Rattle.std.specs.Prelude.{◌≡◌, ◌++◌, OnOk, IsErr, Err};
-ghost use Rattle.signctl_format.specs.Lines.{with_newline};
-ghost use Rattle.signctl_by_line.specs.Sigv4Answers.{done_line, signing_line, presigning_line, checked_word, sigv4_answer};
+ghost use Rattle.line_words.specs.Words.{with_newline};
+ghost use Rattle.signctl_by_line.specs.Sigv4Answers.{done_line, signing_line, presigning_line, checked_word};
+ghost use Rattle.signctl_by_line.specs.Sigv4Answers.{sigv4_answer};
 
 use crate::sigv4_item::{Asked, Sigv4Item};
+use line_words::head_text::push_head;
+use line_words::text::push;
 use sign_base::{Head, NoMemory};
 use sign_request::HeaderSeeds;
-use signctl_format::head_text::push_head;
-use signctl_format::text::push;
 use sigv4_core::{SigError, sign_head_seeded};
 use sigv4_presign::{Checked, PresignError, presign_seeded, verify_seeded};
 use std::alloc::Global;

@@ -4,9 +4,9 @@ ghost use Rattle.signctl_by_line.specs.Sigv4Answers.{sigv4_answer};
 
 use crate::sigv4_answer::push_answer;
 use crate::{EachLine, Sigv4Item, read_sigv4_line};
+use line_words::ReadError;
 use sign_base::NoMemory;
 use sign_request::HeaderSeeds;
-use signctl_format::ReadError;
 use std::alloc::Global;
 
 /// The command `sigv4`. The names of headers come from outside, so it hands these keys on, for the map that a

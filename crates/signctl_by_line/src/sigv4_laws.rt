@@ -1,7 +1,7 @@
 //! Laws of the grammar of `sigv4`: each is the contract of a call that does nothing.
 ghost use Rattle.std.specs.Prelude.{◌≡◌, ◌↔◌, ℕ, List, Option, Some, Ok};
 ghost use Rattle.signctl_by_line.specs.LineByLine.{SpellsLine};
-ghost use Rattle.signctl_format.specs.Words.{line_of};
+ghost use Rattle.line_words.specs.Words.{line_of};
 ghost use Rattle.signctl_by_line.specs.declared.sigv4_item.Sigv4Item.{Sigv4Item};
 ghost use Rattle.signctl_by_line.specs.Sigv4Grammar.{SpellsSigv4, IsSigv4Item, sigv4_words};
 ghost use Rattle.signctl_by_line.specs.Sigv4Answers.{sigv4_command};

@@ -3,16 +3,15 @@
 ghost use Rattle.std.specs.Prelude.{◌≡◌, ◌++◌, ◌∷◌, [], OnOk, codes, decimal, map, flat_map};
 ghost use Rattle.sign_request.specs.PlainView.{view_query};
 ghost use Rattle.sign_request.specs.Query.{text_pair, text_pairs};
-ghost use Rattle.signctl_format.specs.Lines.{with_newline};
-ghost use Rattle.signctl_format.specs.Words.{spaced_words, line_of};
+ghost use Rattle.line_words.specs.Words.{with_newline, spaced_words, line_of};
 ghost use Rattle.signctl_by_line.specs.ViewAnswers.{named_line, target_lines, pair_word, pair_line};
 ghost use Rattle.signctl_by_line.specs.ViewAnswers.{query_words, summary_lines, view_lines, refusal_line};
 ghost use Rattle.signctl_by_line.specs.ViewAnswers.{view_answer};
 
+use line_words::escape::{Escaping, push_escaped};
+use line_words::text::{push, push_number, push_word};
 use sign_base::{Head, NoMemory};
 use sign_request::{HeadView, HeaderSeeds, ViewRefusal};
-use signctl_format::escape::{Escaping, push_escaped};
-use signctl_format::text::{push, push_number, push_word};
 use std::alloc::Global;
 
 /// Adds the answer to a head.

@@ -4,10 +4,10 @@ ghost use Rattle.signctl_by_line.specs.ViewAnswers.{view_answer};
 
 use crate::EachLine;
 use crate::view_answer::push_answer;
+use line_words::ReadError;
+use line_words::head::parse_head_line;
 use sign_base::{Head, NoMemory};
 use sign_request::HeaderSeeds;
-use signctl_format::ReadError;
-use signctl_format::head::head_line;
 use std::alloc::Global;
 
 /// The command `view`. The names of headers come from outside, so the maps that are made of them have these
@@ -25,7 +25,7 @@ impl EachLine for ViewCommand {
     ghost answer_to = { view_answer };
 
     fn read(alloc: Global, line: &[u8]) -> Result<Head, ReadError> {
-        head_line(alloc, line)
+        parse_head_line(alloc, line)
     }
 
     fn answer(&self, alloc: Global, head: &Head, text: &mut Vec<u8>) -> Result<(), NoMemory<()>> {

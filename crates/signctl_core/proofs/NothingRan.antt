@@ -18,7 +18,8 @@ nothing-appended (Some bytes) = sym (append-nil bytes)
 pub not-started : {Item Cause S D : Type 0} (command : Command Item Cause) (left : S → Option (List ℕ))
     (holds : D → Option (List ℕ))
     (source_faults : S → ℕ) (sink_faults : D → ℕ) (source : S) (sink : D)
-    → RunsOver command OutOfMemory (record { holds = left; faults = source_faults; old = source; new = source })
+    → RunsOver command OutOfMemory
+    (record { holds = left; faults = source_faults; old = source; new = source })
     (record { holds = holds; faults = sink_faults; old = sink; new = sink })
 not-started command left holds _ _ source sink =
     ([], [], nothing-consumed (left source), omega arith, nothing-appended (holds sink), inl refl)

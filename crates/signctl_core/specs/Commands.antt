@@ -12,7 +12,7 @@ use Rattle.signctl_driver.specs.Status.{is_read_fault, is_write_fault}
 use Rattle.signctl_driver.specs.Streams.{Stream, Adds}
 use Rattle.signctl_driver.specs.declared.status.Status.{Status}
 use Rattle.signctl_driver.specs.declared.status.Status.TheVariants.{Usage}
-use Rattle.signctl_format.specs.Words.{number_of}
+use Rattle.line_words.specs.Words.{number_of}
 use Rattle.signctl_grant.specs.GrantOutput.{grant_command}
 use Rattle.signctl_by_line.specs.HmacAnswers.{hmac_command}
 use Rattle.signctl_by_line.specs.ViewAnswers.{view_command}

@@ -6,13 +6,13 @@ ghost use Rattle.signctl_driver.specs.Status.{is_read_fault, is_write_fault};
 ghost use Rattle.signctl_core.specs.Commands.{command_by_word, command_by_number, command_named, RunsOver};
 ghost use Rattle.signctl_core.specs.Commands.{Runs, IsRun};
 
+use line_words::word::parse_number;
 use sign_base::NoMemory;
 use sign_io::{Sink, Source};
 use sign_request::HeaderSeeds;
 use signctl_audit::AuditSession;
 use signctl_by_line::{HmacCommand, LineByLine, Sigv4Command, ViewCommand};
 use signctl_driver::{LineCommand, Status, drive};
-use signctl_format::word::number;
 use signctl_grant::GrantSession;
 use signctl_load::run_load;
 use signctl_script::Session;
@@ -91,7 +91,7 @@ fn command_by_number(word: &str, text: &str) -> Option<CommandName>
     if word != "load" {
         return None;
     }
-    let calls = number(MOST_CALLS, text.as_bytes()).ok()?;
+    let calls = parse_number(MOST_CALLS, text.as_bytes()).ok()?;
     Some(CommandName::Load(calls))
 }
 

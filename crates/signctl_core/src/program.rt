@@ -12,7 +12,7 @@ use crate::commands::run;
 use sign_io::{Sink, Source};
 use sign_request::HeaderSeeds;
 use signctl_driver::output::write_all;
-use signctl_driver::reason::{after_name, report};
+use signctl_driver::status::{after_name, report};
 use signctl_driver::{Status, usage_line};
 use std::alloc::Global;
 

@@ -1,7 +1,8 @@
 -- What standard error says of how a run ended.
 use Rattle.std.specs.Prelude.{ℕ, List, [], codes}
 use Rattle.signctl_driver.specs.declared.status.Status.{Status}
-use Rattle.signctl_driver.specs.declared.status.Status.TheVariants.{Done, Usage, Refused, ReadFault, WriteFault, OutOfMemory}
+use Rattle.signctl_driver.specs.declared.status.Status.TheVariants.{Done, Usage, Refused, ReadFault}
+use Rattle.signctl_driver.specs.declared.status.Status.TheVariants.{WriteFault, OutOfMemory}
 
 -- the usage line
 abbrev pub usage_line : List ℕ

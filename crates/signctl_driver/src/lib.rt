@@ -5,12 +5,10 @@ pub mod command;
 pub mod driver;
 pub mod laws;
 pub mod output;
-mod printing;
-pub mod reason;
 mod service;
 pub mod status;
 
 pub use command::LineCommand;
 pub use driver::drive;
-pub use printing::end_line;
+pub use output::end_line;
 pub use status::Status;

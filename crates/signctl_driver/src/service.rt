@@ -13,8 +13,7 @@ ghost use Rattle.sign_io.specs.Next.{answer_of};
 ghost use Rattle.signctl_driver.specs.Status.{is_write_fault, FinishesBy};
 
 use crate::command::LineCommand;
-use crate::output::write_all;
-use crate::printing::{begin_bad_line, end_line, push_too_much};
+use crate::output::{begin_bad_line, end_line, push_too_much, write_all};
 use crate::status::Status;
 use sign_base::NoMemory;
 use sign_io::{Failed, Next, Sink};

@@ -12,22 +12,23 @@ use Rattle.sequential_signer.specs.declared.event.Event.TheVariants.{Begin, Poll
 use Rattle.sequential_signer.specs.declared.event.Loader.TheVariants.{Single, Chain}
 use Rattle.sequential_signer.specs.declared.event.Verdict.TheVariants.{Accepted}
 use Rattle.sequential_signer.specs.declared.event.Verdict.TheVariants as verdict
+use Rattle.line_words.specs.declared.moment.ScriptVersion.{ScriptVersion}
+use Rattle.line_words.specs.Words.{words, greatest_u32, greatest_u64}
+use Rattle.line_words.specs.Moments.{moment_word, IsLineMoment, duration_word, IsLineDuration, duration_of, moment_at}
+use Rattle.line_words.specs.Heads.{head_words, IsLineHead, head_in}
+use Rattle.line_words.specs.Steps.{◌>>=◌, first_word, at_end_of_line, number_at}
+use Rattle.line_words.proofs.ReadingSteps.{same_word, some_is, chosen, passed_test, bind_some, first_word_some, ended_some}
+use Rattle.line_words.proofs.Seconds.{duration_of-word, duration_of-some}
+use Rattle.line_words.proofs.Headers.{head_in-words, head_in-some}
+use Rattle.line_words.proofs.Places.{number_at-decimal, number_at-some, moment_at-word, moment_at-some}
 use Rattle.signctl_format.specs.declared.credential.ScriptCredential.{ScriptCredential}
 use Rattle.signctl_format.specs.declared.credential.ScriptRule.{ScriptRule}
 use Rattle.signctl_format.specs.declared.item.Item.TheVariants.{Cache, Handle, Event}
-use Rattle.signctl_format.specs.declared.script_version.ScriptVersion.{ScriptVersion}
 use Rattle.signctl_format.specs.ScriptEvents.{ScriptItem}
-use Rattle.signctl_format.specs.Words.{words, greatest_u32, greatest_u64}
-use Rattle.signctl_format.specs.Moments.{moment_word, IsLineMoment, duration_word, IsLineDuration, duration_of}
-use Rattle.signctl_format.specs.Heads.{head_words, IsLineHead}
 use Rattle.signctl_format.specs.Lines.{call_words, credential_words}
 use Rattle.signctl_format.specs.Grammar.{IsLineCall, IsLineCredential, rule_word, Spells}
-use Rattle.signctl_format.specs.Steps.{◌>>=◌, first_word, at_end_of_line}
-use Rattle.signctl_format.specs.Reading.{number_at, moment_at, rule_in, call_at, credential_in, head_in, chain_form, cache_form, handle_form, begin_form, poll_form, found_form, missing_form, failed_form, accept_form, reject_form, cancel_form}
-use Rattle.signctl_format.proofs.ReadingSteps.{same_word, some_is, chosen, passed_test, bind_some, first_word_some, ended_some}
-use Rattle.signctl_format.proofs.Seconds.{duration_of-word, duration_of-some}
-use Rattle.signctl_format.proofs.Headers.{head_in-words, head_in-some}
-use Rattle.signctl_format.proofs.Calls.{number_at-decimal, number_at-some, moment_at-word, moment_at-some, call_at-words, call_at-some, credential_in-words, credential_in-some, rule_in-word, rule_in-some}
+use Rattle.signctl_format.specs.Reading.{rule_in, call_at, credential_in, chain_form, cache_form, handle_form, begin_form, poll_form, found_form, missing_form, failed_form, accept_form, reject_form, cancel_form}
+use Rattle.signctl_format.proofs.Calls.{call_at-words, call_at-some, credential_in-words, credential_in-some, rule_in-word, rule_in-some}
 
 -- the line has this name and these words after it
 abbrev pub Has : List ℕ → List ℕ → List (List ℕ) → Type 0

@@ -1,26 +1,21 @@
 -- The grammar is decided: a line reads as the one item that it spells.
-use Rattle.std.proofs.Common.{◌≡◌, ◌≢◌, ℕ, Bool, true, false, List, [], ◌∷◌, Some, refl, sym, ap, subst, ◌∙◌, inl, inr, drop, take}
+use Rattle.std.proofs.Common.{◌≡◌, ◌≢◌, ℕ, false, List, [], ◌∷◌, Some, refl, sym, ap, subst, ◌∙◌, inl, inr}
 use Rattle.std.specs.Prelude.{codes, ◌↔◌}
 use Rattle.std.specs.Str.{bytes_eq}
-use Rattle.std.specs.List.{position_or_len, join_with_byte}
-use Rattle.std.proofs.lemmas.Bool.{eqb-true}
-use Rattle.std.proofs.lemmas.List.Splits.{join_with_byte-slice_split}
 use Rattle.sequential_signer.specs.declared.event.Answer.TheVariants.{Found, Missing}
 use Rattle.sequential_signer.specs.declared.event.Answer.TheVariants as answer
 use Rattle.sequential_signer.specs.declared.event.Event.TheVariants.{Begin, Poll, Provided, Signed, Cancel}
 use Rattle.sequential_signer.specs.declared.event.Loader.TheVariants.{Single, Chain}
 use Rattle.sequential_signer.specs.declared.event.Verdict.TheVariants.{Accepted}
 use Rattle.sequential_signer.specs.declared.event.Verdict.TheVariants as verdict
+use Rattle.line_words.specs.declared.moment.ScriptVersion.{ScriptVersion}
+use Rattle.line_words.specs.Words.{is_silent, words}
+use Rattle.line_words.proofs.ReadingSteps.{same_word, some_is, chosen, passed_test}
+use Rattle.line_words.proofs.SameLines.{named_silent, same_line}
 use Rattle.signctl_format.specs.declared.item.Item.TheVariants.{Silent, Cache, Handle, Event}
-use Rattle.signctl_format.specs.declared.script_version.ScriptVersion.{ScriptVersion}
 use Rattle.signctl_format.specs.ScriptEvents.{ScriptItem}
-use Rattle.signctl_format.specs.Bytes.{space, hash_sign}
-use Rattle.signctl_format.specs.Words.{is_silent, is_space, words}
 use Rattle.signctl_format.specs.Grammar.{Spells}
 use Rattle.signctl_format.specs.Reading.{cache_form, handle_form, begin_form, poll_form, found_form, missing_form, failed_form, accept_form, reject_form, cancel_form, item_form, words_say, item_of}
-use Rattle.signctl_format.specs.Readers.{words_after}
-use Rattle.signctl_format.proofs.ReadingSteps.{same_word, some_is, chosen, passed_test}
-use Rattle.signctl_format.proofs.WordList.{words_split}
 use Rattle.signctl_format.proofs.Forms.{Has, chain_form-words, cache_form-some, handle_form-words, handle_form-some, begin_form-words, begin_form-some, poll_form-words, poll_form-some, found_form-words, found_form-some, missing_form-words, missing_form-some, failed_form-words, failed_form-some, accept_form-words, accept_form-some, reject_form-words, reject_form-some, cancel_form-words, cancel_form-some}
 
 -- ---- what reads as an item spells it
@@ -76,29 +71,6 @@ item_of-some version line item e = elim (chosen (is_silent line) (Some Silent) (
 
 -- ---- what spells an item reads as it
 
-after_hash : (text : List ℕ)
-    → words (hash_sign ∷ text)
-    ≡ (hash_sign ∷ take (position_or_len is_space text) text)
-    ∷ words_after (drop (position_or_len is_space text) text)
-after_hash text = rw (words_split text) refl
-
-hash_name : (text name : List ℕ) (rest : List (List ℕ)) → words (hash_sign ∷ text) ≡ name ∷ rest
-    → is_silent name ≡ true
-hash_name text name rest parted =
-    let same : hash_sign ∷ take (position_or_len is_space text) text ≡ name = cc (after_hash text, parted) in
-    subst (λ (w : List ℕ). is_silent w ≡ true) same refl
-
--- the first word of a silent line is empty or begins with `#`
-pub named_silent : (line name : List ℕ) (rest : List (List ℕ)) (silent : Bool) → words line ≡ name ∷ rest
-    → is_silent name ≡ false → is_silent line ≡ silent → silent ≡ false
-named_silent line name rest false parted field_named e = refl
-named_silent [] name rest true parted field_named e =
-    let same : [] ≡ name = cc in
-    sym (subst (λ (w : List ℕ). is_silent w ≡ true) same refl) ∙ field_named
-named_silent (b ∷ text) name rest true parted field_named e =
-    let hash : b ≡ hash_sign = eqb-true b hash_sign e in
-    sym (hash_name text name rest (subst (λ (x : ℕ). words (x ∷ text) ≡ name ∷ rest) hash parted)) ∙ field_named
-
 named_line : (version : ScriptVersion) (line name : List ℕ) (rest : List (List ℕ)) (item : ScriptItem)
     → words line ≡ name ∷ rest → is_silent name ≡ false → item_form version name rest ≡ Some item
     → item_of version line ≡ Some item
@@ -128,10 +100,6 @@ item_of-spelled version line (Event (Cancel call)) spelled = named_line version 
 pub one_item : (version : ScriptVersion) (line : List ℕ) (a b : ScriptItem) → Spells version line a
     → Spells version line b → a ≡ b
 one_item version line a b first second = some_is a b (sym (item_of-spelled version line a first) ∙ item_of-spelled version line b second)
-
--- lines of the same words are the same line
-pub same_line : (a b : List ℕ) (ws : List (List ℕ)) → words a ≡ ws → words b ≡ ws → a ≡ b
-same_line a b ws first second = sym (join_with_byte-slice_split space a) ∙ ap (join_with_byte space) (first ∙ sym second) ∙ join_with_byte-slice_split space b
 
 -- an item has at most one spelling, but for those that say nothing
 pub one_spelling : (version : ScriptVersion) (item : ScriptItem) (a b : List ℕ) → item ≢ Silent

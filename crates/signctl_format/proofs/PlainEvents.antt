@@ -5,8 +5,8 @@ use Rattle.std.specs.declared.time.Duration.{Duration}
 use Rattle.sequential_signer.specs.declared.event.Event.{Event}
 use Rattle.sequential_signer.specs.declared.event.Event.TheVariants.{Begin, Poll, Provided, Signed, Cancel}
 use Rattle.sequential_signer.proofs.StoredDurations.{AreAlike, begins, equal}
+use Rattle.line_words.specs.Moments.{plain_duration}
 use Rattle.signctl_format.specs.declared.credential.ScriptCredential.{ScriptCredential}
-use Rattle.signctl_format.specs.Moments.{plain_duration}
 use Rattle.signctl_format.specs.ScriptEvents.{plain_event}
 
 -- a duration as its calls see it has the same nanoseconds

@@ -1,7 +1,7 @@
 -- The lines that carry a request head: these alone are copied into what they say.
 use Rattle.std.specs.Prelude.{◌≡◌, ℕ, Bool, ◌||◌, List, ◌∷◌, IsTrue, codes}
 use Rattle.std.specs.Str.{bytes_eq}
-use Rattle.signctl_format.specs.Words.{words}
+use Rattle.line_words.specs.Words.{words}
 
 -- whether a line that begins with this word carries a head
 abbrev pub names_head : List ℕ → Bool

@@ -9,15 +9,15 @@ use Rattle.sequential_signer.specs.declared.event.Event.TheVariants.{Begin, Poll
 use Rattle.sequential_signer.specs.declared.event.Loader.TheVariants.{Single, Chain}
 use Rattle.sequential_signer.specs.declared.event.Verdict.TheVariants.{Accepted}
 use Rattle.sequential_signer.specs.declared.event.Verdict.TheVariants as verdict
+use Rattle.line_words.specs.declared.moment.ScriptVersion.{ScriptVersion}
+use Rattle.line_words.specs.Words.{is_silent, words, greatest_u32, greatest_u64}
+use Rattle.line_words.specs.Moments.{IsLineMoment, moment_word, IsLineDuration, duration_word}
+use Rattle.line_words.specs.Heads.{IsLineHead, head_words}
 use Rattle.signctl_format.specs.declared.credential.ScriptCredential.{ScriptCredential}
 use Rattle.signctl_format.specs.declared.credential.ScriptRule.{ScriptRule}
 use Rattle.signctl_format.specs.declared.credential.ScriptRule.TheVariants.{Now, Cred}
 use Rattle.signctl_format.specs.declared.item.Item.TheVariants.{Silent, Cache, Handle, Event}
-use Rattle.signctl_format.specs.declared.script_version.ScriptVersion.{ScriptVersion}
 use Rattle.signctl_format.specs.ScriptEvents.{ScriptItem}
-use Rattle.signctl_format.specs.Words.{is_silent, words, greatest_u32, greatest_u64}
-use Rattle.signctl_format.specs.Moments.{IsLineMoment, moment_word, IsLineDuration, duration_word}
-use Rattle.signctl_format.specs.Heads.{IsLineHead, head_words}
 use Rattle.signctl_format.specs.Lines.{call_words, credential_words}
 
 -- the first line of a script of version 2

@@ -1,24 +1,17 @@
--- The lines that a script prints, without their newline, and a line with it.
+-- The lines that a script prints, without their newline.
 use Rattle.std.specs.Prelude.{ℕ, List, [], ◌∷◌, ◌++◌, Option, Some, None, codes}
 use Rattle.std.specs.Fmt.{decimal}
-use Rattle.sign_base.specs.Bytes.{newline}
 use Rattle.sign_base.specs.declared.call_id.CallId.{CallId}
 use Rattle.sequential_signer.specs.declared.event.Reply.{Reply}
 use Rattle.sequential_signer.specs.declared.event.Reply.TheVariants.{Begun, Pending, NotNow, OutOfMemory, Ask}
 use Rattle.sequential_signer.specs.declared.event.Reply.TheVariants.{Sign, Refused, Done, Cancelled}
 use Rattle.sequential_signer.specs.declared.event.Why.{Why}
 use Rattle.sequential_signer.specs.declared.event.Why.TheVariants.{Missing, Short, Range, Loader, Service}
+use Rattle.line_words.specs.declared.moment.ScriptVersion.{ScriptVersion}
+use Rattle.line_words.specs.Words.{line_of}
+use Rattle.line_words.specs.Moments.{moment_word}
+use Rattle.line_words.specs.Heads.{head_words}
 use Rattle.signctl_format.specs.declared.credential.ScriptCredential.{ScriptCredential}
-use Rattle.signctl_format.specs.declared.line_error.LineError.{LineError}
-use Rattle.signctl_format.specs.declared.line_error.LineError.TheVariants.{NotUnderstood, Late, NoSuchCache}
-use Rattle.signctl_format.specs.declared.script_version.ScriptVersion.{ScriptVersion}
-use Rattle.signctl_format.specs.Words.{line_of}
-use Rattle.signctl_format.specs.Moments.{moment_word}
-use Rattle.signctl_format.specs.Heads.{head_words}
-
--- a line of output
-abbrev pub with_newline : List ℕ → List ℕ
-with_newline line = line ++ newline ∷ []
 
 -- a call by its handle and its number
 abbrev pub call_words : CallId → List (List ℕ)
@@ -75,9 +68,3 @@ cached_words version (Some credential) = credential_words version credential
 -- what a cache holds when the script has ended
 abbrev pub final_line : ScriptVersion → ℕ → Option ScriptCredential → List ℕ
 final_line version cache cached = line_of (codes "final" ∷ decimal cache ∷ cached_words version cached)
-
--- why a line is bad
-abbrev pub line_error_text : LineError → List ℕ
-line_error_text NotUnderstood = codes "not understood"
-line_error_text Late = codes "late"
-line_error_text NoSuchCache = codes "no such cache"

@@ -1,8 +1,6 @@
 -- What a line says: the grammar as a function.
 use Rattle.std.specs.Prelude.{ℕ, ℤ, List, [], ◌∷◌, Option, Some, None, if◌then◌else◌, codes}
 use Rattle.std.specs.Str.{bytes_eq}
-use Rattle.sign_base.specs.declared.head.Field.{Field}
-use Rattle.sign_base.specs.declared.head.Head.{Head}
 use Rattle.sign_base.specs.declared.call_id.CallId.{CallId}
 use Rattle.sequential_signer.specs.declared.event.Answer.TheVariants.{Found, Missing}
 use Rattle.sequential_signer.specs.declared.event.Answer.TheVariants as answer
@@ -10,20 +8,16 @@ use Rattle.sequential_signer.specs.declared.event.Event.TheVariants.{Begin, Poll
 use Rattle.sequential_signer.specs.declared.event.Loader.TheVariants.{Single, Chain}
 use Rattle.sequential_signer.specs.declared.event.Verdict.TheVariants.{Accepted}
 use Rattle.sequential_signer.specs.declared.event.Verdict.TheVariants as verdict
+use Rattle.line_words.specs.declared.moment.ScriptVersion.{ScriptVersion}
+use Rattle.line_words.specs.Words.{is_silent, words, greatest_u32, greatest_u64}
+use Rattle.line_words.specs.Steps.{◌>>=◌, first_word, at_end_of_line, number_at}
+use Rattle.line_words.specs.Moments.{duration_of, moment_at}
+use Rattle.line_words.specs.Heads.{head_in}
 use Rattle.signctl_format.specs.declared.credential.ScriptCredential.{ScriptCredential}
 use Rattle.signctl_format.specs.declared.credential.ScriptRule.{ScriptRule}
 use Rattle.signctl_format.specs.declared.credential.ScriptRule.TheVariants.{Now, Cred}
 use Rattle.signctl_format.specs.declared.item.Item.TheVariants.{Silent, Cache, Handle, Event}
-use Rattle.signctl_format.specs.declared.script_version.ScriptVersion.{ScriptVersion}
 use Rattle.signctl_format.specs.ScriptEvents.{ScriptItem}
-use Rattle.signctl_format.specs.Words.{is_silent, words, number_of, is_target, greatest_u32, greatest_u64}
-use Rattle.signctl_format.specs.Steps.{◌>>=◌, first_word, at_end_of_line}
-use Rattle.signctl_format.specs.Moments.{moment_of, duration_of}
-use Rattle.signctl_format.specs.Heads.{version_of, field_of}
-
--- the method or URI that a word spells
-abbrev pub visible_target : List ℕ → Option (List ℕ)
-visible_target word = if is_target word then Some word else None
 
 -- the rule that a word spells
 abbrev pub rule_in : List ℕ → Option ScriptRule
@@ -31,14 +25,6 @@ rule_in word =
     if bytes_eq word (codes "now") then Some Now
     else (if bytes_eq word (codes "cred") then Some Cred
     else None)
-
--- a number up to a limit, and the words after it
-unfoldable pub number_at : ℕ → List (List ℕ) → Option (ℕ × List (List ℕ))
-number_at limit words = first_word (number_of limit) words
-
--- a moment, and the words after it
-unfoldable pub moment_at : ScriptVersion → List (List ℕ) → Option (ℤ × List (List ℕ))
-moment_at version words = first_word (moment_of version) words
 
 -- a call, and the words after it
 unfoldable pub call_at : List (List ℕ) → Option (CallId × List (List ℕ))
@@ -57,23 +43,6 @@ credential_in version words = do
   at_end_of_line
       (record { generation = generation.0; fresh = fresh.0; expires = expires.0; required = required.0 })
       required.1
-
--- the headers that these words spell, all of them
-unfoldable pub fields_in : List (List ℕ) → Option (List Field)
-fields_in [] = Some []
-fields_in (word ∷ rest) = do
-  field ← field_of word
-  fields ← fields_in rest
-  Some (field ∷ fields)
-
--- a head goes to the end of its line
-unfoldable pub head_in : List (List ℕ) → Option Head
-head_in words = do
-  method ← first_word visible_target words
-  uri ← first_word visible_target method.1
-  version ← first_word version_of uri.1
-  headers ← fields_in version.1
-  Some (record { method = method.0; uri = uri.0; version = version.0; headers = headers })
 
 -- `cache chain N`
 unfoldable pub chain_form : List (List ℕ) → Option ScriptItem

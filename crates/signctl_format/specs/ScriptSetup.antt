@@ -4,12 +4,12 @@ use Rattle.std.specs.Prelude.{ℕ, Bool, true, false, not, List, [], ◌∷◌, 
 use Rattle.std.specs.Prelude.{nat_lt, length, filter_map}
 use Rattle.sequential_signer.specs.Setup.{Setup, Handle}
 use Rattle.sequential_signer.specs.declared.event.Loader.{Loader}
+use Rattle.line_words.specs.declared.read_error.LineError.{LineError}
+use Rattle.line_words.specs.declared.read_error.LineError.TheVariants.{Late, NoSuchCache}
 use Rattle.signctl_format.specs.declared.credential.ScriptRule.{ScriptRule}
 use Rattle.signctl_format.specs.declared.credential.ScriptRule.TheVariants.{Now, Cred}
 use Rattle.signctl_format.specs.declared.item.Item.{Item}
 use Rattle.signctl_format.specs.declared.item.Item.TheVariants as item
-use Rattle.signctl_format.specs.declared.line_error.LineError.{LineError}
-use Rattle.signctl_format.specs.declared.line_error.LineError.TheVariants.{Late, NoSuchCache}
 
 -- the two rules of a script, each at a place of its own
 abbrev pub script_rules : List ScriptRule

@@ -1,9 +1,9 @@
 //! Laws of the grammar of script lines: each is the contract of a call that does nothing.
 ghost use Rattle.std.specs.Prelude.{◌≡◌, ◌≢◌, ◌↔◌, ℕ, List, Some};
+ghost use Rattle.line_words.specs.declared.moment.ScriptVersion.{ScriptVersion};
+ghost use Rattle.line_words.specs.Words.{line_of};
 ghost use Rattle.signctl_format.specs.declared.item.Item.TheVariants.{Silent};
-ghost use Rattle.signctl_format.specs.declared.script_version.ScriptVersion.{ScriptVersion};
 ghost use Rattle.signctl_format.specs.ScriptEvents.{ScriptItem};
-ghost use Rattle.signctl_format.specs.Words.{words, line_of};
 ghost use Rattle.signctl_format.specs.Grammar.{Spells, IsLineItem, item_words};
 ghost use Rattle.signctl_format.specs.Reading.{item_of};
 
@@ -33,10 +33,4 @@ pub fn an_item_has_one_spelling()
 pub fn an_item_has_a_spelling()
     ensures { (version : ScriptVersion) (item : ScriptItem) → IsLineItem version item
         → Spells version (line_of (item_words version item)) item }
-{}
-
-/// A line is its words, parted by single spaces.
-#[tactic(auto, using(crate::proofs::WordList::line_of_words))]
-pub fn a_line_is_its_words()
-    ensures { (line : List ℕ) → line_of (words line) ≡ line }
 {}

@@ -3,15 +3,16 @@
 //! Out of memory comes only where the text has not the room for the line. Then what stood in the text
 //! still stands in it, and a prefix of the line may stand after it.
 
-ghost use Rattle.signctl_format.specs.Words.{spaced_words};
-ghost use Rattle.signctl_format.specs.Printing.{Prints};
+ghost use Rattle.line_words.specs.Words.{spaced_words};
+ghost use Rattle.line_words.specs.Printing.{Prints};
 ghost use Rattle.signctl_format.specs.Lines.{call_words, credential_words, wake_words, why_words, reply_line};
 ghost use Rattle.signctl_format.specs.Lines.{cache_line, handle_line, final_line};
 
-use crate::head_text::push_head;
-use crate::moment_text::push_moment;
-use crate::text::{push, push_number, push_word};
-use crate::{ScriptCredential, ScriptVersion};
+use crate::ScriptCredential;
+use line_words::ScriptVersion;
+use line_words::head_text::push_head;
+use line_words::moment_text::push_moment;
+use line_words::text::{push, push_number, push_word};
 use sequential_signer::{Reply, Why};
 use sign_base::{CallId, NoMemory};
 

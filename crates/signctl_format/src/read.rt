@@ -4,27 +4,35 @@
 //! event. What stands in many forms, and the forms that few lines have, are calls, since the compiler drops
 //! the hint from a function that has grown large, and says nothing.
 ghost use Rattle.std.specs.Prelude.{◌≡◌, IsTrue, false};
+ghost use Rattle.line_words.specs.Steps.{first_word};
+ghost use Rattle.line_words.specs.Readers.{words_after, Reads, Gives, NeedsMemory};
 ghost use Rattle.signctl_format.specs.declared.item.Item.TheVariants as item;
-ghost use Rattle.signctl_format.specs.Steps.{first_word};
 ghost use Rattle.signctl_format.specs.ScriptEvents.{plain_event};
 ghost use Rattle.signctl_format.specs.Reading.{rule_in, call_at, credential_in, chain_form, cache_form};
 ghost use Rattle.signctl_format.specs.Reading.{handle_form, begin_form, poll_form, found_form, missing_form};
 ghost use Rattle.signctl_format.specs.Reading.{failed_form, accept_form, reject_form, cancel_form, item_form};
 ghost use Rattle.signctl_format.specs.Reading.{item_of};
-ghost use Rattle.signctl_format.specs.Readers.{words_after, Reads, Gives, NeedsMemory};
+ghost use Rattle.signctl_format.specs.Grammar.{is_version_line};
 ghost use Rattle.signctl_format.specs.Carrying.{names_head, CarriesHead};
 
-use crate::head::head;
-use crate::moment::{duration, moment};
-use crate::read_error::{NotUnderstood, ReadError};
-use crate::word::{at_end_of_line, is_silent, number_at, split_word, u32_at, word_at};
-use crate::{ScriptCredential, ScriptEvent, ScriptRule, ScriptVersion};
+use crate::{ScriptCredential, ScriptEvent, ScriptRule};
+use line_words::head::parse_head;
+use line_words::moment::{parse_duration, parse_moment};
+use line_words::word::{at_end_of_line, is_silent, number_at, split_word, u32_at, word_at};
+use line_words::{NotUnderstood, ReadError, ScriptVersion};
 use sequential_signer::{Answer, Event, Loader, Verdict};
 use sign_base::CallId;
 use std::alloc::Global;
 
 /// A line of a script.
 type Item = crate::Item<ScriptEvent>;
+
+/// Whether a script that begins with this line, without its newline, is of version 2.
+pub fn is_version_line(line: &[u8]) -> bool
+    ensures { result ≡ is_version_line line.now }
+{
+    line == b"signctl 2".as_slice()
+}
 
 /// The item that a line without its newline spells in a script of this version.
 ///
@@ -41,7 +49,7 @@ pub fn read_line(alloc: Global, version: ScriptVersion, line: &[u8]) -> Result<I
         return Ok(Item::Silent);
     }
     let (name, rest) = split_word(line);
-    form(alloc, version, name, rest)
+    parse_form(alloc, version, name, rest)
 }
 
 /// The item that a line without its newline spells that carries no head: so it takes no memory.
@@ -55,28 +63,33 @@ pub fn read_line_with_no_head(version: ScriptVersion, line: &[u8]) -> Result<Ite
         return Ok(Item::Silent);
     }
     let (name, rest) = split_word(line);
-    form_with_no_head(version, name, rest)
+    parse_form_with_no_head(version, name, rest)
 }
 
 #[inline(always)]
 #[tactic(auto, unfolding(crate::specs::Reading::item_form))]
-fn form(alloc: Global, version: ScriptVersion, name: &[u8], rest: &[u8]) -> Result<Item, ReadError>
+fn parse_form(
+    alloc: Global,
+    version: ScriptVersion,
+    name: &[u8],
+    rest: &[u8],
+) -> Result<Item, ReadError>
     ensures item { Gives (λ i. i) result (item_form version name.now (words_after rest.now)) }
     ensures memory { NeedsMemory result (IsTrue (names_head name.now)) }
 {
     if name == b"begin".as_slice() {
-        begin(alloc, version, rest)
+        parse_begin(alloc, version, rest)
     } else if name == b"accept".as_slice() {
-        accept(alloc, rest)
+        parse_accept(alloc, rest)
     } else {
-        Ok(form_with_no_head(version, name, rest)?)
+        Ok(parse_form_with_no_head(version, name, rest)?)
     }
 }
 
 /// The forms that carry no head take no memory.
 #[inline(always)]
 #[tactic(auto, unfolding(crate::specs::Reading::item_form))]
-fn form_with_no_head(
+fn parse_form_with_no_head(
     version: ScriptVersion,
     name: &[u8],
     rest: &[u8],
@@ -85,42 +98,42 @@ fn form_with_no_head(
     ensures { Reads (λ i. i) result (item_form version name.now (words_after rest.now)) }
 {
     if name == b"poll".as_slice() {
-        poll(version, rest)
+        parse_poll(version, rest)
     } else if name == b"found".as_slice() {
-        found(version, rest)
+        parse_found(version, rest)
     } else if name == b"missing".as_slice() {
-        missing(version, rest)
+        parse_missing(version, rest)
     } else if name == b"failed".as_slice() {
-        failed(version, rest)
+        parse_failed(version, rest)
     } else if name == b"reject".as_slice() {
-        reject(rest)
+        parse_reject(rest)
     } else if name == b"cancel".as_slice() {
-        cancel(rest)
+        parse_cancel(rest)
     } else if name == b"cache".as_slice() {
-        cache(rest)
+        parse_cache(rest)
     } else if name == b"handle".as_slice() {
-        handle(rest)
+        parse_handle(rest)
     } else {
         Err(NotUnderstood)
     }
 }
 
 #[tactic(auto, unfolding(crate::specs::Reading::cache_form))]
-fn cache(rest: &[u8]) -> Result<Item, NotUnderstood>
+fn parse_cache(rest: &[u8]) -> Result<Item, NotUnderstood>
     ensures { Reads (λ i. i) result (cache_form (words_after rest.now)) }
 {
     let (kind, rest) = word_at(rest)?;
     if kind == b"single".as_slice() {
         at_end_of_line(Item::Cache(Loader::Single), rest)
     } else if kind == b"chain".as_slice() {
-        chain(rest)
+        parse_chain(rest)
     } else {
         Err(NotUnderstood)
     }
 }
 
 #[tactic(auto, unfolding(crate::specs::Reading::chain_form))]
-fn chain(rest: &[u8]) -> Result<Item, NotUnderstood>
+fn parse_chain(rest: &[u8]) -> Result<Item, NotUnderstood>
     ensures { Reads (λ i. i) result (chain_form (words_after rest.now)) }
 {
     let (providers, rest) = u32_at(rest)?;
@@ -128,24 +141,24 @@ fn chain(rest: &[u8]) -> Result<Item, NotUnderstood>
 }
 
 #[tactic(auto, unfolding(crate::specs::Reading::handle_form))]
-fn handle(rest: &[u8]) -> Result<Item, NotUnderstood>
+fn parse_handle(rest: &[u8]) -> Result<Item, NotUnderstood>
     ensures { Reads (λ i. i) result (handle_form (words_after rest.now)) }
 {
     let (cache, rest) = u32_at(rest)?;
     let (word, rest) = word_at(rest)?;
-    let rule = rule(word)?;
+    let rule = parse_rule(word)?;
     at_end_of_line(Item::Handle { cache, rule }, rest)
 }
 
 #[inline(always)]
 #[tactic(auto, unfolding(crate::specs::Reading::begin_form))]
-fn begin(alloc: Global, version: ScriptVersion, rest: &[u8]) -> Result<Item, ReadError>
+fn parse_begin(alloc: Global, version: ScriptVersion, rest: &[u8]) -> Result<Item, ReadError>
     ensures { Gives (λ i. i) result (begin_form version (words_after rest.now)) }
 {
     let (call, rest) = call_at(rest)?;
     let (word, rest) = word_at(rest)?;
-    let expires_in = duration(version, word)?;
-    let head = head(alloc, rest)?;
+    let expires_in = parse_duration(version, word)?;
+    let head = parse_head(alloc, rest)?;
     Ok(event_item(Event::Begin {
         call,
         head,
@@ -154,46 +167,46 @@ fn begin(alloc: Global, version: ScriptVersion, rest: &[u8]) -> Result<Item, Rea
 }
 
 #[inline(always)]
-#[tactic(auto, unfolding(crate::specs::Reading::poll_form, crate::specs::Reading::moment_at))]
-fn poll(version: ScriptVersion, rest: &[u8]) -> Result<Item, NotUnderstood>
+#[tactic(auto, unfolding(crate::specs::Reading::poll_form, line_words::specs::Moments::moment_at))]
+fn parse_poll(version: ScriptVersion, rest: &[u8]) -> Result<Item, NotUnderstood>
     ensures { Reads (λ i. i) result (poll_form version (words_after rest.now)) }
 {
     let (call, rest) = call_at(rest)?;
     let (word, rest) = word_at(rest)?;
-    let now = moment(version, word)?;
+    let now = parse_moment(version, word)?;
     at_end_of_line(event_item(Event::Poll { call, now }), rest)
 }
 
 #[inline(always)]
-#[tactic(auto, unfolding(crate::specs::Reading::found_form, crate::specs::Reading::moment_at))]
-fn found(version: ScriptVersion, rest: &[u8]) -> Result<Item, NotUnderstood>
+#[tactic(auto, unfolding(crate::specs::Reading::found_form, line_words::specs::Moments::moment_at))]
+fn parse_found(version: ScriptVersion, rest: &[u8]) -> Result<Item, NotUnderstood>
     ensures { Reads (λ i. i) result (found_form version (words_after rest.now)) }
 {
     let (call, rest) = call_at(rest)?;
     let (word, rest) = word_at(rest)?;
-    let now = moment(version, word)?;
-    let answer = Answer::Found(credential(version, rest)?);
+    let now = parse_moment(version, word)?;
+    let answer = Answer::Found(parse_credential(version, rest)?);
     Ok(event_item(Event::Provided { call, now, answer }))
 }
 
-#[tactic(auto, unfolding(crate::specs::Reading::missing_form, crate::specs::Reading::moment_at))]
-fn missing(version: ScriptVersion, rest: &[u8]) -> Result<Item, NotUnderstood>
+#[tactic(auto, unfolding(crate::specs::Reading::missing_form, line_words::specs::Moments::moment_at))]
+fn parse_missing(version: ScriptVersion, rest: &[u8]) -> Result<Item, NotUnderstood>
     ensures { Reads (λ i. i) result (missing_form version (words_after rest.now)) }
 {
     let (call, rest) = call_at(rest)?;
     let (word, rest) = word_at(rest)?;
-    let now = moment(version, word)?;
+    let now = parse_moment(version, word)?;
     let answer = Answer::Missing;
     at_end_of_line(event_item(Event::Provided { call, now, answer }), rest)
 }
 
-#[tactic(auto, unfolding(crate::specs::Reading::failed_form, crate::specs::Reading::moment_at))]
-fn failed(version: ScriptVersion, rest: &[u8]) -> Result<Item, NotUnderstood>
+#[tactic(auto, unfolding(crate::specs::Reading::failed_form, line_words::specs::Moments::moment_at))]
+fn parse_failed(version: ScriptVersion, rest: &[u8]) -> Result<Item, NotUnderstood>
     ensures { Reads (λ i. i) result (failed_form version (words_after rest.now)) }
 {
     let (call, rest) = call_at(rest)?;
     let (word, rest) = word_at(rest)?;
-    let now = moment(version, word)?;
+    let now = parse_moment(version, word)?;
     let (error, rest) = number_at(u64::MAX, rest)?;
     let answer = Answer::Failed(error);
     at_end_of_line(event_item(Event::Provided { call, now, answer }), rest)
@@ -201,16 +214,16 @@ fn failed(version: ScriptVersion, rest: &[u8]) -> Result<Item, NotUnderstood>
 
 #[inline(always)]
 #[tactic(auto, unfolding(crate::specs::Reading::accept_form))]
-fn accept(alloc: Global, rest: &[u8]) -> Result<Item, ReadError>
+fn parse_accept(alloc: Global, rest: &[u8]) -> Result<Item, ReadError>
     ensures { Gives (λ i. i) result (accept_form (words_after rest.now)) }
 {
     let (call, rest) = call_at(rest)?;
-    let answer = Verdict::Accepted(head(alloc, rest)?);
+    let answer = Verdict::Accepted(parse_head(alloc, rest)?);
     Ok(event_item(Event::Signed { call, answer }))
 }
 
 #[tactic(auto, unfolding(crate::specs::Reading::reject_form))]
-fn reject(rest: &[u8]) -> Result<Item, NotUnderstood>
+fn parse_reject(rest: &[u8]) -> Result<Item, NotUnderstood>
     ensures { Reads (λ i. i) result (reject_form (words_after rest.now)) }
 {
     let (call, rest) = call_at(rest)?;
@@ -221,7 +234,7 @@ fn reject(rest: &[u8]) -> Result<Item, NotUnderstood>
 
 #[inline(always)]
 #[tactic(auto, unfolding(crate::specs::Reading::cancel_form))]
-fn cancel(rest: &[u8]) -> Result<Item, NotUnderstood>
+fn parse_cancel(rest: &[u8]) -> Result<Item, NotUnderstood>
     ensures { Reads (λ i. i) result (cancel_form (words_after rest.now)) }
 {
     let (call, rest) = call_at(rest)?;
@@ -235,7 +248,7 @@ fn event_item(event: Event<ScriptCredential>) -> Item
     Item::Event(ScriptEvent::new(event))
 }
 
-fn rule(word: &[u8]) -> Result<ScriptRule, NotUnderstood>
+fn parse_rule(word: &[u8]) -> Result<ScriptRule, NotUnderstood>
     ensures { Reads (λ r. r) result (rule_in word.now) }
 {
     if word == b"now".as_slice() {
@@ -259,17 +272,20 @@ pub fn call_at(rest: &[u8]) -> Result<(CallId, &[u8]), NotUnderstood>
 
 /// The credential that all of these words spell.
 #[inline(always)]
-#[tactic(auto, unfolding(crate::specs::Reading::credential_in, crate::specs::Reading::moment_at))]
-pub fn credential(version: ScriptVersion, rest: &[u8]) -> Result<ScriptCredential, NotUnderstood>
+#[tactic(auto, unfolding(crate::specs::Reading::credential_in, line_words::specs::Moments::moment_at))]
+pub fn parse_credential(
+    version: ScriptVersion,
+    rest: &[u8],
+) -> Result<ScriptCredential, NotUnderstood>
     ensures { Reads (λ c. c) result (credential_in version (words_after rest.now)) }
 {
     let (generation, rest) = number_at(u64::MAX, rest)?;
     let (word, rest) = word_at(rest)?;
-    let fresh = moment(version, word)?;
+    let fresh = parse_moment(version, word)?;
     let (word, rest) = word_at(rest)?;
-    let expires = moment(version, word)?;
+    let expires = parse_moment(version, word)?;
     let (word, rest) = word_at(rest)?;
-    let required = moment(version, word)?;
+    let required = parse_moment(version, word)?;
     let credential = ScriptCredential {
         generation,
         fresh,

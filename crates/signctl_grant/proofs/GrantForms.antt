@@ -6,18 +6,19 @@ use Rattle.std.specs.declared.time.Duration.{Duration}
 use Rattle.sign_base.specs.declared.call_id.CallId.{CallId}
 use Rattle.sequential_signer.specs.declared.grant_event.GrantEvent.TheVariants.{Begin, Granted}
 use Rattle.sequential_signer.specs.declared.grant_event.Made.TheVariants.{Made, Failed}
+use Rattle.line_words.specs.declared.moment.ScriptVersion.TheVariants.{One}
+use Rattle.line_words.specs.Words.{greatest_u64}
+use Rattle.line_words.specs.Moments.{moment_word, IsLineMoment, duration_word, IsLineDuration, duration_of, moment_at}
+use Rattle.line_words.specs.Steps.{◌>>=◌, first_word, at_end_of_line, number_at}
+use Rattle.line_words.proofs.ReadingSteps.{some_is, bind_some, first_word_some, ended_some}
+use Rattle.line_words.proofs.Seconds.{duration_of-word, duration_of-some}
+use Rattle.line_words.proofs.Places.{number_at-decimal, number_at-some, moment_at-word, moment_at-some}
 use Rattle.signctl_format.specs.declared.credential.ScriptCredential.{ScriptCredential}
 use Rattle.signctl_format.specs.declared.item.Item.TheVariants.{Event}
-use Rattle.signctl_format.specs.declared.script_version.ScriptVersion.TheVariants.{One}
-use Rattle.signctl_format.specs.Words.{greatest_u64}
-use Rattle.signctl_format.specs.Moments.{moment_word, IsLineMoment, duration_word, IsLineDuration, duration_of}
 use Rattle.signctl_format.specs.Lines.{call_words, credential_words}
 use Rattle.signctl_format.specs.Grammar.{IsLineCall, IsLineCredential}
-use Rattle.signctl_format.specs.Steps.{◌>>=◌, first_word, at_end_of_line}
-use Rattle.signctl_format.specs.Reading.{number_at, moment_at, call_at, credential_in}
-use Rattle.signctl_format.proofs.ReadingSteps.{some_is, bind_some, first_word_some, ended_some}
-use Rattle.signctl_format.proofs.Seconds.{duration_of-word, duration_of-some}
-use Rattle.signctl_format.proofs.Calls.{number_at-decimal, number_at-some, moment_at-word, moment_at-some, call_at-words, call_at-some, credential_in-words, credential_in-some}
+use Rattle.signctl_format.specs.Reading.{call_at, credential_in}
+use Rattle.signctl_format.proofs.Calls.{call_at-words, call_at-some, credential_in-words, credential_in-some}
 use Rattle.signctl_format.proofs.Forms.{Has}
 use Rattle.signctl_grant.specs.GrantEvents.{GrantItem}
 use Rattle.signctl_grant.specs.GrantGrammar.{failure_moment, SpellsGrant}

@@ -9,15 +9,16 @@ use Rattle.sequential_signer.specs.declared.event.Event.TheVariants as signs
 use Rattle.sequential_signer.specs.declared.event.Loader.TheVariants.{Single, Chain}
 use Rattle.sequential_signer.specs.declared.grant_event.GrantEvent.TheVariants.{Begin, Poll, Provided, Granted, Cancel}
 use Rattle.sequential_signer.specs.declared.grant_event.Made.TheVariants.{Made, Failed}
+use Rattle.line_words.specs.declared.moment.ScriptVersion.TheVariants.{One}
+use Rattle.line_words.specs.Words.{is_silent, words}
+use Rattle.line_words.specs.Steps.{◌>>=◌}
+use Rattle.line_words.specs.Heads.{head_in}
+use Rattle.line_words.proofs.ReadingSteps.{same_word, some_is, chosen, bind_some}
+use Rattle.line_words.proofs.WordList.{words_split}
 use Rattle.signctl_format.specs.declared.item.Item.TheVariants.{Silent, Cache, Handle, Event}
-use Rattle.signctl_format.specs.declared.script_version.ScriptVersion.TheVariants.{One}
 use Rattle.signctl_format.specs.ScriptEvents.{ScriptItem}
-use Rattle.signctl_format.specs.Words.{is_silent, words}
-use Rattle.signctl_format.specs.Steps.{◌>>=◌}
 use Rattle.signctl_format.specs.Grammar.{Spells}
-use Rattle.signctl_format.specs.Reading.{call_at, head_in, accept_form, item_form, words_say, item_of}
-use Rattle.signctl_format.proofs.ReadingSteps.{same_word, some_is, chosen, bind_some}
-use Rattle.signctl_format.proofs.WordList.{words_split}
+use Rattle.signctl_format.specs.Reading.{call_at, accept_form, item_form, words_say, item_of}
 use Rattle.signctl_format.proofs.Forms.{Has}
 use Rattle.signctl_format.proofs.Grammars as script_grammar
 use Rattle.signctl_grant.specs.GrantEvents.{GrantItem}

@@ -16,6 +16,7 @@ use Rattle.desk_parts.specs.Tables.{setup_of, was_begun}
 use Rattle.grant_desk.specs.GrantDeskState.{GrantState, GrantRepresents, with_source}
 use Rattle.desk_parts.specs.Adding.{with_handle, AddAnswer, late_refusal, handle_refusal}
 use Rattle.desk_parts.specs.declared.adding.AddError.{AddError}
+use Rattle.desk_parts.specs.declared.limits.TheConstants.{MOST_ROWS}
 use Rattle.desk_parts.proofs.AddAnswers.{cache-allowed, handle-allowed}
 use Rattle.signctl_format.specs.declared.credential.ScriptCredential.{ScriptCredential}
 use Rattle.signctl_format.specs.declared.credential.ScriptRule.{ScriptRule}
@@ -175,11 +176,11 @@ module _ (session : GrantSessionState) (items : List GrantItem) (stands : GrantS
   handles-same = ap (λ (s : Setup ScriptRule). s.handles) stands.setup
 
   -- there is a number for one cache more
-  pub caches-fit : length items < input_limit → length session.desk.loaders < 4294967295
+  pub caches-fit : length items < input_limit → length session.desk.loaders < MOST_ROWS
   caches-fit few = omega (arith, few, caches-few items, ap (λ (v : List Loader). length v) loaders-same)
 
   -- and for one handle more
-  pub handles-fit : length items < input_limit → length session.desk.handles < 4294967295
+  pub handles-fit : length items < input_limit → length session.desk.handles < MOST_ROWS
   handles-fit few = omega (arith, few, handles-few items, ap (λ (v : List Handle). length v) handles-same)
 
   -- the one refusal of a new cache is out of memory, and its number counts those before it
@@ -237,8 +238,8 @@ pub not-out_of_memory : (reply : GrantReply ScriptCredential) → is_out_of_memo
 not-out_of_memory reply good lost = let e : is_out_of_memory (as_reply reply) ≡ true = ap (λ (r : GrantReply ScriptCredential). is_out_of_memory (as_reply r)) lost in absurd (cc)
 
 -- a session before the first line
-pub first-session : (desk : GrantState ScriptCredential ScriptRule)
+pub first_session : (desk : GrantState ScriptCredential ScriptRule)
     → setup_of desk ≡ record { loaders = []; rules = Now ∷ Cred ∷ []; handles = [] }
     → GrantRepresents script_policy desk []
     → GrantSessionRepresents (record { desk = desk; had_event = false }) []
-first-session desk setup fresh = first-line (record { desk = desk; had_event = false }) setup fresh refl
+first_session desk setup fresh = first-line (record { desk = desk; had_event = false }) setup fresh refl

@@ -7,9 +7,9 @@ use Rattle.sequential_signer.specs.GrantLegal.{expected_grant_entries}
 use Rattle.sequential_signer.specs.declared.grant_event.GrantEvent.{GrantEvent}
 use Rattle.sequential_signer.specs.declared.grant_event.GrantEvent.TheVariants.{Begin, Poll, Provided, Granted, Cancel}
 use Rattle.sequential_signer.proofs.StoredGrantDurations.{AreAlikeGrants, begins_so, the_same, expected_grant_reply-map, grant_source-map}
+use Rattle.line_words.specs.Moments.{plain_duration}
 use Rattle.signctl_format.specs.declared.credential.ScriptCredential.{ScriptCredential}
 use Rattle.signctl_format.specs.declared.credential.ScriptRule.{ScriptRule}
-use Rattle.signctl_format.specs.Moments.{plain_duration}
 use Rattle.signctl_format.specs.Policy.{script_policy}
 use Rattle.signctl_format.proofs.PlainEvents.{same_nanos}
 use Rattle.signctl_grant.specs.GrantEvents.{plain_grant_event}

@@ -2,9 +2,9 @@
 use Rattle.std.specs.Prelude.{option_map}
 use Rattle.sequential_signer.specs.declared.grant_event.GrantEvent.{GrantEvent}
 use Rattle.sequential_signer.specs.declared.grant_event.GrantEvent.TheVariants.{Begin}
+use Rattle.line_words.specs.Moments.{plain_duration}
 use Rattle.signctl_format.specs.declared.credential.ScriptCredential.{ScriptCredential}
 use Rattle.signctl_format.specs.declared.item.Item.{Item}
-use Rattle.signctl_format.specs.Moments.{plain_duration}
 
 -- an event, with its duration as the calls of durations see it
 abbrev pub plain_grant_event : GrantEvent ScriptCredential → GrantEvent ScriptCredential

@@ -6,11 +6,11 @@ use Rattle.sequential_signer.specs.declared.event.Event.TheVariants as signs
 use Rattle.sequential_signer.specs.declared.grant_event.GrantEvent.TheVariants.{Begin, Poll, Provided}
 use Rattle.sequential_signer.specs.declared.grant_event.GrantEvent.TheVariants.{Granted, Cancel}
 use Rattle.sequential_signer.specs.declared.grant_event.Made.TheVariants.{Made, Failed}
+use Rattle.line_words.specs.declared.moment.ScriptVersion.TheVariants.{One}
+use Rattle.line_words.specs.Words.{words, greatest_u64}
+use Rattle.line_words.specs.Moments.{IsLineMoment, moment_word, IsLineDuration, duration_word}
 use Rattle.signctl_format.specs.declared.item.Item.TheVariants.{Silent, Cache, Handle, Event}
-use Rattle.signctl_format.specs.declared.script_version.ScriptVersion.TheVariants.{One}
 use Rattle.signctl_format.specs.ScriptEvents.{ScriptItem}
-use Rattle.signctl_format.specs.Words.{words, greatest_u64}
-use Rattle.signctl_format.specs.Moments.{IsLineMoment, moment_word, IsLineDuration, duration_word}
 use Rattle.signctl_format.specs.Lines.{call_words, credential_words}
 use Rattle.signctl_format.specs.Grammar.{IsLineCall, IsLineCredential, Spells}
 use Rattle.signctl_grant.specs.GrantEvents.{GrantItem}

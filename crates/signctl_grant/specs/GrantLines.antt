@@ -8,8 +8,8 @@ use Rattle.sequential_signer.specs.declared.grant_event.GrantReply.TheVariants.{
 use Rattle.sequential_signer.specs.declared.grant_event.GrantWhy.{GrantWhy}
 use Rattle.sequential_signer.specs.declared.grant_event.GrantWhy.TheVariants.{Missing, Short, Range, Loader}
 use Rattle.sequential_signer.specs.declared.grant_event.GrantWhy.TheVariants.{Service, Stale}
+use Rattle.line_words.specs.Words.{line_of}
 use Rattle.signctl_format.specs.declared.credential.ScriptCredential.{ScriptCredential}
-use Rattle.signctl_format.specs.Words.{line_of}
 
 -- why a call was refused
 abbrev pub grant_why_words : GrantWhy → List (List ℕ)

@@ -5,12 +5,14 @@ use Rattle.sequential_signer.specs.GrantLegal.{expected_grant_entries}
 use Rattle.sequential_signer.specs.GrantSource.{grant_source}
 use Rattle.sequential_signer.specs.declared.grant_event.GrantEntry.{GrantEntry}
 use Rattle.signctl_driver.specs.Command.{Command}
+use Rattle.line_words.specs.declared.read_error.LineError.{LineError}
+use Rattle.line_words.specs.declared.moment.ScriptVersion.TheVariants.{One}
+use Rattle.line_words.specs.Words.{with_newline}
+use Rattle.line_words.specs.LineErrors.{line_error_text}
 use Rattle.signctl_format.specs.declared.credential.ScriptCredential.{ScriptCredential}
 use Rattle.signctl_format.specs.declared.item.Item.TheVariants as item
-use Rattle.signctl_format.specs.declared.line_error.LineError.{LineError}
-use Rattle.signctl_format.specs.declared.script_version.ScriptVersion.TheVariants.{One}
 use Rattle.signctl_format.specs.Policy.{script_policy}
-use Rattle.signctl_format.specs.Lines.{with_newline, cache_line, handle_line, final_line, line_error_text}
+use Rattle.signctl_format.specs.Lines.{cache_line, handle_line, final_line}
 use Rattle.signctl_format.specs.ScriptSetup.{setup_in, events_in}
 use Rattle.signctl_grant.specs.GrantEvents.{GrantItem}
 use Rattle.signctl_grant.specs.GrantLines.{grant_reply_line}

@@ -3,12 +3,12 @@ use Rattle.std.specs.Prelude.{ℕ, List, [], ◌∷◌, Option, Some, None, if�
 use Rattle.std.specs.Str.{bytes_eq}
 use Rattle.sequential_signer.specs.declared.grant_event.GrantEvent.TheVariants.{Begin, Granted}
 use Rattle.sequential_signer.specs.declared.grant_event.Made.TheVariants.{Made, Failed}
+use Rattle.line_words.specs.declared.moment.ScriptVersion.TheVariants.{One}
+use Rattle.line_words.specs.Words.{words, greatest_u64}
+use Rattle.line_words.specs.Moments.{duration_of, moment_at}
+use Rattle.line_words.specs.Steps.{◌>>=◌, first_word, at_end_of_line, number_at}
 use Rattle.signctl_format.specs.declared.item.Item.TheVariants.{Event}
-use Rattle.signctl_format.specs.declared.script_version.ScriptVersion.TheVariants.{One}
-use Rattle.signctl_format.specs.Words.{words, greatest_u64}
-use Rattle.signctl_format.specs.Moments.{duration_of}
-use Rattle.signctl_format.specs.Steps.{◌>>=◌, first_word, at_end_of_line}
-use Rattle.signctl_format.specs.Reading.{number_at, moment_at, call_at, credential_in, item_of}
+use Rattle.signctl_format.specs.Reading.{call_at, credential_in, item_of}
 use Rattle.signctl_grant.specs.GrantEvents.{GrantItem}
 use Rattle.signctl_grant.specs.GrantGrammar.{failure_moment, as_grant}
 

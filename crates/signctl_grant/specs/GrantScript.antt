@@ -1,7 +1,7 @@
 -- How the lines of `grant` are read, each after those before it.
 use Rattle.std.specs.Prelude.{ℕ, List, Option, Some, None, Result, Ok, Err}
-use Rattle.signctl_format.specs.declared.line_error.LineError.{LineError}
-use Rattle.signctl_format.specs.declared.line_error.LineError.TheVariants.{NotUnderstood}
+use Rattle.line_words.specs.declared.read_error.LineError.{LineError}
+use Rattle.line_words.specs.declared.read_error.LineError.TheVariants.{NotUnderstood}
 use Rattle.signctl_format.specs.ScriptSetup.{item_error}
 use Rattle.signctl_grant.specs.GrantEvents.{GrantItem}
 use Rattle.signctl_grant.specs.GrantReading.{grant_item_of}

@@ -6,5 +6,5 @@ pub mod GrantScript
 pub mod GrantOutput
 pub mod GrantSessionState
 pub mod GrantAnswering
-pub use Rattle.signctl_format.specs.Printing
+pub use Rattle.line_words.specs.Printing
 pub use Rattle.signctl_format.specs.ScriptSetup

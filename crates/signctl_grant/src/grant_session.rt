@@ -3,10 +3,7 @@
 ghost use Rattle.std.specs.Prelude.{◌≡◌, ◌++◌, ◌<◌, [], List, length, OnOk, IfOk};
 ghost use Rattle.sequential_signer.specs.GrantTranscript.{as_reply};
 ghost use Rattle.sequential_signer.specs.Transcript.{is_out_of_memory};
-ghost use Rattle.desk_parts.specs.Adding.{with_rule};
-ghost use Rattle.grant_desk.specs.GrantDeskState.{GrantRepresents};
 ghost use Rattle.signctl_format.specs.declared.item.Item.TheVariants as item;
-ghost use Rattle.signctl_format.specs.Policy.{script_policy};
 ghost use Rattle.signctl_format.specs.ScriptSetup.{item_error};
 ghost use Rattle.signctl_grant.specs.GrantEvents.{GrantItem};
 ghost use Rattle.signctl_grant.specs.GrantOutput.{final_lines};
@@ -47,8 +44,12 @@ impl GrantSession {
         ensures { IfOk result (λ s. GrantSessionRepresents s []) }
     {
         let mut desk = GrantDesk::new(alloc);
-        add_rule(&mut desk, ScriptRule::Now)?;
-        add_rule(&mut desk, ScriptRule::Cred)?;
+        if desk.add_rule(ScriptRule::Now).is_err() {
+            return Err(NoMemory { back: () });
+        }
+        if desk.add_rule(ScriptRule::Cred).is_err() {
+            return Err(NoMemory { back: () });
+        }
         Ok(GrantSession {
             desk,
             had_event: false,
@@ -195,21 +196,6 @@ impl LineCommand for GrantSession {
     ) -> Result<Result<(), LineError>, NoMemory<()>> {
         self.push_finals(text)?;
         Ok(Ok(()))
-    }
-}
-
-/// Adds a rule to a new desk.
-fn add_rule(
-    desk: &mut GrantDesk<ScriptCredential, ScriptRule>,
-    rule: ScriptRule,
-) -> Result<(), NoMemory<()>>
-    requires { length desk.old.rules < 4294967295 }
-    ensures added { OnOk result (desk.new ≡ with_rule rule desk.old) }
-    ensures fresh { OnOk result (GrantRepresents script_policy desk.new []) }
-{
-    match desk.add_rule(rule) {
-        Ok(_) => Ok(()),
-        Err(_) => Err(NoMemory { back: () }),
     }
 }
 

@@ -3,14 +3,14 @@
 //! Out of memory comes only where the text has not the room for the line. Then what stood in the text
 //! still stands in it, and a prefix of the line may stand after it.
 
-ghost use Rattle.signctl_format.specs.Words.{spaced_words};
-ghost use Rattle.signctl_format.specs.Printing.{Prints};
+ghost use Rattle.line_words.specs.Words.{spaced_words};
+ghost use Rattle.line_words.specs.Printing.{Prints};
 ghost use Rattle.signctl_grant.specs.GrantLines.{grant_why_words, grant_reply_line};
 
+use line_words::text::{push, push_number, push_word};
 use sequential_signer::{GrantReply, GrantWhy};
 use sign_base::NoMemory;
 use signctl_format::ScriptCredential;
-use signctl_format::text::{push, push_number, push_word};
 
 /// Adds the line of a reply.
 pub fn push_grant_reply(

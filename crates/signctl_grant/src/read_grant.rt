@@ -1,17 +1,17 @@
 //! Reading a line of `grant`: one function for each form of a granter's own. The others are a script's.
 ghost use Rattle.std.specs.Prelude.{◌≡◌};
-ghost use Rattle.signctl_format.specs.Readers.{words_after, Reads};
+ghost use Rattle.line_words.specs.Readers.{words_after, Reads};
 ghost use Rattle.signctl_grant.specs.GrantEvents.{plain_grant_event};
 ghost use Rattle.signctl_grant.specs.GrantGrammar.{failure_moment, as_grant};
 ghost use Rattle.signctl_grant.specs.GrantReading.{begin_form, made_form, fail_form, grant_item_of};
 
 use crate::GrantScriptEvent;
+use line_words::NotUnderstood;
+use line_words::moment::{parse_duration, parse_moment};
+use line_words::word::{at_end_of_line, number_at, split_word, word_at};
 use sequential_signer::{Event, GrantEvent, Made};
 use sign_base::Timestamp;
-use signctl_format::moment::{duration, moment};
-use signctl_format::read::{call_at, credential, read_line_with_no_head};
-use signctl_format::read_error::NotUnderstood;
-use signctl_format::word::{at_end_of_line, number_at, split_word, word_at};
+use signctl_format::read::{call_at, parse_credential, read_line_with_no_head};
 use signctl_format::{Item, ScriptCredential, ScriptEvent, ScriptVersion};
 
 /// The item that a line without its newline spells, None where it spells none.
@@ -20,23 +20,23 @@ use signctl_format::{Item, ScriptCredential, ScriptEvent, ScriptVersion};
 pub fn read_grant_line(line: &[u8]) -> Option<Item<GrantScriptEvent>>
     ensures { result ≡ grant_item_of line.now }
 {
-    match item(line) {
+    match parse_item(line) {
         Ok(item) => Some(item),
         Err(NotUnderstood) => None,
     }
 }
 
 #[tactic(auto, unfolding(crate::specs::GrantReading::grant_item_of, crate::specs::GrantReading::grant_words_say, crate::specs::GrantReading::grant_form))]
-fn item(line: &[u8]) -> Result<Item<GrantScriptEvent>, NotUnderstood>
+fn parse_item(line: &[u8]) -> Result<Item<GrantScriptEvent>, NotUnderstood>
     ensures { Reads (λ i. i) result (grant_item_of line.now) }
 {
     let (name, rest) = split_word(line);
     if name == b"begin".as_slice() {
-        begin(rest)
+        parse_begin(rest)
     } else if name == b"made".as_slice() {
-        made(rest)
+        parse_made(rest)
     } else if name == b"fail".as_slice() {
-        fail(rest)
+        parse_fail(rest)
     } else if name == b"accept".as_slice() {
         Err(NotUnderstood)
     } else {
@@ -45,28 +45,28 @@ fn item(line: &[u8]) -> Result<Item<GrantScriptEvent>, NotUnderstood>
 }
 
 #[tactic(auto, unfolding(crate::specs::GrantReading::begin_form))]
-fn begin(rest: &[u8]) -> Result<Item<GrantScriptEvent>, NotUnderstood>
+fn parse_begin(rest: &[u8]) -> Result<Item<GrantScriptEvent>, NotUnderstood>
     ensures { Reads (λ i. i) result (begin_form (words_after rest.now)) }
 {
     let (call, rest) = call_at(rest)?;
     let (word, rest) = word_at(rest)?;
-    let expires_in = duration(ScriptVersion::One, word)?;
+    let expires_in = parse_duration(ScriptVersion::One, word)?;
     at_end_of_line(event_item(GrantEvent::Begin { call, expires_in }), rest)
 }
 
-#[tactic(auto, unfolding(crate::specs::GrantReading::made_form, signctl_format::specs::Reading::moment_at))]
-fn made(rest: &[u8]) -> Result<Item<GrantScriptEvent>, NotUnderstood>
+#[tactic(auto, unfolding(crate::specs::GrantReading::made_form, line_words::specs::Moments::moment_at))]
+fn parse_made(rest: &[u8]) -> Result<Item<GrantScriptEvent>, NotUnderstood>
     ensures { Reads (λ i. i) result (made_form (words_after rest.now)) }
 {
     let (call, rest) = call_at(rest)?;
     let (word, rest) = word_at(rest)?;
-    let now = moment(ScriptVersion::One, word)?;
-    let answer = Made::Made(credential(ScriptVersion::One, rest)?);
+    let now = parse_moment(ScriptVersion::One, word)?;
+    let answer = Made::Made(parse_credential(ScriptVersion::One, rest)?);
     Ok(event_item(GrantEvent::Granted { call, now, answer }))
 }
 
 #[tactic(auto, unfolding(crate::specs::GrantReading::fail_form))]
-fn fail(rest: &[u8]) -> Result<Item<GrantScriptEvent>, NotUnderstood>
+fn parse_fail(rest: &[u8]) -> Result<Item<GrantScriptEvent>, NotUnderstood>
     ensures { Reads (λ i. i) result (fail_form (words_after rest.now)) }
 {
     let (call, rest) = call_at(rest)?;

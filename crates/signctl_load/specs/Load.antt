@@ -17,12 +17,11 @@ use Rattle.sequential_signer.specs.declared.event.Reply.{Reply}
 use Rattle.sequential_signer.specs.declared.event.Reply.TheVariants as reply
 use Rattle.signctl_driver.specs.declared.status.Status.{Status}
 use Rattle.signctl_driver.specs.declared.status.Status.TheVariants.{Done, WriteFault, OutOfMemory}
+use Rattle.line_words.specs.Words.{line_of, with_newline}
 use Rattle.signctl_format.specs.declared.credential.ScriptCredential.{ScriptCredential}
 use Rattle.signctl_format.specs.declared.credential.ScriptRule.{ScriptRule}
 use Rattle.signctl_format.specs.declared.credential.ScriptRule.TheVariants.{Now}
 use Rattle.signctl_format.specs.Policy.{script_policy}
-use Rattle.signctl_format.specs.Words.{line_of}
-use Rattle.signctl_format.specs.Lines.{with_newline}
 use Rattle.signctl_load.specs.LoadRound.{calls_in_round, asking_events, accepting_events}
 use Rattle.signctl_load.specs.declared.counts.Counts.{Counts}
 

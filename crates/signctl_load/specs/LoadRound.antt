@@ -10,8 +10,8 @@ use Rattle.sequential_signer.specs.declared.event.Answer.TheVariants.{Found}
 use Rattle.sequential_signer.specs.declared.event.Event.{Event}
 use Rattle.sequential_signer.specs.declared.event.Event.TheVariants.{Begin, Poll, Provided, Signed, Cancel}
 use Rattle.sequential_signer.specs.declared.event.Verdict.TheVariants.{Accepted}
+use Rattle.line_words.specs.Moments.{nanos_of_second}
 use Rattle.signctl_format.specs.declared.credential.ScriptCredential.{ScriptCredential}
-use Rattle.signctl_format.specs.Moments.{nanos_of_second}
 
 -- the call with this number, of the one handle
 abbrev pub load_call : ℕ → CallId

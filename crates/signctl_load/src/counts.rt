@@ -1,15 +1,14 @@
 //! How often each kind of reply came.
 ghost use Rattle.std.specs.Prelude.{◌≡◌, ◌++◌, ◌∷◌, [], OnOk, decimal};
 ghost use Rattle.sign_io.specs.Faults.{one_more};
-ghost use Rattle.signctl_format.specs.Words.{spaced_words};
-ghost use Rattle.signctl_format.specs.Lines.{with_newline};
+ghost use Rattle.line_words.specs.Words.{spaced_words, with_newline};
 ghost use Rattle.signctl_load.specs.Load.{counts_of, counts_line};
 ghost use Rattle.signctl_load.specs.LoadState.{with_reply};
 
+use line_words::text::{push, push_number, push_word};
 use sequential_signer::Reply;
 use sign_base::NoMemory;
 use signctl_format::ScriptCredential;
-use signctl_format::text::{push, push_number, push_word};
 
 /// Numbers of replies. One that does not fit 64 bits stays at the greatest number.
 #[derive(Clone, Copy, Debug, PartialEq, Eq)]

@@ -1,6 +1,6 @@
 //! The events of `load`, each by its call: their heads, moments and credentials.
 ghost use Rattle.std.specs.Prelude.{◌≡◌, ◌≤◌, ◌*◌, IfOk, pos};
-ghost use Rattle.signctl_format.specs.Moments.{nanos_of_second};
+ghost use Rattle.line_words.specs.Moments.{nanos_of_second};
 ghost use Rattle.signctl_load.specs.LoadRound.{moment_in_round, load_head, accepted_head, load_credential};
 ghost use Rattle.signctl_load.specs.LoadRound.{begin_event, poll_event, found_event, accepted_event};
 

@@ -18,7 +18,7 @@ use Rattle.signctl_format.specs.ScriptSetup.{setup_in}
 use Rattle.signctl_script.specs.ScriptOutput.{final_line_of, final_lines_of, transcript_of}
 use Rattle.signctl_script.specs.SessionState.{SessionState, RepresentsItems}
 use Rattle.signctl_script.proofs.PlainEvents.{plain-cache}
-use Rattle.signctl_script.specs.declared.script_line.ScriptLine.{ScriptLine}
+use Rattle.signctl_script.specs.declared.session.ScriptLine.{ScriptLine}
 use Rattle.desk_parts.proofs.ListPlaces.{item-there}
 
 -- no final lines yet

@@ -4,8 +4,8 @@ use Rattle.std.proofs.lemmas.List.Elements.{filter_map-append}
 use Rattle.signctl_format.specs.ScriptEvents.{ScriptItem}
 use Rattle.signctl_format.proofs.SetupIn.{picked-few}
 use Rattle.signctl_script.specs.Script.{item_in, items_in, version_after, version_in}
-use Rattle.signctl_script.specs.declared.script_line.ScriptLine.{ScriptLine}
-use Rattle.signctl_script.specs.declared.script_line.ScriptLine.TheVariants.{VersionTwo, Says}
+use Rattle.signctl_script.specs.declared.session.ScriptLine.{ScriptLine}
+use Rattle.signctl_script.specs.declared.session.ScriptLine.TheVariants.{VersionTwo, Says}
 
 -- a line that says something adds its item
 pub items_in-says : (lines : List ScriptLine) (item : ScriptItem)

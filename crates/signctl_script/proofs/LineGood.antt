@@ -1,15 +1,15 @@
 -- What is known of a line that was read, and of a version line.
 use Rattle.std.proofs.Common.{◌≡◌, List, [], ◌∷◌, Bool, true, false, ◌&&◌, if◌then◌else◌, Option, Some, None, Result, Ok, Err, refl, ap, subst}
 use Rattle.signctl_driver.specs.Command.{MayFollow}
+use Rattle.line_words.specs.declared.read_error.LineError.{LineError}
 use Rattle.signctl_format.specs.ScriptEvents.{ScriptItem}
-use Rattle.signctl_format.specs.declared.line_error.LineError.{LineError}
 use Rattle.signctl_format.specs.Grammar.{is_version_line}
 use Rattle.signctl_format.specs.Reading.{item_of}
 use Rattle.signctl_format.specs.ScriptSetup.{is_empty, item_error}
 use Rattle.signctl_script.specs.Script.{items_in, line_or, item_reading, version_in}
 use Rattle.signctl_script.specs.ScriptOutput.{script_command}
-use Rattle.signctl_script.specs.declared.script_line.ScriptLine.{ScriptLine}
-use Rattle.signctl_script.specs.declared.script_line.ScriptLine.TheVariants.{VersionTwo, Says}
+use Rattle.signctl_script.specs.declared.session.ScriptLine.{ScriptLine}
+use Rattle.signctl_script.specs.declared.session.ScriptLine.TheVariants.{VersionTwo, Says}
 
 -- the item of a good line, or another
 abbrev item_or : ScriptItem → Result ScriptLine LineError → ScriptItem

@@ -15,12 +15,14 @@ use Rattle.sign_desk.specs.DeskState.{DeskState, Represents, with_cache}
 use Rattle.desk_parts.specs.Tables.{setup_of, was_begun}
 use Rattle.desk_parts.specs.Adding.{with_handle, AddAnswer, late_refusal, handle_refusal}
 use Rattle.desk_parts.specs.declared.adding.AddError.{AddError}
+use Rattle.desk_parts.specs.declared.limits.TheConstants.{MOST_ROWS}
 use Rattle.desk_parts.proofs.AddAnswers.{cache-allowed, handle-allowed}
+use Rattle.line_words.specs.declared.moment.ScriptVersion.{ScriptVersion}
+use Rattle.line_words.specs.declared.moment.ScriptVersion.TheVariants.{Two}
 use Rattle.signctl_format.specs.declared.credential.ScriptCredential.{ScriptCredential}
 use Rattle.signctl_format.specs.declared.credential.ScriptRule.{ScriptRule}
 use Rattle.signctl_format.specs.declared.credential.ScriptRule.TheVariants.{Now, Cred}
 use Rattle.signctl_format.specs.declared.item.Item.TheVariants as item
-use Rattle.signctl_format.specs.declared.script_version.ScriptVersion.{ScriptVersion}
 use Rattle.signctl_format.specs.Policy.{script_policy}
 use Rattle.signctl_format.specs.ScriptEvents.{ScriptItem, plain_event}
 use Rattle.sign_io.specs.Lines.{input_limit}
@@ -28,9 +30,8 @@ use Rattle.signctl_format.specs.ScriptSetup.{is_empty, place_of_rule, setup_in, 
 use Rattle.signctl_script.specs.Script.{items_in, version_in}
 use Rattle.signctl_script.specs.ScriptOutput.{transcript_of}
 use Rattle.signctl_script.specs.SessionState.{SessionState, RepresentsItems, SessionRepresents}
-use Rattle.signctl_script.specs.declared.script_line.ScriptLine.{ScriptLine}
-use Rattle.signctl_script.specs.declared.script_line.ScriptLine.TheVariants.{VersionTwo, Says}
-use Rattle.signctl_format.specs.declared.script_version.ScriptVersion.TheVariants.{Two}
+use Rattle.signctl_script.specs.declared.session.ScriptLine.{ScriptLine}
+use Rattle.signctl_script.specs.declared.session.ScriptLine.TheVariants.{VersionTwo, Says}
 use Rattle.signctl_format.proofs.SetupIn.{setup_in-silent, setup_in-cache, setup_in-handle, setup_in-event, events_in-more, rule-placed, caches-few, handles-few, cache-no_event, handle-no_event, handle-cache, one-more}
 use Rattle.signctl_script.proofs.PlainEvents.{plain-reply}
 use Rattle.signctl_script.proofs.ItemsIn.{items_in-says, version_after-says}
@@ -178,11 +179,11 @@ module _ (session : SessionState) (items : List ScriptItem) (stands : Represents
   handles-same = ap (λ (s : Setup ScriptRule). s.handles) stands.setup
 
   -- there is a number for one cache more
-  pub caches-fit : length items < input_limit → length session.desk.loaders < 4294967295
+  pub caches-fit : length items < input_limit → length session.desk.loaders < MOST_ROWS
   caches-fit few = omega (arith, few, caches-few items, ap (λ (v : List Loader). length v) loaders-same)
 
   -- and for one handle more
-  pub handles-fit : length items < input_limit → length session.desk.handles < 4294967295
+  pub handles-fit : length items < input_limit → length session.desk.handles < MOST_ROWS
   handles-fit few = omega (arith, few, handles-few items, ap (λ (v : List Handle). length v) handles-same)
 
   -- the one refusal of a new cache is out of memory, and its number counts those before it
@@ -262,9 +263,9 @@ next-says inside session lines item version seen r v =
     }
 
 -- a session before the first line
-pub first-session : (desk : DeskState ScriptCredential ScriptRule)
+pub first_session : (desk : DeskState ScriptCredential ScriptRule)
     → setup_of desk ≡ record { loaders = []; rules = Now ∷ Cred ∷ []; handles = [] }
     → Represents script_policy desk []
     → SessionRepresents (record { desk = desk; had_event = false; version = None }) []
 unfolding items_in
-first-session desk setup fresh = record { items = first-line (record { desk = desk; had_event = false; version = None }) setup fresh refl; version = refl }
+first_session desk setup fresh = record { items = first-line (record { desk = desk; had_event = false; version = None }) setup fresh refl; version = refl }

@@ -1,16 +1,16 @@
 -- How the lines of a script are read.
 use Rattle.std.specs.Prelude.{ℕ, ◌&&◌, List, [], ◌∷◌, Option, Some, None, Result, Ok, Err, if◌then◌else◌}
 use Rattle.std.specs.Prelude.{filter_map, unwrap_or}
-use Rattle.signctl_format.specs.declared.line_error.LineError.{LineError}
-use Rattle.signctl_format.specs.declared.line_error.LineError.TheVariants.{NotUnderstood}
-use Rattle.signctl_format.specs.declared.script_version.ScriptVersion.{ScriptVersion}
-use Rattle.signctl_format.specs.declared.script_version.ScriptVersion.TheVariants.{One, Two}
+use Rattle.line_words.specs.declared.read_error.LineError.{LineError}
+use Rattle.line_words.specs.declared.read_error.LineError.TheVariants.{NotUnderstood}
+use Rattle.line_words.specs.declared.moment.ScriptVersion.{ScriptVersion}
+use Rattle.line_words.specs.declared.moment.ScriptVersion.TheVariants.{One, Two}
 use Rattle.signctl_format.specs.ScriptEvents.{ScriptItem}
 use Rattle.signctl_format.specs.ScriptSetup.{is_empty, item_error}
 use Rattle.signctl_format.specs.Reading.{item_of}
 use Rattle.signctl_format.specs.Grammar.{is_version_line}
-use Rattle.signctl_script.specs.declared.script_line.ScriptLine.{ScriptLine}
-use Rattle.signctl_script.specs.declared.script_line.ScriptLine.TheVariants.{VersionTwo, Says}
+use Rattle.signctl_script.specs.declared.session.ScriptLine.{ScriptLine}
+use Rattle.signctl_script.specs.declared.session.ScriptLine.TheVariants.{VersionTwo, Says}
 
 -- the item of a line
 abbrev pub item_in : ScriptLine → Option ScriptItem

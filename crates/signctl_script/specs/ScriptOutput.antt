@@ -7,17 +7,18 @@ use Rattle.sequential_signer.specs.declared.event.Entry.{Entry}
 use Rattle.signctl_driver.specs.Command.{Command}
 use Rattle.signctl_driver.specs.Lines.{Ending}
 use Rattle.signctl_driver.specs.Output.{output}
+use Rattle.line_words.specs.declared.read_error.LineError.{LineError}
+use Rattle.line_words.specs.Words.{with_newline}
+use Rattle.line_words.specs.LineErrors.{line_error_text}
 use Rattle.signctl_format.specs.declared.credential.ScriptCredential.{ScriptCredential}
 use Rattle.signctl_format.specs.declared.item.Item.TheVariants as item
-use Rattle.signctl_format.specs.declared.line_error.LineError.{LineError}
 use Rattle.signctl_format.specs.Policy.{script_policy}
-use Rattle.signctl_format.specs.Lines.{with_newline, reply_line, cache_line, handle_line, final_line}
-use Rattle.signctl_format.specs.Lines.{line_error_text}
+use Rattle.signctl_format.specs.Lines.{reply_line, cache_line, handle_line, final_line}
 use Rattle.signctl_format.specs.ScriptEvents.{ScriptItem}
 use Rattle.signctl_format.specs.ScriptSetup.{setup_in, events_in}
 use Rattle.signctl_script.specs.Script.{items_in, version_in, script_reading}
-use Rattle.signctl_script.specs.declared.script_line.ScriptLine.{ScriptLine}
-use Rattle.signctl_script.specs.declared.script_line.ScriptLine.TheVariants.{VersionTwo, Says}
+use Rattle.signctl_script.specs.declared.session.ScriptLine.{ScriptLine}
+use Rattle.signctl_script.specs.declared.session.ScriptLine.TheVariants.{VersionTwo, Says}
 
 -- the legal transcript of the event lines, without allocation failures
 abbrev pub transcript_of : List ScriptItem → List (Entry ScriptCredential)

@@ -4,14 +4,14 @@ use Rattle.sequential_signer.specs.Legal.{expected_entries}
 use Rattle.sequential_signer.specs.declared.event.Event.{Event}
 use Rattle.sign_desk.specs.DeskState.{DeskState, Represents}
 use Rattle.desk_parts.specs.Tables.{setup_of}
+use Rattle.line_words.specs.declared.moment.ScriptVersion.{ScriptVersion}
 use Rattle.signctl_format.specs.declared.credential.ScriptCredential.{ScriptCredential}
 use Rattle.signctl_format.specs.declared.credential.ScriptRule.{ScriptRule}
-use Rattle.signctl_format.specs.declared.script_version.ScriptVersion.{ScriptVersion}
 use Rattle.signctl_format.specs.Policy.{script_policy}
 use Rattle.signctl_format.specs.ScriptEvents.{ScriptItem, plain_event}
 use Rattle.signctl_format.specs.ScriptSetup.{is_empty, setup_in, events_in}
 use Rattle.signctl_script.specs.Script.{items_in, version_after}
-use Rattle.signctl_script.specs.declared.script_line.ScriptLine.{ScriptLine}
+use Rattle.signctl_script.specs.declared.session.ScriptLine.{ScriptLine}
 
 -- a desk, whether an event came, and the version of the script, once it has a line
 pub record SessionState : Type 0 where

@@ -1,19 +1,15 @@
 //! `signctl script`, line by line: the desk that the cache and handle lines set up, and what is kept
 //! of the lines so far.
 ghost use Rattle.std.specs.Prelude.{◌≡◌, ◌++◌, ◌<◌, [], List, length, OnOk, IfOk, unwrap_or};
-ghost use Rattle.sign_desk.specs.DeskState.{Represents};
-ghost use Rattle.desk_parts.specs.Adding.{with_rule};
-ghost use Rattle.signctl_format.specs.Policy.{script_policy};
+ghost use Rattle.line_words.specs.declared.moment.ScriptVersion.TheVariants.{One};
 ghost use Rattle.signctl_format.specs.declared.item.Item.TheVariants as item;
-ghost use Rattle.signctl_format.specs.declared.script_version.ScriptVersion.TheVariants.{One};
 ghost use Rattle.signctl_format.specs.ScriptEvents.{ScriptItem};
 ghost use Rattle.signctl_format.specs.ScriptSetup.{item_error};
 ghost use Rattle.signctl_script.specs.ScriptOutput.{final_lines};
 ghost use Rattle.signctl_script.specs.SessionState.{RepresentsItems};
 ghost use Rattle.signctl_script.specs.Answering.{CanAnswer, AnswersItem};
-ghost use Rattle.signctl_script.specs.declared.script_line.ScriptLine.{ScriptLine};
+ghost use Rattle.signctl_script.specs.declared.session.ScriptLine.{ScriptLine};
 
-use crate::script_line::ScriptLine;
 use sequential_signer::Loader;
 use sign_base::NoMemory;
 use sign_desk::{AddError, Desk};
@@ -24,6 +20,15 @@ use signctl_format::{
 };
 use std::alloc::Global;
 use std::marker::Model;
+
+/// A good line of a script.
+#[derive(Debug, Drop)]
+pub enum ScriptLine {
+    /// The first line, where it says that the script is of version 2.
+    VersionTwo,
+    /// Any other.
+    Says(Item<ScriptEvent>),
+}
 
 /// What is kept of a script whose lines were good so far.
 #[derive(Drop)]
@@ -49,8 +54,12 @@ impl Session {
         ensures { IfOk result (λ s. SessionRepresents s []) }
     {
         let mut desk = Desk::new(alloc);
-        add_rule(&mut desk, ScriptRule::Now)?;
-        add_rule(&mut desk, ScriptRule::Cred)?;
+        if desk.add_rule(ScriptRule::Now).is_err() {
+            return Err(NoMemory { back: () });
+        }
+        if desk.add_rule(ScriptRule::Cred).is_err() {
+            return Err(NoMemory { back: () });
+        }
         Ok(Session {
             desk,
             had_event: false,
@@ -231,21 +240,6 @@ impl LineCommand for Session {
     ) -> Result<Result<(), LineError>, NoMemory<()>> {
         self.push_finals(text)?;
         Ok(Ok(()))
-    }
-}
-
-/// Adds a rule to a new desk.
-fn add_rule(
-    desk: &mut Desk<ScriptCredential, ScriptRule>,
-    rule: ScriptRule,
-) -> Result<(), NoMemory<()>>
-    requires { length desk.old.rules < 4294967295 }
-    ensures added { OnOk result (desk.new ≡ with_rule rule desk.old) }
-    ensures fresh { OnOk result (Represents script_policy desk.new []) }
-{
-    match desk.add_rule(rule) {
-        Ok(_) => Ok(()),
-        Err(_) => Err(NoMemory { back: () }),
     }
 }
 

@@ -46,7 +46,8 @@ module _ {K : Type 0} (gate : GateMeaning K) (turns : ℕ) (job : Job) where
   step-last : (at after : _) (x : Receipt K) (rest : List (Receipt K)) (end : _)
       → IsTrue (is_reply_to x.entry.event x.entry.reply) → IsStep gate turns job at x.entry after
       → IsEventSequence gate turns job after rest end
-      → (IsEventSequence gate turns job (next_after x.entry.reply) rest end → RanOut (Some (last_after x.entry.reply rest)))
+      → (IsEventSequence gate turns job (next_after x.entry.reply) rest end
+      → RanOut (Some (last_after x.entry.reply rest)))
       → RanOut (Some (last_after x.entry.reply rest))
   step-last at after x rest end kind (goes_on n a) course later =
       later (subst (λ s. IsEventSequence gate turns job s rest end) a course)
@@ -58,8 +59,8 @@ module _ {K : Type 0} (gate : GateMeaning K) (turns : ℕ) (job : Job) where
       subst (λ l. RanOut (Some (last_after x.entry.reply l))) (sym over.0) ends
 
   -- a course that ran out of memory, after this reply
-  after_reply : (r : Reply K) (own : List (Receipt K)) (end : _) → IsEventSequence gate turns job (next_after r) own end
-      → ran_out end ≡ true → RanOut (Some (last_after r own))
+  after_reply : (r : Reply K) (own : List (Receipt K)) (end : _)
+      → IsEventSequence gate turns job (next_after r) own end → ran_out end ≡ true → RanOut (Some (last_after r own))
   after_reply reply.Begun [] end c t = inl refl
   after_reply reply.Pending [] end c t = inl refl
   after_reply (reply.Ask p) [] end c t = inl refl
@@ -103,7 +104,8 @@ module _ {K : Type 0} (gate : GateMeaning K) (turns : ℕ) (job : Job) where
       (own, rest, end, e ∙ ap (λ l. l ++ rest) (is ∙ ap (λ l. own ++ l) none ∙ append-nil own), c, t, serves)
 
 module _ {K : Type 0} (gate : GateMeaning K) (turns : ℕ) where
-  only_job : (job stopped : Job) (before after : List Job) → job ∷ [] ≡ before ++ stopped ∷ after → before ≡ []
+  only_job : (job stopped : Job) (before after : List Job) → job ∷ [] ≡ before ++ stopped ∷ after
+      → before ≡ []
   only_job job stopped [] after e = refl
   only_job job stopped (x ∷ xs) after e = absurd (omega (arith, ap length e, length-append xs (stopped ∷ after)))
 
@@ -113,11 +115,23 @@ module _ {K : Type 0} (gate : GateMeaning K) (turns : ℕ) where
   none_served (x ∷ xs) served e s = absurd (cc)
 
   -- the receipts of the job at which the work stopped, by the parts of what is known of it
-  stopped-last : (jobs : List Job) (added : List (Receipt K)) (given_up : ℕ) (before : List Job) (stopped : Job)
-      (after : List Job) (served own : List (Receipt K)) (not_now : Bool) (jobs_are : jobs ≡ before ++ stopped ∷ after)
-      (added_are : added ≡ served ++ own) (serves : ServesAll gate turns before served) (stops : _)
+  stopped-last : (jobs : List Job) (added : List (Receipt K)) (given_up : ℕ) (before : List Job)
+      (stopped : Job) (after : List Job) (served own : List (Receipt K)) (not_now : Bool)
+      (jobs_are : jobs ≡ before ++ stopped ∷ after) (added_are : added ≡ served ++ own) (serves : ServesAll gate turns before served) (stops : _)
       (counted : given_up ≡ replies is_cancelled served) (s : StopsAtAJob gate turns jobs added given_up)
-      → s ≡ record { before = before; job = stopped; after = after; served = served; own = own; not_now = not_now; jobs_are = jobs_are; added_are = added_are; serves = serves; stops = stops; counted = counted }
+      → s ≡ record {
+        before = before;
+        job = stopped;
+        after = after;
+        served = served;
+        own = own;
+        not_now = not_now;
+        jobs_are = jobs_are;
+        added_are = added_are;
+        serves = serves;
+        stops = stops;
+        counted = counted;
+      }
       → RanOut (last_reply own)
   stopped-last jobs added given_up before stopped after served [] not_now jobs_are added_are serves stops counted s e = inl refl
   stopped-last jobs added given_up before stopped after served (x ∷ rest) not_now jobs_are added_are serves stops counted s e =
@@ -126,9 +140,10 @@ module _ {K : Type 0} (gate : GateMeaning K) (turns : ℕ) where
 
   -- where the outcome is neither of those no allocation failed
   pub did_not : (job : Job) (out : Bool) (added : List (Receipt K)) (given_up : ℕ)
-      → MatchBool out (StopsAtAJob gate turns (job ∷ []) added given_up) (ServesAll gate turns (job ∷ []) added)
-      → outcome_of (last_reply added) out ≢ outcome.OutOfMemory → outcome_of (last_reply added) out ≢ outcome.NotNow
-      → out ≡ false
+      → MatchBool out (StopsAtAJob gate turns (job ∷ []) added given_up)
+      (ServesAll gate turns (job ∷ []) added)
+      → outcome_of (last_reply added) out ≢ outcome.OutOfMemory
+      → outcome_of (last_reply added) out ≢ outcome.NotNow → out ≡ false
   did_not job false added given_up s not_out not_now = refl
   did_not job true added given_up s not_out not_now =
       let none : s.served ≡ [] = none_served s.before s.served (only_job job s.job s.before s.after s.jobs_are) s.serves in

@@ -65,8 +65,8 @@ few_lists view work workers jobs dealt few =
 -- what is known where closing was refused
 pub where_refused : (P : DeskState ScriptCredential ScriptRule → Type 0)
     (Q : CloseRefused ScriptCredential ScriptRule → List Served → Type 0)
-    (r : PoolRefused ScriptCredential ScriptRule) (close : CloseRefused ScriptCredential ScriptRule) (served : Vec Served)
-    → r ≡ Close close served → MatchPoolRefused r P Q → Q close served.items
+    (r : PoolRefused ScriptCredential ScriptRule) (close : CloseRefused ScriptCredential ScriptRule)
+    (served : Vec Served) → r ≡ Close close served → MatchPoolRefused r P Q → Q close served.items
 where_refused P Q r close served e h = subst (λ x. MatchPoolRefused x P Q) e h
 
 module _ (gate : GateMeaning ScriptCredential) (workers jobs : ℕ) where

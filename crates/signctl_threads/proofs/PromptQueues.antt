@@ -104,7 +104,8 @@ module _ (workers : ℕ) (journal : List (Entry ScriptCredential)) (submitted : 
     all : replies_over receipts ≡ length jobs
 
   runs : (handle : ℕ) → handle < workers → (number before : ℕ) (answers : List Answer)
-      (receipts : List (Receipt ScriptCredential)) → ServesAnswers pool_meaning handle number before answers receipts
+      (receipts : List (Receipt ScriptCredential))
+      → ServesAnswers pool_meaning handle number before answers receipts
       → All DidNotRunOut answers → All IsNotNotNow answers → All (AreBegunAs submitted journal) answers
       → All (IsInJournal journal) receipts → Runs handle number answers receipts
   runs handle lt number before [] receipts none o n b j = record {
@@ -190,7 +191,8 @@ module _ (workers : ℕ) (journal : List (Entry ScriptCredential)) (submitted : 
   -- where the journal is settled and legal, all are signed
   signs_all : (lists : List (List Answer)) (passes : List (List (Receipt ScriptCredential)))
       → IsSettled journal passes → IsLegal script_policy (pool_setup workers) journal
-      → ServesHandles pool_meaning 0 lists passes → length passes ≡ workers → AreGoodAnswers journal passes lists
+      → ServesHandles pool_meaning 0 lists passes → length passes ≡ workers
+      → AreGoodAnswers journal passes lists
       → All DidNotRunOut (joined lists) → All (AreBegunAs submitted journal) (joined lists)
       → (served : List Served) × SignsAll (length (joined lists)) journal served
   signs_all lists passes settled legal serves are good o b =

@@ -2,8 +2,7 @@
 use Rattle.std.specs.Prelude.{ℕ, List, [], ◌∷◌, codes}
 use Rattle.std.specs.Fmt.{decimal}
 use Rattle.sequential_signer.specs.declared.event.Entry.{Entry}
-use Rattle.signctl_format.specs.Lines.{with_newline}
-use Rattle.signctl_format.specs.Words.{line_of}
+use Rattle.line_words.specs.Words.{with_newline, line_of}
 use Rattle.signctl_format.specs.declared.credential.ScriptCredential.{ScriptCredential}
 use Rattle.pool_jobs.specs.Run.{signed, loads}
 

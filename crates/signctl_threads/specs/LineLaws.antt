@@ -1,8 +1,7 @@
 -- The lines of a pool and of a queue whose gate answers at once.
 use Rattle.std.specs.Prelude.{◌≡◌, ℕ, ◌<◌, min, List, [], ◌∷◌, codes}
 use Rattle.std.specs.Fmt.{decimal}
-use Rattle.signctl_format.specs.Lines.{with_newline}
-use Rattle.signctl_format.specs.Words.{line_of}
+use Rattle.line_words.specs.Words.{with_newline, line_of}
 use Rattle.signctl_format.specs.declared.credential.ScriptCredential.{ScriptCredential}
 use Rattle.signctl_format.specs.declared.credential.ScriptRule.{ScriptRule}
 use Rattle.signer_book.specs.declared.settled.Settled.{Settled}

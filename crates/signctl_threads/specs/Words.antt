@@ -1,7 +1,8 @@
 -- The commands that threads serve, by their words.
-use Rattle.std.specs.Prelude.{ℕ, ◌<◌, ◌≤◌, ◌==◌, ◌||◌, Bool, false, List, [], ◌∷◌, Option, Some, None, if◌then◌else◌, codes}
+use Rattle.std.specs.Prelude.{ℕ, ◌<◌, ◌≤◌, ◌==◌, ◌||◌, Bool, false, List, [], ◌∷◌, Option, Some, None, codes}
+use Rattle.std.specs.Prelude.{if◌then◌else◌}
 use Rattle.std.specs.Str.{bytes_eq}
-use Rattle.signctl_format.specs.Words.{number_of}
+use Rattle.line_words.specs.Words.{number_of}
 use Rattle.signctl_threads.specs.declared.words.PoolCommand.{PoolCommand}
 use Rattle.signctl_threads.specs.declared.words.PoolCommand.TheVariants.{Pool, Queue}
 

@@ -1,15 +1,15 @@
 //! The line of a queue: how many jobs were submitted, answered and left, and how
 //! often the provider was asked.
 ghost use Rattle.std.specs.Prelude.{◌≡◌, ◌<◌, ◌^◌, ◌++◌, ◌∷◌, [], IfOk, OnOk, length, decimal, codes};
-ghost use Rattle.signctl_format.specs.Words.{spaced_words};
+ghost use Rattle.line_words.specs.Words.{spaced_words};
 ghost use Rattle.pool_jobs.specs.Run.{loads};
 ghost use Rattle.pool_books.specs.Cleared.{joined, lists_of};
 ghost use Rattle.signctl_threads.specs.Line.{books_line};
 
 use crate::line::{loads, push_count};
+use line_words::text::{push, push_number, push_word};
 use sign_base::NoMemory;
 use sign_pool::Finished;
-use signctl_format::text::{push, push_number, push_word};
 use signctl_format::{ScriptCredential, ScriptRule};
 use std::alloc::Global;
 

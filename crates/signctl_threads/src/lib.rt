@@ -1,6 +1,6 @@
-//! The commands of `signctl` that run threads: `pool` and `queue` serve made-up calls by workers at one shared
-//! signer, each writes one line, and `run_threads` is the program on their command lines. Its calls may wait
-//! for their threads, as no other command's do.
+//! The commands of `signctl` that run threads: `pool` and `queue` serve made-up calls by workers at one
+//! shared signer, each writes one line, and `run_threads` is the program on their command lines. Its calls
+//! may wait for their threads, as no other command's do.
 #![tactic(auto)]
 
 mod books;
@@ -25,8 +25,8 @@ mod words;
 mod work;
 
 pub use end::PoolEnd;
-pub use program::{is_for_threads, run_threads};
+pub use program::run_threads;
 pub use refused::QueueRefused;
 pub use run::run_pool;
 pub use serve::serve_queue;
-pub use words::{PoolCommand, names_pool};
+pub use words::{PoolCommand, is_for_threads, names_pool};

@@ -1,14 +1,14 @@
 //! The line of a pool: how many calls there were, how many were signed, and how often the provider was asked.
 ghost use Rattle.std.specs.Prelude.{◌≡◌, ◌++◌, ◌∷◌, [], IfOk, OnOk, decimal};
 ghost use Rattle.sequential_signer.specs.Replies.{is_ask, is_done};
-ghost use Rattle.signctl_format.specs.Words.{spaced_words};
+ghost use Rattle.line_words.specs.Words.{spaced_words};
 ghost use Rattle.pool_jobs.specs.Run.{signed, loads};
 ghost use Rattle.signctl_threads.specs.Line.{pool_line};
 
+use line_words::text::{push, push_number, push_word};
 use sequential_signer::{Entry, Reply};
 use sign_base::NoMemory;
 use signctl_format::ScriptCredential;
-use signctl_format::text::{push, push_number, push_word};
 use std::alloc::Global;
 
 /// The line of so many jobs with this journal.

@@ -8,8 +8,8 @@ pub fn every_pool_writes_the_same_line()
     ensures { EveryPoolWritesTheSameLine }
 {}
 
-/// A queue whose gate is `PoolGate` writes one line, `calls J answered J left 0 loads L settled`, where L is the
-/// lesser of J and 1, in every order in which its workers' steps may come.
+/// A queue whose gate is `PoolGate` writes one line, `calls J answered J left 0 loads L settled`, where L is
+/// the lesser of J and 1, in every order in which its workers' steps may come.
 pub fn every_queue_writes_the_same_line()
     ensures { EveryQueueWritesTheSameLine }
 {}

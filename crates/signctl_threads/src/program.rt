@@ -9,27 +9,16 @@ ghost use Rattle.signctl_threads.specs.Ends.{status_of};
 ghost use Rattle.signctl_threads.specs.Pool.{IsThreadsRun};
 ghost use Rattle.signctl_threads.specs.PromptLine.{WritesPromptLine};
 ghost use Rattle.signctl_threads.specs.Words.{IsPoolSize};
-ghost use Rattle.signctl_threads.specs.CommandLine.{is_for_threads, asked_of};
+ghost use Rattle.signctl_threads.specs.CommandLine.{asked_of};
 
-use crate::{PoolEnd, names_pool, run_pool};
+use crate::{PoolEnd, run_pool};
 use pool_jobs::PoolGate;
 use sign_io::Sink;
 use signctl_driver::Status;
-use signctl_driver::reason::{after_name, report};
+use signctl_driver::status::{after_name, report};
 use std::alloc::Global;
 use std::sync::Wait;
 use std::thread::Threads;
-
-/// Whether a command line, whose first word is the program's name, is one for `run_threads`. Any other is for
-/// `signctl_core::run_program`. `None` is a command line that is not text.
-pub fn is_for_threads(words: &Option<Vec<String>>) -> bool
-    ensures { result ≡ is_for_threads (option_map (λ all. map string_bytes all.items) words.now) }
-{
-    match words {
-        Some(all) => names_pool(after_name(all.as_slice())),
-        None => false,
-    }
-}
 
 /// Answers a command line, whose first word is the program's name, by the commands that threads serve, and
 /// gives the exit status. It may wait for its threads.

@@ -1,8 +1,11 @@
 //! The commands that threads serve, by their words.
-ghost use Rattle.std.specs.Prelude.{◌≡◌, ◌<◌, ◌≤◌, IfSome, map, string_bytes};
-ghost use Rattle.signctl_threads.specs.Words.{pool_named, pool_by_words, queue_by_words, names_pool, IsPoolSize, most_workers, most_jobs, most_capacity};
+ghost use Rattle.std.specs.Prelude.{◌≡◌, ◌<◌, ◌≤◌, IfSome, map, string_bytes, option_map};
+ghost use Rattle.signctl_threads.specs.Words.{pool_named, pool_by_words, queue_by_words, names_pool};
+ghost use Rattle.signctl_threads.specs.Words.{IsPoolSize, most_workers, most_jobs, most_capacity};
+ghost use Rattle.signctl_threads.specs.CommandLine.{is_for_threads};
 
-use signctl_format::word::number;
+use line_words::word::parse_number;
+use signctl_driver::status::after_name;
 
 /// The most workers of a pool.
 const MOST_WORKERS: u64 = 64;
@@ -53,8 +56,8 @@ fn pool_by_words(word: &str, workers: &str, jobs: &str) -> Option<PoolCommand>
     if word != "pool" {
         return None;
     }
-    let workers = number(MOST_WORKERS, workers.as_bytes()).ok()?;
-    let jobs = number(MOST_JOBS, jobs.as_bytes()).ok()?;
+    let workers = parse_number(MOST_WORKERS, workers.as_bytes()).ok()?;
+    let jobs = parse_number(MOST_JOBS, jobs.as_bytes()).ok()?;
     if workers == 0 {
         return None;
     }
@@ -71,9 +74,9 @@ fn queue_by_words(word: &str, workers: &str, jobs: &str, capacity: &str) -> Opti
     if word != "queue" {
         return None;
     }
-    let workers = number(MOST_WORKERS, workers.as_bytes()).ok()?;
-    let jobs = number(MOST_JOBS, jobs.as_bytes()).ok()?;
-    let capacity = number(MOST_CAPACITY, capacity.as_bytes()).ok()?;
+    let workers = parse_number(MOST_WORKERS, workers.as_bytes()).ok()?;
+    let jobs = parse_number(MOST_JOBS, jobs.as_bytes()).ok()?;
+    let capacity = parse_number(MOST_CAPACITY, capacity.as_bytes()).ok()?;
     if workers == 0 || capacity == 0 {
         return None;
     }
@@ -91,5 +94,16 @@ pub fn names_pool(words: &[String]) -> bool
     match words {
         [word, ..] => word.as_str() == "pool" || word.as_str() == "queue",
         [] => false,
+    }
+}
+
+/// Whether a command line, whose first word is the program's name, is one for `run_threads`. Any other is for
+/// `signctl_core::run_program`. `None` is a command line that is not text.
+pub fn is_for_threads(words: &Option<Vec<String>>) -> bool
+    ensures { result ≡ is_for_threads (option_map (λ all. map string_bytes all.items) words.now) }
+{
+    match words {
+        Some(all) => names_pool(after_name(all.as_slice())),
+        None => false,
     }
 }

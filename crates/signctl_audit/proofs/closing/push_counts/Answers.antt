@@ -2,9 +2,9 @@ use Rattle.std.proofs.Common.{ℕ, [], ◌∷◌, ◌++◌, ap, ◌∙◌}
 use Rattle.std.proofs.lemmas.Result.{on_ok_weaker}
 use Rattle.std.specs.Prelude.{codes}
 use Rattle.std.specs.Fmt.{decimal}
+use Rattle.line_words.proofs.LineWords.{more-words}
 use Rattle.signctl_format.specs.Lines.{cache_line}
 use Rattle.signctl_audit.specs.AuditOutput.{count_words}
-use Rattle.signctl_format.proofs.LineWords.{more-words}
 use Rattle.signctl_audit.proofs.closing.push_counts.Goals as goal
 
 pub returns : goal.returns

@@ -1,6 +1,6 @@
 use Rattle.std.proofs.Common.{◌≡◌, ◌++◌, flat_map, map, take}
 use Rattle.sign_request.specs.Query.{text_pairs}
-use Rattle.signctl_format.specs.Lines.{with_newline}
+use Rattle.line_words.specs.Words.{with_newline}
 use Rattle.signctl_by_line.specs.ViewAnswers.{pair_line}
 use Rattle.signctl_by_line.proofs.view_answer.push_pairs.Given as goal
 

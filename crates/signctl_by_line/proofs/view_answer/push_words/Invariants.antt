@@ -1,5 +1,5 @@
 use Rattle.std.proofs.Common.{◌≡◌, ◌++◌, List, ℕ, map, take, Bor}
-use Rattle.signctl_format.specs.Words.{spaced_words}
+use Rattle.line_words.specs.Words.{spaced_words}
 use Rattle.signctl_by_line.proofs.view_answer.push_words.Given as goal
 
 abbrev pub invariant-loop-word : goal.invariant-loop-word

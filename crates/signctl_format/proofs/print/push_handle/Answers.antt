@@ -1,4 +1,4 @@
-use Rattle.signctl_format.proofs.Printing.{prints_short, prints_then, prints_last}
+use Rattle.line_words.proofs.Printing.{prints_short, prints_then, prints_last}
 use Rattle.signctl_format.proofs.print.push_handle.Goals as goal
 
 pub returns-in_err-push : goal.returns-in_err-push

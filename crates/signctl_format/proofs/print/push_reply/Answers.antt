@@ -2,10 +2,10 @@ use Rattle.std.proofs.Common.{◌≡◌, ◌++◌, ◌∷◌, ℕ, List, Option}
 use Rattle.std.proofs.lemmas.Grind.{flat_map-append}
 use Rattle.sign_base.specs.declared.call_id.CallId.{CallId}
 use Rattle.sequential_signer.specs.declared.event.Why.{Why}
+use Rattle.line_words.specs.Bytes.{space}
+use Rattle.line_words.specs.Words.{spaced_words}
+use Rattle.line_words.proofs.Printing.{prints_short, prints_then, prints_last}
 use Rattle.signctl_format.specs.Lines.{wake_words, why_words}
-use Rattle.signctl_format.specs.Bytes.{space}
-use Rattle.signctl_format.specs.Words.{spaced_words}
-use Rattle.signctl_format.proofs.Printing.{prints_short, prints_then, prints_last}
 use Rattle.signctl_format.proofs.print.push_reply.Goals as goal
 
 words_after : (why : Why) (wake : Option CallId)

@@ -1,4 +1,4 @@
-use Rattle.signctl_format.proofs.Printing.{prints_short, prints_then}
+use Rattle.line_words.proofs.Printing.{prints_short, prints_then}
 use Rattle.signctl_format.proofs.print.push_wake.Goals as goal
 
 pub returns-in_err-push_word-in-Some : goal.returns-in_err-push_word-in-Some

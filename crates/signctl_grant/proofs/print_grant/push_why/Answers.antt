@@ -1,4 +1,4 @@
-use Rattle.signctl_format.proofs.Printing.{prints_short, prints_then, prints_last}
+use Rattle.line_words.proofs.Printing.{prints_short, prints_then, prints_last}
 use Rattle.signctl_grant.proofs.print_grant.push_why.Goals as goal
 
 pub returns-in_err-push_word-in-Loader : goal.returns-in_err-push_word-in-Loader

@@ -3,7 +3,7 @@ use Rattle.std.specs.Fmt.{decimal}
 use Rattle.std.specs.Prelude.{codes}
 use Rattle.sign_base.specs.Bytes.{newline}
 use Rattle.signctl_load.specs.Load.{counts_line}
-use Rattle.signctl_format.proofs.LineWords.{more-words, one-word}
+use Rattle.line_words.proofs.LineWords.{more-words, one-word}
 use Rattle.signctl_load.proofs.counts.push_counts.Goals as goal
 
 pub returns : goal.returns

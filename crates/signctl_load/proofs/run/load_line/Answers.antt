@@ -1,5 +1,5 @@
 use Rattle.std.proofs.Common.{◌≡◌, ◌++◌, [], ℕ, List, ap, ◌∙◌, rules}
-use Rattle.signctl_format.specs.Lines.{with_newline}
+use Rattle.line_words.specs.Words.{with_newline}
 use Rattle.signctl_load.specs.Load.{counts_of, counts_line, load_transcript, load_output}
 use Rattle.signctl_load.specs.declared.counts.Counts.{Counts}
 use Rattle.signctl_load.proofs.LoadLengths.{transcript-fits}

@@ -1,13 +1,13 @@
 use Rattle.std.proofs.Common.{◌≡◌, ◌<◌, ◌++◌, ℕ, length, ap, ◌∙◌, add-one, sym, subst, arith}
 use Rattle.sign_audit.specs.Counts.{counts_of}
 use Rattle.sign_audit.specs.declared.counts.Counts.{Counts}
-use Rattle.signctl_format.specs.Lines.{with_newline}
+use Rattle.line_words.specs.Words.{with_newline}
+use Rattle.line_words.proofs.LineWords.{line-with_newline}
 use Rattle.signctl_format.specs.ScriptSetup.{setup_in, events_in}
 use Rattle.signctl_audit.specs.Account.{account_of}
 use Rattle.signctl_audit.specs.AuditOutput.{legal_line, count_line, count_lines}
 use Rattle.signctl_audit.specs.SessionState.{SessionState}
 use Rattle.signctl_audit.proofs.CountLines.{counts-none, counts-more}
-use Rattle.signctl_format.proofs.LineWords.{line-with_newline}
 use Rattle.signctl_audit.proofs.NextLine.{as_seen}
 use Rattle.signctl_audit.proofs.audit_session.AuditSession.push_closing.Goals as goal
 

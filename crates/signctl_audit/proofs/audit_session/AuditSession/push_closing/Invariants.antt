@@ -1,5 +1,5 @@
 use Rattle.std.proofs.Common.{◌≡◌, ◌++◌, List, length}
-use Rattle.signctl_format.specs.Lines.{with_newline}
+use Rattle.line_words.specs.Words.{with_newline}
 use Rattle.signctl_format.specs.ScriptSetup.{events_in}
 use Rattle.signctl_audit.specs.Account.{account_of}
 use Rattle.signctl_audit.specs.AuditOutput.{legal_line, count_lines}

@@ -2,8 +2,8 @@ use Rattle.std.proofs.Common.{◌≡◌, ◌++◌, ◌∷◌, [], ap, refl, sym,
 use Rattle.std.proofs.lemmas.List.{append-nil}
 use Rattle.std.specs.Prelude.{unwrap_or}
 use Rattle.signctl_driver.specs.Command.{MayFollow}
-use Rattle.signctl_format.specs.declared.script_version.ScriptVersion.{ScriptVersion}
-use Rattle.signctl_format.specs.declared.script_version.ScriptVersion.TheVariants.{One, Two}
+use Rattle.line_words.specs.declared.moment.ScriptVersion.{ScriptVersion}
+use Rattle.line_words.specs.declared.moment.ScriptVersion.TheVariants.{One, Two}
 use Rattle.signctl_audit.specs.Account.{account_of, with_item, with_claim, counted}
 use Rattle.signctl_audit.specs.AuditOutput.{audit_command}
 use Rattle.signctl_audit.specs.SessionState.{SessionRepresents}

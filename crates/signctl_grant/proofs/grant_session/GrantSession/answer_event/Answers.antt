@@ -1,11 +1,11 @@
 use Rattle.std.proofs.Common.{true, ap, sym, ◌∙◌, ◌++◌, ◌∷◌, [], ◌≡◌, subst}
 use Rattle.sequential_signer.specs.declared.grant_event.GrantEvent.{GrantEvent}
+use Rattle.line_words.proofs.LineWords.{line-with_newline}
 use Rattle.signctl_format.specs.declared.credential.ScriptCredential.{ScriptCredential}
 use Rattle.signctl_format.specs.declared.item.Item.TheVariants as item
 use Rattle.signctl_grant.specs.GrantLines.{grant_reply_line}
 use Rattle.signctl_grant.specs.GrantOutput.{answer_to}
 use Rattle.signctl_grant.specs.GrantSessionState.{GrantSessionRepresents}
-use Rattle.signctl_format.proofs.LineWords.{line-with_newline}
 use Rattle.signctl_grant.proofs.NextLine.{as_seen, reply-expected, reply-plain, next-event, not-out_of_memory}
 use Rattle.signctl_grant.proofs.grant_session.GrantSession.answer_event.Goals as goal
 

@@ -1,13 +1,13 @@
 use Rattle.std.proofs.Common.{◌≡◌, ◌<◌, ◌++◌, ℕ, List, Option, length, sym, ap, ◌∙◌, append_assoc, add-one, arith}
 use Rattle.std.proofs.lemmas.List.{append-nil}
 use Rattle.sequential_signer.specs.GrantSource.{grant_source}
+use Rattle.line_words.specs.declared.moment.ScriptVersion.TheVariants.{One}
+use Rattle.line_words.proofs.LineWords.{line-with_newline}
 use Rattle.signctl_format.specs.declared.credential.ScriptCredential.{ScriptCredential}
-use Rattle.signctl_format.specs.declared.script_version.ScriptVersion.TheVariants.{One}
 use Rattle.signctl_format.specs.Lines.{final_line}
 use Rattle.signctl_format.specs.ScriptSetup.{setup_in}
 use Rattle.signctl_grant.specs.GrantOutput.{final_lines_of, final_line_of, transcript_of}
 use Rattle.signctl_grant.proofs.Closing.{finals-none, finals-more, cached-is}
-use Rattle.signctl_format.proofs.LineWords.{line-with_newline}
 use Rattle.signctl_grant.proofs.NextLine.{as_seen}
 use Rattle.signctl_grant.proofs.grant_session.GrantSession.push_finals.Goals as goal
 

@@ -1,6 +1,6 @@
 use Rattle.std.proofs.Common.{ap, ◌∙◌, ◌++◌}
+use Rattle.line_words.proofs.LineWords.{line-with_newline}
 use Rattle.signctl_format.specs.Lines.{cache_line}
-use Rattle.signctl_format.proofs.LineWords.{line-with_newline}
 use Rattle.signctl_script.proofs.NextLine.{as_seen, caches-fit, cache-out_of_memory, cache-number, next-cache}
 use Rattle.signctl_script.proofs.session.Session.answer_cache.Goals as goal
 

@@ -1,11 +1,11 @@
 use Rattle.std.proofs.Common.{true, ap, sym, ◌∙◌, ◌++◌, ◌∷◌, [], ◌≡◌, subst}
 use Rattle.sequential_signer.specs.declared.event.Event.{Event}
+use Rattle.line_words.proofs.LineWords.{line-with_newline}
 use Rattle.signctl_format.specs.declared.credential.ScriptCredential.{ScriptCredential}
 use Rattle.signctl_format.specs.declared.item.Item.TheVariants as item
 use Rattle.signctl_format.specs.Lines.{reply_line}
 use Rattle.signctl_script.specs.ScriptOutput.{answer_to}
 use Rattle.signctl_script.specs.SessionState.{RepresentsItems}
-use Rattle.signctl_format.proofs.LineWords.{line-with_newline}
 use Rattle.signctl_script.proofs.NextLine.{as_seen, reply-expected, reply-plain, next-event, not-out_of_memory}
 use Rattle.signctl_script.proofs.session.Session.answer_event.Goals as goal
 

@@ -1,7 +1,7 @@
 use Rattle.std.proofs.Common.{ℕ, Err, Ok, length, ap, ◌∙◌, ◌++◌, subst}
 use Rattle.desk_parts.specs.Adding.{AddAnswer, handle_refusal, with_handle}
+use Rattle.line_words.proofs.LineWords.{line-with_newline}
 use Rattle.signctl_format.specs.Lines.{handle_line}
-use Rattle.signctl_format.proofs.LineWords.{line-with_newline}
 use Rattle.signctl_script.proofs.NextLine.{as_seen, handles-fit, handle-out_of_memory, handle-number, next-handle}
 use Rattle.signctl_script.proofs.session.Session.answer_handle.Goals as goal
 

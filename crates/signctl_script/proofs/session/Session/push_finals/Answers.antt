@@ -2,16 +2,16 @@ use Rattle.std.proofs.Common.{◌≡◌, ◌<◌, ◌++◌, ℕ, List, Option, l
 use Rattle.std.proofs.lemmas.List.{append-nil}
 use Rattle.std.specs.Prelude.{unwrap_or}
 use Rattle.sequential_signer.specs.SequentialCache.{sequential_cache}
+use Rattle.line_words.specs.declared.moment.ScriptVersion.{ScriptVersion}
+use Rattle.line_words.specs.declared.moment.ScriptVersion.TheVariants.{One}
+use Rattle.line_words.proofs.LineWords.{line-with_newline}
 use Rattle.signctl_format.specs.declared.credential.ScriptCredential.{ScriptCredential}
-use Rattle.signctl_format.specs.declared.script_version.ScriptVersion.{ScriptVersion}
-use Rattle.signctl_format.specs.declared.script_version.ScriptVersion.TheVariants.{One}
 use Rattle.signctl_format.specs.Policy.{script_policy}
 use Rattle.signctl_format.specs.Lines.{final_line}
 use Rattle.signctl_format.specs.ScriptSetup.{setup_in}
 use Rattle.signctl_script.specs.Script.{items_in, version_in}
 use Rattle.signctl_script.specs.ScriptOutput.{final_lines_of, final_line_of, transcript_of}
 use Rattle.signctl_script.proofs.Closing.{finals-none, finals-more, cached-is}
-use Rattle.signctl_format.proofs.LineWords.{line-with_newline}
 use Rattle.signctl_script.proofs.NextLine.{as_seen}
 use Rattle.signctl_script.proofs.session.Session.push_finals.Goals as goal
 

@@ -1,7 +1,7 @@
 use Rattle.std.proofs.Common.{◌≡◌, ◌++◌, List}
 use Rattle.signctl_script.specs.ScriptOutput.{final_lines_of}
 use Rattle.signctl_script.specs.SessionState.{SessionRepresents}
-use Rattle.signctl_script.specs.declared.script_line.ScriptLine.{ScriptLine}
+use Rattle.signctl_script.specs.declared.session.ScriptLine.{ScriptLine}
 use Rattle.signctl_script.proofs.session.Session.push_finals.Given as goal
 
 -- the caches so far have their lines

@@ -2,12 +2,12 @@ use Rattle.std.proofs.Common.{◌≡◌, ◌++◌, ◌∷◌, [], List, Some, ap
 use Rattle.std.proofs.lemmas.List.{append-nil}
 use Rattle.std.specs.Prelude.{unwrap_or}
 use Rattle.signctl_driver.specs.Command.{MayFollow}
-use Rattle.signctl_format.specs.declared.script_version.ScriptVersion.TheVariants.{One, Two}
+use Rattle.line_words.specs.declared.moment.ScriptVersion.TheVariants.{One, Two}
 use Rattle.signctl_script.specs.Script.{items_in}
 use Rattle.signctl_script.specs.ScriptOutput.{script_command, script_answer}
 use Rattle.signctl_script.specs.SessionState.{SessionState, SessionRepresents}
-use Rattle.signctl_script.specs.declared.script_line.ScriptLine.{ScriptLine}
-use Rattle.signctl_script.specs.declared.script_line.ScriptLine.TheVariants.{VersionTwo}
+use Rattle.signctl_script.specs.declared.session.ScriptLine.{ScriptLine}
+use Rattle.signctl_script.specs.declared.session.ScriptLine.TheVariants.{VersionTwo}
 use Rattle.signctl_script.proofs.ItemsIn.{items-few}
 use Rattle.signctl_script.proofs.LineGood.{says-good, version-first}
 use Rattle.signctl_script.proofs.NextLine.{next-version, next-says}

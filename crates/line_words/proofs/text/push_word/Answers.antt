@@ -1,0 +1,8 @@
+use Rattle.line_words.proofs.Printing.{prints_short, prints_then}
+use Rattle.line_words.proofs.text.push_word.Goals as goal
+
+pub returns-in_err-push : goal.returns-in_err-push
+returns-in_err-push c = prints_short _ c.from_residual.ensures.0 c.in_err-push.ensures
+
+pub returns : goal.returns
+returns c = prints_then c.in_ok-push.ensures c.push-2.ensures

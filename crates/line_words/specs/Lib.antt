@@ -1,0 +1,10 @@
+pub mod Bytes
+pub mod Words
+pub mod LineErrors
+pub mod Steps
+pub mod Moments
+pub mod Escapes
+pub mod Classes
+pub mod Heads
+pub mod Readers
+pub mod Printing
