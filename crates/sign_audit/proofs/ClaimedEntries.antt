@@ -1,5 +1,5 @@
 -- What is said to claims by their replies, one after another.
-use Rattle.std.proofs.Common.{◌≡◌, ℕ, zero, suc, Bool, true, false, List, [], ◌∷◌, ◌++◌, Some, slice_get, take, refl, sym, ◌∙◌, ap, subst, inl, inr}
+use Rattle.std.proofs.Common.{◌≡◌, ℕ, zero, suc, Bool, true, false, List, [], ◌∷◌, ◌++◌, Some, slice_get, take, refl, sym, ◌∙◌, ap, subst, inl, inr, ◌⊎◌}
 use Rattle.std.proofs.lemmas.List.{append_assoc}
 use Rattle.sequential_signer.specs.Legal.{IsLegalEntry, IsLegalAfter}
 use Rattle.sequential_signer.specs.Policy.{Policy}
@@ -49,12 +49,18 @@ module _ {K D : Type 0} (policy : Policy K D) (old : AuditState K D) (entries : 
     entry-missed m claim.OutOfMemory h = let no : true ≡ false = h.0 in absurd (cc)
 
     module _ (same : (reply : Reply K) → says reply true → reply ≡ claimed) (other : (reply : Reply K) → says reply false → reply ≡ claimed → ⊥) where
+      may-fail : (may_run_out policy old entries event ≡ true)
+          ⊎ says (reply_due policy old entries event) true
+          → (may_run_out policy old entries event ≡ true) ⊎ (claimed ≡ reply_due policy old entries event)
+      may-fail (inl takes) = inl takes
+      may-fail (inr fits) = inr (sym (same _ fits))
+
       entry-tested : is_out_of_memory claimed ≡ false → (answer : Claim K)
           → AnswersTest policy old entries says false event answer new
           → AnswersEntry policy old entries (record { event = event; reply = claimed }) answer new
       entry-tested m claim.Legal h = let is : reply_due policy old entries event ≡ claimed = same (reply_due policy old entries event) h.0 in (inl (sym is), appended new (reply_due policy old entries event) is h.1)
       entry-tested m (claim.Due reply) h = (other-reply m (other (reply_due policy old entries event) h.0), h.1, h.2)
-      entry-tested m claim.OutOfMemory h = (failed-is m, h.1)
+      entry-tested m claim.OutOfMemory h = (failed-is m, may-fail h.1, h.2)
 
     -- an answer by the test whether the reply is the claimed one
     pub entry-answer : (missed : Bool) → missed ≡ is_out_of_memory claimed → (answer : Claim K)
@@ -113,7 +119,7 @@ module _ {K D : Type 0} (policy : Policy K D) (old : AuditState K D) (entries : 
       fails-at claim.OutOfMemory new all refused h = record {
         entry = entry;
         at = at;
-        before = subst (λ (a : AuditState K D). AcceptsAll policy old entries (take place claims) a) (sym h.1) all;
-        answers = subst (λ (a : AuditState K D). AnswersEntry policy a (entries ++ take place claims) entry claim.OutOfMemory new) (sym h.1) h;
+        before = subst (λ (a : AuditState K D). AcceptsAll policy old entries (take place claims) a) (sym h.2) all;
+        answers = subst (λ (a : AuditState K D). AnswersEntry policy a (entries ++ take place claims) entry claim.OutOfMemory new) (sym h.2) h;
         no_transcript = tt;
       }

@@ -1,5 +1,5 @@
 -- What the auditor's answers say.
-use Rattle.std.specs.Prelude.{◌≡◌, ◌≢◌, ℕ, Bool, true, false, if◌then◌else◌}
+use Rattle.std.specs.Prelude.{◌≡◌, ◌≢◌, ◌⊎◌, ℕ, Bool, true, false, if◌then◌else◌}
 use Rattle.std.specs.Prelude.{List, [], ◌∷◌, ◌++◌, Some, slice_get, take}
 use Rattle.sequential_signer.specs.Policy.{Policy}
 use Rattle.sequential_signer.specs.Transcript.{committed_entries}
@@ -29,6 +29,11 @@ module _ {K D : Type 0} (policy : Policy K D) (old : AuditState K D) (entries : 
   ClaimFits says true event fits = may_run_out event ≡ fits
   ClaimFits says false event fits = says (reply_due event) fits
 
+  -- where an allocation of the auditor may fail: at an event that may run out of memory, or at a claim that
+  -- fits, and no other claim is left without a verdict
+  abbrev pub MayFail : Event K → (Fits : Type 0) → Type 0
+  MayFail event Fits = (may_run_out event ≡ true) ⊎ Fits
+
   -- the entry that a claim stands for
   abbrev pub claimed_entry : Bool → Event K → Entry K
   claimed_entry missed event =
@@ -42,7 +47,8 @@ module _ {K D : Type 0} (policy : Policy K D) (old : AuditState K D) (entries : 
       × AuditRepresents policy new (entries ++ claimed_entry missed event ∷ [])
   AnswersTest says missed event (claim.Due reply) new =
       ClaimFits says missed event false × (reply ≡ reply_due event) × (new ≡ old)
-  AnswersTest says missed event claim.OutOfMemory new = (missed ≡ false) × (new ≡ old)
+  AnswersTest says missed event claim.OutOfMemory new =
+      (missed ≡ false) × MayFail event (ClaimFits says missed event true) × (new ≡ old)
 
   -- the answer to a claim that an allocation failed
   abbrev pub AnswersMissed : Event K → Claim K → AuditState K D → Type 0
@@ -60,7 +66,8 @@ module _ {K D : Type 0} (policy : Policy K D) (old : AuditState K D) (entries : 
   AnswersEntry entry (claim.Due reply) new =
       (IsLegalEntry policy (setup_of old.desk) (committed_entries entries) entry → ⊥)
       × (reply ≡ reply_due entry.event) × (new ≡ old)
-  AnswersEntry entry claim.OutOfMemory new = (entry.reply ≢ OutOfMemory) × (new ≡ old)
+  AnswersEntry entry claim.OutOfMemory new =
+      (entry.reply ≢ OutOfMemory) × MayFail entry.event (entry.reply ≡ reply_due entry.event) × (new ≡ old)
 
   -- the entry happens; or an allocation fails, and nothing changes
   abbrev pub HappensOr : Entry K → Claim K → AuditState K D → Type 0

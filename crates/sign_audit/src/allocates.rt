@@ -1,7 +1,7 @@
 //! Which events may run out of memory.
 ghost use Rattle.std.specs.Prelude.{◌≡◌, List};
 ghost use Rattle.sequential_signer.specs.Legal.{allocates};
-ghost use Rattle.sequential_signer.specs.Policy.{policy_of};
+ghost use Rattle.sequential_signer.specs.Policy.{policy_for};
 ghost use Rattle.sequential_signer.specs.Transcript.{committed_entries};
 ghost use Rattle.sequential_signer.specs.declared.event.Entry.{Entry};
 ghost use Rattle.desk_parts.specs.Tables.{setup_of};
@@ -17,8 +17,8 @@ pub(crate) fn allocates<K: SigningCredential, D: DeadlineRule<Credential = K>>(
     event: &Event<K>,
 ) -> bool
     ensures { (entries : List (Entry K))
-        → Represents (policy_of K.valid K.valid_at D.deadline) desk.now entries
-        → result ≡ allocates (policy_of K.valid K.valid_at D.deadline) (setup_of desk.now)
+        → Represents (policy_for K.SigningCredential D.DeadlineRule) desk.now entries
+        → result ≡ allocates (policy_for K.SigningCredential D.DeadlineRule) (setup_of desk.now)
         (committed_entries entries) event.now }
 {
     match event {

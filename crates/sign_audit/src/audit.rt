@@ -4,7 +4,7 @@ ghost use Rattle.std.specs.Prelude.{◌≡◌, ◌<◌, ◌^◌, [], true, List,
 ghost use Rattle.std.specs.Prelude.{OnOk, IfOk, IfErr, IsTrue};
 ghost use Rattle.std.specs.Fn.{FnReturnsAt};
 ghost use Rattle.sequential_signer.specs.Legal.{IsLegalEntry, allocates};
-ghost use Rattle.sequential_signer.specs.Policy.{policy_of};
+ghost use Rattle.sequential_signer.specs.Policy.{policy_for};
 ghost use Rattle.sequential_signer.specs.Transcript.{committed_entries};
 ghost use Rattle.sequential_signer.specs.declared.event.Entry.{Entry};
 ghost use Rattle.sequential_signer.specs.declared.event.Reply.{Reply};
@@ -40,12 +40,12 @@ impl<K: SigningCredential, D: DeadlineRule<Credential = K>> Model for Audit<K, D
 
     ghost Value = { AuditState K D };
 
-    ghost use Rattle.sequential_signer.specs.Policy.{policy_of};
+    ghost use Rattle.sequential_signer.specs.Policy.{policy_for};
     ghost use Rattle.sign_audit.specs.IsAudit.{IsAudit};
 
     ghost view = { λ audit. record { desk = audit.desk; counts = audit.counts.items } };
 
-    ghost invariant = { λ audit. IsAudit (policy_of K.valid K.valid_at D.deadline)
+    ghost invariant = { λ audit. IsAudit (policy_for K.SigningCredential D.DeadlineRule)
         (record { desk = audit.desk; counts = audit.counts.items }) audit.orders };
 }
 
@@ -54,10 +54,10 @@ impl<K: SigningCredential, D: DeadlineRule<Credential = K>> Audit<K, D> {
     ///
     /// Errors: out of memory, with the desk as it was.
     pub fn new(desk: Desk<K, D>) -> Result<Audit<K, D>, NoMemory<Desk<K, D>>>
-        requires { Represents (policy_of K.valid K.valid_at D.deadline) desk [] }
+        requires { Represents (policy_for K.SigningCredential D.DeadlineRule) desk [] }
         ensures desk { IfOk result (λ audit. audit.desk ≡ desk) }
         ensures represents { IfOk result
-            (λ audit. AuditRepresents (policy_of K.valid K.valid_at D.deadline) audit []) }
+            (λ audit. AuditRepresents (policy_for K.SigningCredential D.DeadlineRule) audit []) }
         ensures back { IfErr result (λ refused. refused.back ≡ desk) }
     {
         let caches = desk.caches();
@@ -89,8 +89,8 @@ impl<K: SigningCredential, D: DeadlineRule<Credential = K>> Audit<K, D> {
     ) -> Claim<K>
         requires { F.IsAlwaysCallable fits }
         ensures answer { (entries : List (Entry K))
-            → AuditRepresents (policy_of K.valid K.valid_at D.deadline) self.old entries
-            → AnswersTest (policy_of K.valid K.valid_at D.deadline) self.old entries
+            → AuditRepresents (policy_for K.SigningCredential D.DeadlineRule) self.old entries
+            → AnswersTest (policy_for K.SigningCredential D.DeadlineRule) self.old entries
             (FnReturnsAt F.Fn fits) missed event.now result self.new }
         ensures setup { setup_of self.new.desk ≡ setup_of self.old.desk }
     {
@@ -112,8 +112,8 @@ impl<K: SigningCredential, D: DeadlineRule<Credential = K>> Audit<K, D> {
     /// `OutOfMemory` is answered only where a step could answer it.
     pub fn due(&self, event: &Event<K>) -> Reply<K>
         ensures expected { (entries : List (Entry K))
-            → AuditRepresents (policy_of K.valid K.valid_at D.deadline) self.now entries
-            → IsLegalEntry (policy_of K.valid K.valid_at D.deadline) (setup_of self.now.desk)
+            → AuditRepresents (policy_for K.SigningCredential D.DeadlineRule) self.now entries
+            → IsLegalEntry (policy_for K.SigningCredential D.DeadlineRule) (setup_of self.now.desk)
             (committed_entries entries) (record { event = event.now; reply = result }) }
         ensures kind { IsTrue (is_reply_to event.now result) }
     {
@@ -123,8 +123,8 @@ impl<K: SigningCredential, D: DeadlineRule<Credential = K>> Audit<K, D> {
     /// Whether the event may run out of memory now.
     pub fn may_run_out(&self, event: &Event<K>) -> bool
         ensures { (entries : List (Entry K))
-            → AuditRepresents (policy_of K.valid K.valid_at D.deadline) self.now entries
-            → result ≡ allocates (policy_of K.valid K.valid_at D.deadline) (setup_of self.now.desk)
+            → AuditRepresents (policy_for K.SigningCredential D.DeadlineRule) self.now entries
+            → result ≡ allocates (policy_for K.SigningCredential D.DeadlineRule) (setup_of self.now.desk)
             (committed_entries entries) event.now }
     {
         allocates(&self.desk, event)
@@ -136,7 +136,7 @@ impl<K: SigningCredential, D: DeadlineRule<Credential = K>> Audit<K, D> {
         requires { cache < length self.now.desk.loaders }
         ensures kept { Some result ≡ slice_get self.now.counts cache }
         ensures counts { (entries : List (Entry K))
-            → AuditRepresents (policy_of K.valid K.valid_at D.deadline) self.now entries
+            → AuditRepresents (policy_for K.SigningCredential D.DeadlineRule) self.now entries
             → length entries < 2 ^ 64 → result ≡ counts_of (setup_of self.now.desk) entries cache }
     {
         self.counts[cache as usize]
@@ -152,8 +152,8 @@ impl<K: SigningCredential, D: DeadlineRule<Credential = K>> Audit<K, D> {
     /// A claim that an allocation failed.
     fn miss(&mut self, event: &Event<K>) -> Claim<K>
         ensures answer { (entries : List (Entry K))
-            → AuditRepresents (policy_of K.valid K.valid_at D.deadline) self.old entries
-            → AnswersMissed (policy_of K.valid K.valid_at D.deadline)
+            → AuditRepresents (policy_for K.SigningCredential D.DeadlineRule) self.old entries
+            → AnswersMissed (policy_for K.SigningCredential D.DeadlineRule)
             self.old entries event.now result self.new }
         ensures setup { setup_of self.new.desk ≡ setup_of self.old.desk }
     {
@@ -172,12 +172,13 @@ impl<K: SigningCredential, D: DeadlineRule<Credential = K>> Audit<K, D> {
     /// A claim that fits the expected reply: the event happens, unless an allocation fails.
     fn accept(&mut self, event: &Event<K>, expected: &Reply<K>) -> Claim<K>
         requires expected { (entries : List (Entry K))
-            → AuditRepresents (policy_of K.valid K.valid_at D.deadline) self.old entries
-            → expected.now ≡ reply_due (policy_of K.valid K.valid_at D.deadline) self.old entries event.now }
+            → AuditRepresents (policy_for K.SigningCredential D.DeadlineRule) self.old entries
+            → expected.now
+            ≡ reply_due (policy_for K.SigningCredential D.DeadlineRule) self.old entries event.now }
         requires kind { is_reply_to event.now expected.now ≡ true }
         ensures answer { (entries : List (Entry K))
-            → AuditRepresents (policy_of K.valid K.valid_at D.deadline) self.old entries
-            → HappensOr (policy_of K.valid K.valid_at D.deadline) self.old entries
+            → AuditRepresents (policy_for K.SigningCredential D.DeadlineRule) self.old entries
+            → HappensOr (policy_for K.SigningCredential D.DeadlineRule) self.old entries
             (record { event = event.now; reply = expected.now }) result self.new }
         ensures setup { setup_of self.new.desk ≡ setup_of self.old.desk }
     {
@@ -209,8 +210,8 @@ impl<K: SigningCredential + EqualByValue, D: DeadlineRule<Credential = K>> Audit
     /// `OutOfMemory` is never the answer to a claim of that, and changes nothing.
     pub fn claim(&mut self, event: &Event<K>, claimed: &Reply<K>) -> Claim<K>
         ensures answer { (entries : List (Entry K))
-            → AuditRepresents (policy_of K.valid K.valid_at D.deadline) self.old entries
-            → AnswersEntry (policy_of K.valid K.valid_at D.deadline) self.old entries
+            → AuditRepresents (policy_for K.SigningCredential D.DeadlineRule) self.old entries
+            → AnswersEntry (policy_for K.SigningCredential D.DeadlineRule) self.old entries
             (record { event = event.now; reply = claimed.now }) result self.new }
         ensures setup { setup_of self.new.desk ≡ setup_of self.old.desk }
     {
@@ -225,11 +226,12 @@ impl<K: SigningCredential + EqualByValue, D: DeadlineRule<Credential = K>> Audit
     /// accepted.
     pub fn claim_all(&mut self, claims: &[Entry<K>]) -> Result<(), (usize, Claim<K>)>
         ensures ok { OnOk result ((entries : List (Entry K))
-            → AuditRepresents (policy_of K.valid K.valid_at D.deadline) self.old entries
-            → AcceptsAll (policy_of K.valid K.valid_at D.deadline) self.old entries claims.now self.new) }
+            → AuditRepresents (policy_for K.SigningCredential D.DeadlineRule) self.old entries
+            → AcceptsAll (policy_for K.SigningCredential D.DeadlineRule)
+            self.old entries claims.now self.new) }
         ensures err { IfErr result (λ failed. (entries : List (Entry K))
-            → AuditRepresents (policy_of K.valid K.valid_at D.deadline) self.old entries
-            → FailsAt (policy_of K.valid K.valid_at D.deadline)
+            → AuditRepresents (policy_for K.SigningCredential D.DeadlineRule) self.old entries
+            → FailsAt (policy_for K.SigningCredential D.DeadlineRule)
             self.old entries claims.now failed.0 failed.1 self.new) }
         ensures setup { setup_of self.new.desk ≡ setup_of self.old.desk }
     {

@@ -1,7 +1,7 @@
 //! The calls for which a call waits.
 ghost use Rattle.std.specs.Prelude.{◌≡◌, ◌<◌, List, IfOk, IfSome, length};
 ghost use Rattle.sign_base.specs.Calls.{first_of};
-ghost use Rattle.sequential_signer.specs.Policy.{policy_of};
+ghost use Rattle.sequential_signer.specs.Policy.{policy_for};
 ghost use Rattle.sequential_signer.specs.Transcript.{committed_entries};
 ghost use Rattle.sequential_signer.specs.declared.event.Entry.{Entry};
 ghost use Rattle.sequential_signer.specs.Setup.{cache_of};
@@ -20,7 +20,7 @@ impl<K: SigningCredential, D: DeadlineRule<Credential = K>> Audit<K, D> {
     /// or over, or is signing, there are none.
     pub fn blockers(&self, call: CallId) -> Result<Vec<CallId>, NoMemory<()>>
         ensures { IfOk result (λ calls. (entries : List (Entry K))
-            → AuditRepresents (policy_of K.valid K.valid_at D.deadline) self.now entries
+            → AuditRepresents (policy_for K.SigningCredential D.DeadlineRule) self.now entries
             → calls.items ≡ blockers_of (setup_of self.now.desk) (committed_entries entries) call) }
     {
         match self.waits_at(call) {
@@ -32,7 +32,7 @@ impl<K: SigningCredential, D: DeadlineRule<Credential = K>> Audit<K, D> {
     /// The first of `blockers`. It takes no memory and no walk along the others.
     pub fn first_blocker(&self, call: CallId) -> Option<CallId>
         ensures { (entries : List (Entry K))
-            → AuditRepresents (policy_of K.valid K.valid_at D.deadline) self.now entries
+            → AuditRepresents (policy_for K.SigningCredential D.DeadlineRule) self.now entries
             → result ≡ first_of (blockers_of (setup_of self.now.desk) (committed_entries entries) call) }
     {
         let cache = self.waits_at(call)?;

@@ -15,6 +15,7 @@ use Rattle.line_words.specs.Steps.{◌>>=◌}
 use Rattle.line_words.specs.Heads.{head_in}
 use Rattle.line_words.proofs.ReadingSteps.{same_word, some_is, chosen, bind_some}
 use Rattle.line_words.proofs.WordList.{words_split}
+use Rattle.line_words.proofs.SameLines.{named_silent, same_line}
 use Rattle.signctl_format.specs.declared.item.Item.TheVariants.{Silent, Cache, Handle, Event}
 use Rattle.signctl_format.specs.ScriptEvents.{ScriptItem}
 use Rattle.signctl_format.specs.Grammar.{Spells}
@@ -91,7 +92,7 @@ says line said item spelled e = rw (script_grammar.item_of-spelled One line said
 no_name : (line name other : List ℕ) (ws : List (List ℕ)) → Has line name ws → is_silent line ≡ true
     → is_silent other ≡ false → bytes_eq name other ≡ false
 no_name line name other ws has silent loud = elim (cases_Bool (bytes_eq name other)) [
-  | inl same ↦ absurd (false≢true (sym (script_grammar.named_silent line other ws (is_silent line) (named line name other ws has same) loud refl) ∙ silent))
+  | inl same ↦ absurd (false≢true (sym (named_silent line other ws (is_silent line) (named line name other ws has same) loud refl) ∙ silent))
   | inr differs ↦ differs
 ]
 
@@ -150,7 +151,7 @@ pub no_accept : (line name : List ℕ) (ws : List (List ℕ)) → Has line name 
 unfolding grant_item_of grant_words_say grant_form item_of words_say item_form
 no_accept line name ws has e =
     let accept = named line name (codes "accept") ws has e in
-    rw (accept, script_grammar.named_silent line (codes "accept") ws (is_silent line) accept refl refl, accept) (no_candidate ws)
+    rw (accept, named_silent line (codes "accept") ws (is_silent line) accept refl refl, accept) (no_candidate ws)
 
 -- ---- the laws
 
@@ -197,9 +198,9 @@ pub one_spelling : (item : GrantItem) (a b : List ℕ) → item ≢ Silent → S
 one_spelling Silent a b loud first second = absurd (loud refl)
 one_spelling (Cache loader) a b loud first second = shared_once (Cache loader) a b (λ e. absurd cc) first second
 one_spelling (Handle cache rule) a b loud first second = shared_once (Handle cache rule) a b (λ e. absurd cc) first second
-one_spelling (Event (Begin call d)) a b loud first second = script_grammar.same_line a b _ first.2 second.2
+one_spelling (Event (Begin call d)) a b loud first second = same_line a b _ first.2 second.2
 one_spelling (Event (Poll call now)) a b loud first second = shared_once (Event (Poll call now)) a b (λ e. absurd cc) first second
 one_spelling (Event (Provided call now said)) a b loud first second = shared_once (Event (Provided call now said)) a b (λ e. absurd cc) first second
-one_spelling (Event (Granted call now (Made k))) a b loud first second = script_grammar.same_line a b _ first.3 second.3
-one_spelling (Event (Granted call now (Failed error))) a b loud first second = script_grammar.same_line a b _ first.3 second.3
+one_spelling (Event (Granted call now (Made k))) a b loud first second = same_line a b _ first.3 second.3
+one_spelling (Event (Granted call now (Failed error))) a b loud first second = same_line a b _ first.3 second.3
 one_spelling (Event (Cancel call)) a b loud first second = shared_once (Event (Cancel call)) a b (λ e. absurd cc) first second

@@ -1,5 +1,6 @@
 //! What a poll of a signer answers.
-ghost use Rattle.std.specs.Fmt.{DisplaysOnOk, DisplaysStyledOnOk};
+ghost use Rattle.std.specs.Prelude.{Some, codes};
+ghost use Rattle.std.specs.Fmt.{DisplaysOnOk, DisplaysStyledOnOk, WritesStyledOnOk};
 ghost use Rattle.signer.specs.DebugText.{answer_text};
 
 use crate::refusal::Refusal;
@@ -46,11 +47,14 @@ impl<P: ProvideCredential, S: SignRequest> fmt::Debug for SignAnswer<P, S> {
     }
 }
 
+/// Shows neither a head nor a credential, whatever the formatter.
 impl<P: ProvideCredential, S: SignRequest> fmt::Debug for SignPoll<P, S> {
-    fn fmt<W: fmt::Write>(&self, f: &mut fmt::Formatter<W>) -> fmt::Result {
-        f.debug_struct("SignPoll")
-            .field("answer", &self.answer)
-            .field("wake", &self.wake)
-            .finish()
+    ghost debug_output = { λ _. Some (codes "SignPoll(***)") };
+
+    fn fmt<W: fmt::Write>(&self, f: &mut fmt::Formatter<W>) -> fmt::Result
+        ensures writes { DisplaysOnOk W.write_str_gives f.old result (Some (codes "SignPoll(***)")) f.new }
+        ensures styled { WritesStyledOnOk W.write_str_gives f.old result (codes "SignPoll(***)") f.new }
+    {
+        f.write_str("SignPoll(***)")
     }
 }

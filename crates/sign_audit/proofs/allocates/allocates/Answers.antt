@@ -1,6 +1,6 @@
 use Rattle.std.proofs.Common.{◌≡◌, ◌∙◌, ap, sym, subst, true, inl, inr}
 use Rattle.sequential_signer.specs.Legal.{allocates, IsLegalEntry}
-use Rattle.sequential_signer.specs.Policy.{policy_of}
+use Rattle.sequential_signer.specs.Policy.{policy_for}
 use Rattle.sequential_signer.specs.Transcript.{committed_entries}
 use Rattle.sequential_signer.specs.declared.event.Event.{Event}
 use Rattle.desk_parts.specs.Tables.{setup_of}
@@ -11,7 +11,7 @@ use Rattle.sign_audit.proofs.allocates.allocates.Goals as goal
 
 pub returns-in-Begin : goal.returns-in-Begin
 returns-in-Begin g c entries stood =
-    let policy = policy_of g.K.SigningCredential.valid g.K.SigningCredential.valid_at g.D.DeadlineRule.deadline in
+    let policy = policy_for g.K.SigningCredential g.D.DeadlineRule in
     let setup = setup_of c.args.desk.now in
     let es = committed_entries entries in
     let reply = c.preview.result in
@@ -25,7 +25,7 @@ returns-in-Begin g c entries stood =
 
 pub returns-in-Provided : goal.returns-in-Provided
 returns-in-Provided g c entries stood =
-    let policy = policy_of g.K.SigningCredential.valid g.K.SigningCredential.valid_at g.D.DeadlineRule.deadline in
+    let policy = policy_for g.K.SigningCredential g.D.DeadlineRule in
     let setup = setup_of c.args.desk.now in
     let es = committed_entries entries in
     let here = c.in-Provided in
@@ -34,7 +34,7 @@ returns-in-Provided g c entries stood =
 
 pub returns-in-Signed : goal.returns-in-Signed
 returns-in-Signed g c entries stood =
-    let policy = policy_of g.K.SigningCredential.valid g.K.SigningCredential.valid_at g.D.DeadlineRule.deadline in
+    let policy = policy_for g.K.SigningCredential g.D.DeadlineRule in
     let setup = setup_of c.args.desk.now in
     let es = committed_entries entries in
     let here = c.in-Signed in

@@ -1,5 +1,5 @@
 use Rattle.std.proofs.Common.{◌≡◌, ◌∙◌, ap, sym, Result, Ok, Err, IfOk}
-use Rattle.sequential_signer.specs.Policy.{policy_of}
+use Rattle.sequential_signer.specs.Policy.{policy_for}
 use Rattle.desk_parts.specs.Queue.{queue_at}
 use Rattle.sign_audit.specs.AuditState.{AuditState}
 use Rattle.sign_audit.proofs.Blocking.{lines-there, line-of, blockers-nowhere, blockers-line}
@@ -19,11 +19,11 @@ returns-in-Some g c =
     let line : c.at.result.now ≡ queue_at c.in-Some.cache c.args.self.now.desk.queues = c.at.ensures ∙ line-of c.self.inside.orders c.self.inside.desk c.args.self.now.desk c.self.invariant.orders_are same c.in-Some.cache in
     if_ok c.before-in-Some.result
     (λ calls h entries stood.
-    h ∙ blockers-line (policy_of g.K.SigningCredential.valid g.K.SigningCredential.valid_at g.D.DeadlineRule.deadline) c.args.self.now.desk entries stood.desk c.args.call
+    h ∙ blockers-line (policy_for g.K.SigningCredential g.D.DeadlineRule) c.args.self.now.desk entries stood.desk c.args.call
     c.at.result.now c.in-Some.cache line c.waits_at.result c.waits_at.ensures.says c.in-Some.is c.waits_at.ensures.there)
     c.before-in-Some.ensures
 
 pub returns-in-None : goal.returns-in-None
 returns-in-None g c entries stood =
     c.new.ensures.items
-    ∙ blockers-nowhere (policy_of g.K.SigningCredential.valid g.K.SigningCredential.valid_at g.D.DeadlineRule.deadline) c.args.self.now.desk entries stood.desk c.args.call (sym c.waits_at.ensures.says ∙ c.in-None.is)
+    ∙ blockers-nowhere (policy_for g.K.SigningCredential g.D.DeadlineRule) c.args.self.now.desk entries stood.desk c.args.call (sym c.waits_at.ensures.says ∙ c.in-None.is)

@@ -1,5 +1,5 @@
 use Rattle.std.proofs.Common.{◌≡◌, List, take}
-use Rattle.sequential_signer.specs.Policy.{policy_of}
+use Rattle.sequential_signer.specs.Policy.{policy_for}
 use Rattle.sequential_signer.specs.declared.event.Entry.{Entry}
 use Rattle.desk_parts.specs.Tables.{setup_of}
 use Rattle.sign_audit.specs.Answers.{AcceptsAll}
@@ -12,9 +12,9 @@ invariant-loop-place g l = record {
   setup : setup_of l.self.desk ≡ setup_of l.initial.self.desk;
   accepts : (entries : List (Entry g.row.K.Denot))
       → AuditRepresents
-      (policy_of g.K.SigningCredential.valid g.K.SigningCredential.valid_at g.D.DeadlineRule.deadline)
+      (policy_for g.K.SigningCredential g.D.DeadlineRule)
       l.initial.self entries
       → AcceptsAll
-      (policy_of g.K.SigningCredential.valid g.K.SigningCredential.valid_at g.D.DeadlineRule.deadline)
+      (policy_for g.K.SigningCredential g.D.DeadlineRule)
       l.initial.self entries (take l.place l.claims) l.self;
 }
