@@ -23,6 +23,12 @@ mod secrets;
 #[cfg(test)]
 mod service;
 #[cfg(test)]
+mod session_heads;
+#[cfg(test)]
+mod session_refresh;
+#[cfg(test)]
+mod session_signer;
+#[cfg(test)]
 mod signed_heads;
 #[cfg(test)]
 mod suite;

@@ -1,0 +1,4 @@
+mod FirstPlace
+mod Candidates
+mod PollLeaves
+mod LongLinks

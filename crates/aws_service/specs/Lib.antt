@@ -1,0 +1,9 @@
+pub mod LeftOut
+pub mod Content
+pub mod Refused
+pub mod ServiceView
+pub mod SessionHead
+pub mod SessionLink
+pub mod Service
+pub use Rattle.sequential_signer.specs.Deadline
+pub use Rattle.sign_request.specs.Keys
