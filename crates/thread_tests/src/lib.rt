@@ -7,6 +7,8 @@ mod closing;
 #[cfg(test)]
 mod commands;
 #[cfg(test)]
+mod concurrent_calls;
+#[cfg(test)]
 mod gates;
 #[cfg(test)]
 mod refused_memory;

@@ -1,0 +1,2 @@
+pub mod Counting
+pub use Rattle.logbook.specs.Pages
