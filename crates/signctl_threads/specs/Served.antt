@@ -1,5 +1,5 @@
 -- What the workers of a queue have served: the receipts of their jobs, each the call of its answer.
-use Rattle.std.specs.Prelude.{◌≡◌, ◌≢◌, ℕ, suc, ◌+◌, ◌++◌, List, [], ◌∷◌, length, All}
+use Rattle.std.specs.Prelude.{◌≡◌, ◌≢◌, Bool, true, false, ℕ, suc, ◌+◌, ◌++◌, List, [], ◌∷◌, length, All}
 use Rattle.signctl_format.specs.declared.credential.ScriptCredential.{ScriptCredential}
 use Rattle.signer_book.specs.declared.pass.Receipt.{Receipt}
 use Rattle.signer_shared.specs.Gates.{GateMeaning}
@@ -7,10 +7,16 @@ use Rattle.signer_shared.specs.Serving.{IsServing}
 use Rattle.signer_shared.specs.declared.job.Served.{Served}
 use Rattle.pool_books.specs.Cleared.{joined}
 use Rattle.pool_books.specs.declared.answer.Answer.{Answer}
+use Rattle.pool_books.specs.declared.answer.Outcome.{Outcome}
 use Rattle.pool_books.specs.declared.answer.Outcome.TheVariants.{OutOfMemory}
 use Rattle.pool_books.specs.declared.job.PoolJob.{PoolJob}
 use Rattle.sign_pool.specs.Work.{job_of, last_place, last_reply, outcome_of}
 use Rattle.signctl_threads.specs.Jobs.{IsQueueJob}
+
+-- whether an allocation of a job failed that ended so
+abbrev pub ran_out : Outcome → Bool
+ran_out OutOfMemory = true
+ran_out _ = false
 
 -- no allocation of the answer's job failed
 abbrev pub DidNotRunOut : Answer → Type 0

@@ -1,8 +1,7 @@
 //! Whether an allocation failed, in a thread or in a job.
-ghost use Rattle.std.specs.Prelude.{◌≡◌, false, All};
+ghost use Rattle.std.specs.Prelude.{◌≡◌};
 ghost use Rattle.std.specs.List.{list_any};
-ghost use Rattle.signctl_threads.specs.Slots.{NoAnswerRanOut};
-ghost use Rattle.signctl_threads.specs.Served.{DidNotRunOut};
+ghost use Rattle.signctl_threads.specs.Served.{ran_out};
 
 use crate::slots::Slot;
 use sign_pool::{Answer, Outcome};
@@ -16,23 +15,22 @@ pub(crate) fn any_stopped(slots: &[Slot]) -> bool
 
 /// Whether some job met an allocation that failed.
 pub(crate) fn any_ran_out(slots: &[Slot]) -> bool
-    ensures { result ≡ false → All NoAnswerRanOut slots.now }
+    ensures { result
+        ≡ list_any (λ slot. list_any (λ a. ran_out a.outcome) slot.worker.answers.items) slots.now }
 {
-    for slot in slots {
-        if answers_ran_out(slot.worker.answers()) {
-            return true;
-        }
-    }
-    false
+    slots
+        .iter()
+        .any(|slot| answers_ran_out(slot.worker.answers()))
 }
 
 fn answers_ran_out(answers: &[Answer]) -> bool
-    ensures { result ≡ false → All DidNotRunOut answers.now }
+    ensures { result ≡ list_any (λ a. ran_out a.outcome) answers.now }
 {
-    for answer in answers {
-        if answer.outcome == Outcome::OutOfMemory {
-            return true;
-        }
-    }
-    false
+    answers.iter().any(|answer| has_run_out(answer.outcome))
+}
+
+fn has_run_out(outcome: Outcome) -> bool
+    ensures { result ≡ ran_out outcome }
+{
+    matches!(outcome, Outcome::OutOfMemory)
 }

@@ -1,5 +1,5 @@
 //! What the caller does when all threads have returned.
-ghost use Rattle.std.specs.Prelude.{◌≡◌, ◌<◌, IfOk, true, length, All};
+ghost use Rattle.std.specs.Prelude.{◌≡◌, ◌≢◌, ◌<◌, IfOk, true, false, length, All};
 ghost use Rattle.signctl_threads.specs.Slots.{AreRunSlots, DidNotStop, answered_in};
 
 use crate::desk::QueuePool;
@@ -43,7 +43,8 @@ pub(crate) fn work_on_rest<G: Gate<ScriptCredential>, R: Wait>(
 
 /// Whether there are as many answers as jobs.
 fn all_answered(slots: &[Slot], jobs: u64) -> bool
-    ensures { result ≡ true → answered_in slots.now ≡ jobs }
+    ensures all { result ≡ true → answered_in slots.now ≡ jobs }
+    ensures others { result ≡ false → answered_in slots.now ≢ jobs }
 {
     let mut missing = jobs;
     for slot in slots {

@@ -1,7 +1,7 @@
 //! The steps that a signer makes of a call. It knows where the call is, so each step has few replies.
 ghost use Rattle.std.specs.Prelude.{◌≡◌, ◌⊎◌, IsSome, IfOk, IfErr, IfSome, OnOk, OnErr, None, true};
 ghost use Rattle.std.specs.Prelude.{slice_get};
-ghost use Rattle.sequential_signer.specs.Policy.{policy_of};
+ghost use Rattle.sequential_signer.specs.Policy.{policy_for};
 ghost use Rattle.sequential_signer.specs.declared.event.Answer.TheVariants as answer;
 ghost use Rattle.sequential_signer.specs.declared.event.Event.TheVariants.{Begin, Cancel, Poll, Provided};
 ghost use Rattle.sequential_signer.specs.declared.event.Event.TheVariants.{Signed};
@@ -45,7 +45,7 @@ pub(crate) fn begin_request<K: SigningCredential, D: DeadlineRule<Credential = K
         (λ greatest. is_above call.number greatest ≡ true) }
     ensures named { IfOk result (λ r. (r.0.id ≡ call) × (r.0.expires_in ≡ expires_in)) }
     ensures head { IfOk result (λ r. IsHeadOf req.now r.0.head × (r.1 ≡ r.0.head)) }
-    ensures step { IfOk result (λ r. IsStep (policy_of K.valid K.valid_at D.deadline)
+    ensures step { IfOk result (λ r. IsStep (policy_for K.SigningCredential D.DeadlineRule)
         (Begin r.0.id r.0.head r.0.expires_in) desk.old Begun desk.new) }
     ensures begun { IfOk result (λ r. IsBegun r.0 desk.old desk.new) }
     ensures err { IfErr result (λ e. IsOutOfMemory e
@@ -76,7 +76,7 @@ fn begin_call<K: SigningCredential, D: DeadlineRule<Credential = K>>(
     requires above { IfSome (slice_get desk.old.greatest call.handle)
         (λ greatest. is_above call.number greatest ≡ true) }
     ensures back { IfOk result (λ back. back ≡ head) }
-    ensures step { OnOk result (IsStep (policy_of K.valid K.valid_at D.deadline)
+    ensures step { OnOk result (IsStep (policy_for K.SigningCredential D.DeadlineRule)
         (Begin call head expires_in) desk.old Begun desk.new) }
     ensures begun { OnOk result
         (IsBegun (record { id = call; head = head; expires_in = expires_in }) desk.old desk.new) }
@@ -102,7 +102,7 @@ pub(crate) fn cancel_call<K: SigningCredential, D: DeadlineRule<Credential = K>>
 ) -> Option<CallId>
     requires there { IsSome (slice_get desk.old.handles begun.now.id.handle) }
     requires live { IsLive begun.now desk.old }
-    ensures step { IsStep (policy_of K.valid K.valid_at D.deadline)
+    ensures step { IsStep (policy_for K.SigningCredential D.DeadlineRule)
         (Cancel begun.now.id) desk.old (Cancelled result) desk.new }
     ensures others { LeavesOthers begun.now.id desk.old desk.new }
 {
@@ -123,7 +123,7 @@ pub(crate) fn poll_call<K: SigningCredential, D: DeadlineRule<Credential = K>>(
 ) -> Reply<K>
     requires there { IsSome (slice_get desk.old.handles begun.now.id.handle) }
     requires waiting { IsWaiting begun.now desk.old }
-    ensures step { IsStep (policy_of K.valid K.valid_at D.deadline)
+    ensures step { IsStep (policy_for K.SigningCredential D.DeadlineRule)
         (Poll begun.now.id now) desk.old result desk.new }
     ensures memory { ClonesAreFree K.clones_freely → RunsOutAtHeads (Poll begun.now.id now) result }
     ensures after { AfterPoll begun.now result desk.new }
@@ -148,7 +148,7 @@ pub(crate) fn report_found<K: SigningCredential, D: DeadlineRule<Credential = K>
 ) -> (Reply<K>, K)
     requires there { IsSome (slice_get desk.old.handles begun.now.id.handle) }
     requires asking { IsAsking begun.now provider desk.old }
-    ensures step { IsStep (policy_of K.valid K.valid_at D.deadline)
+    ensures step { IsStep (policy_for K.SigningCredential D.DeadlineRule)
         (Provided begun.now.id now (answer.Found credential)) desk.old result.0 desk.new }
     ensures memory { ClonesAreFree K.clones_freely
         → RunsOutAtHeads (Provided begun.now.id now (answer.Found credential)) result.0 }
@@ -175,7 +175,7 @@ pub(crate) fn report_missing<K: SigningCredential, D: DeadlineRule<Credential = 
 ) -> Reply<K>
     requires there { IsSome (slice_get desk.old.handles begun.now.id.handle) }
     requires asking { IsAsking begun.now provider desk.old }
-    ensures step { IsStep (policy_of K.valid K.valid_at D.deadline)
+    ensures step { IsStep (policy_for K.SigningCredential D.DeadlineRule)
         (Provided begun.now.id now answer.Missing) desk.old result desk.new }
     ensures after { AfterNone begun.now provider why.Missing result desk.new }
     ensures others { LeavesOthers begun.now.id desk.old desk.new }
@@ -199,7 +199,7 @@ pub(crate) fn report_failed_load<K: SigningCredential, D: DeadlineRule<Credentia
 ) -> Reply<K>
     requires there { IsSome (slice_get desk.old.handles begun.now.id.handle) }
     requires asking { IsAsking begun.now provider desk.old }
-    ensures step { IsStep (policy_of K.valid K.valid_at D.deadline)
+    ensures step { IsStep (policy_for K.SigningCredential D.DeadlineRule)
         (Provided begun.now.id now (answer.Failed ERROR)) desk.old result desk.new }
     ensures after { AfterNone begun.now provider (why.Loader ERROR) result desk.new }
     ensures others { LeavesOthers begun.now.id desk.old desk.new }
@@ -222,7 +222,7 @@ pub(crate) fn report_signed<K: SigningCredential, D: DeadlineRule<Credential = K
 ) -> (Reply<K>, Head)
     requires there { IsSome (slice_get desk.old.handles begun.now.id.handle) }
     requires signing { IsSigning begun.now desk.old }
-    ensures step { IsStep (policy_of K.valid K.valid_at D.deadline)
+    ensures step { IsStep (policy_for K.SigningCredential D.DeadlineRule)
         (Signed begun.now.id (verdict.Accepted candidate)) desk.old result.0 desk.new }
     ensures after { AfterAccepted begun.now result.0 desk.new }
     ensures others { LeavesOthers begun.now.id desk.old desk.new }
@@ -243,7 +243,7 @@ pub(crate) fn report_failed_sign<K: SigningCredential, D: DeadlineRule<Credentia
 )
     requires there { IsSome (slice_get desk.old.handles begun.now.id.handle) }
     requires signing { IsSigning begun.now desk.old }
-    ensures step { IsStep (policy_of K.valid K.valid_at D.deadline)
+    ensures step { IsStep (policy_for K.SigningCredential D.DeadlineRule)
         (Signed begun.now.id (verdict.Failed ERROR)) desk.old (Refused (why.Service ERROR) None) desk.new }
     ensures others { LeavesOthers begun.now.id desk.old desk.new }
 {

@@ -27,7 +27,7 @@ where
     K: SigningCredential,
     D: DeadlineRule<Credential = K>,
 {
-    ghost use Rattle.sequential_signer.specs.Policy.{policy_of};
+    ghost use Rattle.sequential_signer.specs.Policy.{policy_for};
     ghost use Rattle.sign_desk.specs.DeskState.{Represents};
     ghost use Rattle.desk_parts.specs.Tables.{setup_of};
 
@@ -35,7 +35,7 @@ where
         ensures setup { IfOk result
             (λ room. setup_of room.desk ≡ record { loaders = loader ∷ []; rules = []; handles = [] }) }
         ensures fresh { IfOk result
-            (λ room. Represents (policy_of K.valid K.valid_at D.deadline) room.desk []) }
+            (λ room. Represents (policy_for K.SigningCredential D.DeadlineRule) room.desk []) }
         ensures providers { IfOk result
             (λ room. (room.providers.items ≡ []) × (vec_len room.providers < vec_capacity room.providers)) }
         ensures contexts { IfOk result

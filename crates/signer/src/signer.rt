@@ -4,7 +4,7 @@
 //! polls; `IsIssuedBy` says that this signer issued it.
 ghost use Rattle.std.specs.Prelude.{◌≡◌, ◌<◌, Some, None, [], length, OnOk, OnErr, IfOk, IfErr, IfSome};
 ghost use Rattle.std.specs.Prelude.{IsSome, option_and_then, option_copied, slice_get, slice_index};
-ghost use Rattle.sequential_signer.specs.Policy.{policy_of};
+ghost use Rattle.sequential_signer.specs.Policy.{policy_for};
 ghost use Rattle.sequential_signer.specs.declared.event.Event.TheVariants.{Cancel};
 ghost use Rattle.sequential_signer.specs.declared.event.Reply.TheVariants.{Cancelled};
 ghost use Rattle.desk_parts.specs.Adding.{late_refusal, AddAnswer, AddAnswerBack, with_handle, with_rule};
@@ -93,7 +93,7 @@ where
     ) -> Result<Self, NoMemory<(P::Ctx, Providers<P>, S)>>
         requires { AreFew loader }
         ensures ok { IfOk result
-            (IsNewSigner (policy_of P.Credential.valid P.Credential.valid_at S.deadline) ctx loader builder) }
+            (IsNewSigner (policy_for P.Credential.SigningCredential S.DeadlineRule) ctx loader builder) }
         ensures back { IfErr result (λ e. e.back ≡ (ctx, loader, builder)) }
     {
         let loads = loader_of(&loader);
@@ -149,7 +149,7 @@ where
         ensures added { OnOk result (IfSome (slice_get self.old.desk.handles handle)
             (λ like. self.new ≡ with_context_handle like ctx self.old)) }
         ensures fresh { OnOk result
-            (Represents (policy_of P.Credential.valid P.Credential.valid_at S.deadline) self.new.desk []) }
+            (Represents (policy_for P.Credential.SigningCredential S.DeadlineRule) self.new.desk []) }
         ensures unchanged { IfErr result (λ refused. (refused.back ≡ ctx) × (self.new ≡ self.old)) }
     {
         let like = self.desk.handle_at(handle).unwrap();
@@ -184,7 +184,7 @@ where
             self.new ≡
             with_service_handle like (slice_index self.old.context_places handle) builder self.old)) }
         ensures fresh { OnOk result
-            (Represents (policy_of P.Credential.valid P.Credential.valid_at S.deadline) self.new.desk []) }
+            (Represents (policy_for P.Credential.SigningCredential S.DeadlineRule) self.new.desk []) }
         ensures unchanged { IfErr result (λ refused. (refused.back ≡ builder) × (self.new ≡ self.old)) }
     {
         let like = self.desk.handle_at(handle).unwrap();
@@ -219,7 +219,7 @@ where
         ensures added { OnOk result (IfSome (slice_get self.old.desk.handles handle) (λ like.
             self.new ≡ with_cache_handle like (slice_index self.old.context_places handle) loader self.old)) }
         ensures fresh { OnOk result
-            (Represents (policy_of P.Credential.valid P.Credential.valid_at S.deadline) self.new.desk []) }
+            (Represents (policy_for P.Credential.SigningCredential S.DeadlineRule) self.new.desk []) }
         ensures unchanged { IfErr result (λ refused. (refused.back ≡ loader) × (self.new ≡ self.old)) }
     {
         let like = self.desk.handle_at(handle).unwrap();
@@ -265,7 +265,7 @@ where
         ensures ok { IfOk result
             (λ sign. (sign.begun.id.handle ≡ handle) × (sign.begun.expires_in ≡ expires_in)
             × Begins (meanings_of P.ProvideCredential S.SignRequest.own)
-            (policy_of P.Credential.valid P.Credential.valid_at S.deadline)
+            (policy_for P.Credential.SigningCredential S.DeadlineRule)
             (record { old = self.old; new = self.new }) req.now sign) }
         ensures err { IfErr result (RefusesToBegin req.now self.old.begun) }
         ensures unchanged { OnErr result (self.new ≡ self.old) }
@@ -315,7 +315,7 @@ where
         requires { IsIssuedBy (meanings_of P.ProvideCredential S.SignRequest.own) self.old sign }
         ensures poll { (o : Objects P S P.Ctx) → objects_of self.old sign.begun.id.handle ≡ Some o
             → IsPoll
-            (polled_call (policy_of P.Credential.valid P.Credential.valid_at S.deadline)
+            (polled_call (policy_for P.Credential.SigningCredential S.DeadlineRule)
             P.Credential.clones_freely (meanings_of P.ProvideCredential S.SignRequest.own)
             o sign.begun now)
             sign.state self.old.desk self.new.desk
@@ -342,7 +342,7 @@ where
     /// no memory.
     pub fn cancel(&mut self, sign: Sign<P, S>) -> Option<CallId>
         requires { IsIssuedBy (meanings_of P.ProvideCredential S.SignRequest.own) self.old sign }
-        ensures step { IsStep (policy_of P.Credential.valid P.Credential.valid_at S.deadline)
+        ensures step { IsStep (policy_for P.Credential.SigningCredential S.DeadlineRule)
             (Cancel sign.begun.id) self.old.desk (Cancelled result) self.new.desk }
         ensures same { self.new ≡ record self.old { desk = self.new.desk } }
         ensures others { KeepsOthers (meanings_of P.ProvideCredential S.SignRequest.own) sign.begun.id

@@ -1,6 +1,6 @@
 //! The URI and the headers of a head that a service signed, and how they get into the request.
 ghost use Rattle.std.specs.Prelude.{◌≡◌, ◌⊎◌, None, Some, OnOk, IfOk, IfErr, IfSome, IsSome, slice_get};
-ghost use Rattle.sequential_signer.specs.Policy.{policy_of};
+ghost use Rattle.sequential_signer.specs.Policy.{policy_for};
 ghost use Rattle.sign_request.specs.PlainHead.{RefusesTarget};
 ghost use Rattle.sign_request.specs.Refusal.{IsOutOfMemory, RefusedAs};
 ghost use Rattle.desk_driver.specs.CallAt.{IsSigning, LeavesOthers};
@@ -40,10 +40,11 @@ pub(crate) fn commit_signed_head<K: SigningCredential, D: DeadlineRule<Credentia
     requires there { IsSome (slice_get desk.old.handles begun.now.id.handle) }
     requires signing { IsSigning begun.now desk.old }
     requires target { IsTargetOf candidate target }
-    ensures done { result ≡ None → IsHandedIn (policy_of K.valid K.valid_at D.deadline) begun.now.id candidate
+    ensures done { result ≡ None
+        → IsHandedIn (policy_for K.SigningCredential D.DeadlineRule) begun.now.id candidate
         (record { old = desk.old; new = desk.new; before = req.old; after = req.new }) }
     ensures kept { IfSome result
-        (λ head. IsKept (policy_of K.valid K.valid_at D.deadline) begun.now candidate head
+        (λ head. IsKept (policy_for K.SigningCredential D.DeadlineRule) begun.now candidate head
         (record { old = desk.old; new = desk.new; before = req.old; after = req.new })) }
     ensures others { LeavesOthers begun.now.id desk.old desk.new }
 {

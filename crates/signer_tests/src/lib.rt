@@ -1,6 +1,9 @@
-//! Signers, granters and the lock of a cache on worked examples, as tests. Nothing stands on this crate.
+//! Signers, granters, an auditor and the lock of a cache on worked examples, as tests. Nothing stands on this
+//! crate.
 #![tactic(auto)]
 
+#[cfg(test)]
+mod audits;
 #[cfg(test)]
 mod broker;
 #[cfg(test)]
@@ -15,7 +18,6 @@ mod issuer;
 mod key;
 #[cfg(test)]
 mod one_call;
-#[cfg(test)]
 #[cfg(test)]
 mod one_signer;
 #[cfg(test)]

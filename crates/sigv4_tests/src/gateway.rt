@@ -2,6 +2,7 @@
 use crate::suite::{PUBLISHED, Suite, moment, published};
 use sign_base::{Head, NoMemory, Timestamp};
 use sigv4_core::{SigCredential, SigScope};
+use sigv4_presign::round_trip::made_and_checked;
 use sigv4_presign::{Checked, presign, verify};
 use std::alloc::Global;
 use std::process::Abort;
@@ -62,4 +63,31 @@ fn is_answered(
     let status = admit(alloc, request, &by.credential, &by.scope, now);
     let status = status.expect(rt, "memory");
     assert!(rt; status == wanted, "{status} at {nanos}");
+}
+
+/// What is found of a link for ten minutes at these moments, by who only has its method and its URI.
+const FOUND: [(i128, Checked); 4] = [
+    (PUBLISHED - SECOND, Checked::Early),
+    (PUBLISHED, Checked::Valid),
+    (PUBLISHED + 599 * SECOND, Checked::Valid),
+    (PUBLISHED + 600 * SECOND, Checked::Late),
+];
+
+#[test]
+fn a_link_that_is_made_and_comes_back_is_valid_for_its_time(rt: HostRuntime) {
+    let by = published(&rt, rt.alloc());
+    let made = moment(&rt, PUBLISHED);
+    for (nanos, wanted) in FOUND {
+        let arrived = moment(&rt, nanos);
+        let found = made_and_checked(
+            rt.alloc(),
+            &by.head,
+            &by.credential,
+            &by.scope,
+            600,
+            made,
+            arrived,
+        );
+        assert!(rt; found.ok() == Some(wanted), "{nanos}");
+    }
 }

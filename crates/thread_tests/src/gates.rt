@@ -25,13 +25,17 @@ pub enum Answers {
     VerdictsMeet,
 }
 
-/// A gate at one moment. One that waited in vain says that it is out of memory.
+/// A gate whose clock goes on by a nanosecond whenever anything is asked of it. One that waited in vain says
+/// that it is out of memory.
 #[derive(Drop)]
 pub struct TestGate<K> {
     answers: Answers,
     credential: K,
-    moment: Timestamp,
+    /// What its clock began with.
+    start: Timestamp,
     alloc: Global,
+    /// How often anything was asked of it.
+    asks: AtomicU64,
     loads: AtomicU64,
     verdicts: AtomicU64,
     /// Whether handle 0 and handle 1 asked for what is waited for.
@@ -39,17 +43,18 @@ pub struct TestGate<K> {
 }
 
 impl<K> TestGate<K> {
-    /// A gate that answers so, at the moment 0.
+    /// A gate that answers so, whose clock begins with the moment 0.
     pub fn new(alloc: Global, answers: Answers, credential: K) -> Option<TestGate<K>>
     where
         K: Drop,
     {
-        let moment = Timestamp::from_nanos(0)?;
+        let start = Timestamp::from_nanos(0)?;
         Some(TestGate {
             answers,
             credential,
-            moment,
+            start,
             alloc,
+            asks: AtomicU64::new(0),
             loads: AtomicU64::new(0),
             verdicts: AtomicU64::new(0),
             asked: [AtomicU64::new(0), AtomicU64::new(0)],
@@ -92,6 +97,7 @@ impl<K: SigningCredential> Gate<K> for TestGate<K> {
     } };
 
     fn load(&self, call: CallId, _provider: u32, turn: u64) -> GateLoad<K> {
+        self.asks.fetch_add(1, Ordering::SeqCst);
         self.loads.fetch_add(1, Ordering::SeqCst);
         match self.answers {
             Answers::FailsLoads => GateLoad::Answer(Answer::Failed(3)),
@@ -108,6 +114,7 @@ impl<K: SigningCredential> Gate<K> for TestGate<K> {
     }
 
     fn verdict(&self, call: CallId, _credential: &K, head: &Head) -> Result<Verdict, NoMemory<()>> {
+        self.asks.fetch_add(1, Ordering::SeqCst);
         self.verdicts.fetch_add(1, Ordering::SeqCst);
         match self.answers {
             Answers::RejectsHeads => Ok(Verdict::Failed(9)),
@@ -118,6 +125,7 @@ impl<K: SigningCredential> Gate<K> for TestGate<K> {
     }
 
     fn now(&self) -> Timestamp {
-        self.moment
+        let nanos = self.asks.fetch_add(1, Ordering::SeqCst);
+        Timestamp::from_nanos(i128::from(nanos)).unwrap_or(self.start)
     }
 }

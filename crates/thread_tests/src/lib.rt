@@ -11,6 +11,8 @@ mod concurrent_calls;
 #[cfg(test)]
 mod gates;
 #[cfg(test)]
+mod moments;
+#[cfg(test)]
 mod refused_memory;
 #[cfg(test)]
 mod report;

@@ -1,16 +1,16 @@
-//! Steps of a shared signer, and jobs of a pool, where memory is refused and each step is tried once more. `None` is
-//! an allocation that failed outside of these.
+//! Steps of a shared signer, jobs of a pool, and a worker's jobs, where memory is refused. Steps and jobs of a
+//! pool are tried once more. `None` is an allocation that failed outside of these.
 ghost use Rattle.std.specs.Prelude.{◌≡◌, ◌≤◌, [], vec_capacity};
 
 use crate::gates::{Answers, TestGate};
 use crate::report::Report;
-use crate::signers::{KeySigner, gate_of, head, signer_of};
+use crate::signers::{KeySigner, gate_of, head, jobs, signer_of};
 use crate::stands::{Stand, stand_of};
 use fixtures::Key;
 use sequential_signer::Event;
 use sign_base::{CallId, Head};
 use sign_pool::{SubmitError, Work};
-use signer_shared::Pass;
+use signer_shared::{Pass, Served, serve_jobs};
 use std::alloc::Global;
 use std::sync::Wait;
 
@@ -125,4 +125,33 @@ fn a_refused_allocation_loses_no_job(rt: HostRuntime) {
         told => told,
     };
     assert!(rt; balance(told));
+}
+
+/// What a worker counts of two jobs, and how many calls it leaves that are not over.
+fn served_and_live<R: Wait>(rt: &R, alloc: Global) -> Option<(Served, usize)> {
+    let gate = gate_of(alloc, Answers::Signs)?;
+    let jobs = jobs(alloc, &[(0, 1), (0, 2)])?;
+    let signer = signer_of(alloc)?;
+    let mut passes = Vec::with_capacity(alloc, 1).ok()?;
+    let mut pass = Pass::new(alloc);
+    let served = serve_jobs(rt, &signer, &mut pass, jobs.as_slice(), &gate, 1);
+    passes.push_reserved(pass);
+    match signer.close(passes) {
+        Ok(settled) => Some((served, settled.desk.live())),
+        Err(_) => Some((served, usize::MAX)),
+    }
+}
+
+/// At a begin, a poll, a load, the hand-over of its answer, a signature: the worker stops, and the call is over.
+#[test]
+fn a_refused_allocation_leaves_no_call(rt: HostRuntime) {
+    let told = match served_and_live(&rt, rt.alloc()) {
+        None => served_and_live(&rt, rt.alloc()),
+        told => told,
+    };
+    let (served, live) = told.expect(&rt, "memory");
+    assert!(rt;
+        live == 0 && (served.out_of_memory || served.done == 2),
+        "{served:?} {live}"
+    );
 }

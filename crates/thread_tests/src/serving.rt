@@ -1,11 +1,14 @@
-//! What workers count, gate by gate and list by list, and how often they ask their gates.
+//! What workers count, gate by gate and list by list, how often they ask their gates, and that they leave no
+//! call behind that is not over.
 use crate::gates::Answers;
 use crate::gates::Answers::{
     FailsLoads, HasNoCredential, LoadsMeet, LoadsWithoutMemory, NeverReady, ReadyFrom,
     RejectsHeads, Signs, SignsWithoutMemory,
 };
 use crate::signers::{KeySigner, gate_of, jobs, signer_of};
-use signer_shared::{Job, Served, serve_all, serve_jobs};
+use fixtures::{Key, UntilNow};
+use sequential_signer::{Entry, Event, Reply};
+use signer_shared::{Job, Pass, Served, Settled, serve_all, serve_jobs};
 use std::alloc::Global;
 use std::process::Abort;
 use std::sync::Wait;
@@ -132,14 +135,42 @@ const ROWS: [Row; 19] = [
     ),
 ];
 
-/// What a worker counts in a row, and how often it asks the gate.
+/// What a worker counts in a row, and how often it asks the gate. Each call is over then, and one at which an
+/// allocation failed by its cancel. No journal here has 16 entries.
 fn served<R: Wait + Abort>(rt: &R, alloc: Global, row: &Row) -> (Served, (u64, u64)) {
     let gate = gate_of(alloc, row.0).expect(rt, "a moment");
     let jobs = jobs(alloc, row.1).expect(rt, "memory");
     let signer = signer_of(alloc).expect(rt, "memory");
     let mut pass = signer.pass().ok().expect(rt, "memory");
     let served = serve_jobs(rt, &signer, &mut pass, jobs.as_slice(), &gate, row.2);
+    let settled = settled(rt, alloc, signer, pass);
+    assert!(rt; settled.desk.live() == 0, "{row:?}");
+    assert!(rt; !row.4 || is_cancelled(settled.journal.last()), "{row:?}");
+    assert!(rt; settled.journal.capacity() <= 64, "{row:?}");
     (served, gate.counts())
+}
+
+/// The signer, closed with its only pass.
+pub fn settled<R: Wait + Abort>(
+    rt: &R,
+    alloc: Global,
+    signer: KeySigner,
+    pass: Pass<Key>,
+) -> Settled<Key, UntilNow> {
+    let mut passes = Vec::with_capacity(alloc, 1).expect(rt, "memory");
+    passes.push_reserved(pass);
+    signer.close(passes).ok().expect(rt, "a closed signer")
+}
+
+/// Whether this is a cancel, after which the call is over.
+fn is_cancelled(entry: Option<&Entry<Key>>) -> bool {
+    match entry {
+        Some(entry) => {
+            matches!(entry.event, Event::Cancel { .. })
+                && matches!(entry.reply, Reply::Cancelled { .. })
+        }
+        None => false,
+    }
 }
 
 #[test]

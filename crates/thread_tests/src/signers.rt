@@ -1,6 +1,6 @@
 //! Signers with two caches, each with one handle, and jobs for them. `None` is an allocation that failed.
 ghost use Rattle.std.specs.Prelude.{[], IfSome};
-ghost use Rattle.sequential_signer.specs.Policy.{policy_of};
+ghost use Rattle.sequential_signer.specs.Policy.{policy_for};
 ghost use Rattle.sign_desk.specs.DeskState.{Represents};
 
 use crate::gates::{Answers, TestGate};
@@ -23,7 +23,7 @@ pub fn desk_of<K: SigningCredential, D: DeadlineRule<Credential = K>>(
     alloc: Global,
     rule: D,
 ) -> Option<Desk<K, D>>
-    ensures { IfSome result (λ desk. Represents (policy_of K.valid K.valid_at D.deadline) desk []) }
+    ensures { IfSome result (λ desk. Represents (policy_for K.SigningCredential D.DeadlineRule) desk []) }
 {
     let mut desk = Desk::new(alloc);
     let rule = desk.add_rule(rule).ok()?;

@@ -1,6 +1,6 @@
 use Rattle.std.proofs.Common.{◌≡◌, refl, subst}
 use Rattle.sign_base.specs.declared.head.Head.{Head}
-use Rattle.sequential_signer.specs.Policy.{policy_of}
+use Rattle.sequential_signer.specs.Policy.{policy_for}
 use Rattle.sequential_signer.specs.declared.event.Event.TheVariants.{Signed}
 use Rattle.sequential_signer.specs.declared.event.Reply.{Reply}
 use Rattle.sequential_signer.specs.declared.event.Reply.TheVariants as reply
@@ -27,7 +27,7 @@ out-of-memory begun desk (reply.Cancelled wake) after apart = absurd after
 
 pub returns-in_default : goal.returns-in_default
 returns-in_default g c =
-    let policy = policy_of g.K.SigningCredential.valid g.K.SigningCredential.valid_at g.D.DeadlineRule.deadline in
+    let policy = policy_for g.K.SigningCredential g.D.DeadlineRule in
     let said = c.report_signed-reply.ensures in
     let out = out-of-memory c.args.begun.now c.report_signed-reply.new.desk c.report_signed-reply.result.0 said.after (λ head e. c.in_default.not-Done head e) in
     record {

@@ -1,5 +1,5 @@
 use Rattle.std.proofs.Common.{◌≡◌, ◌∷◌, [], ◌∙◌, ap}
-use Rattle.sequential_signer.specs.Policy.{policy_of}
+use Rattle.sequential_signer.specs.Policy.{policy_for}
 use Rattle.sequential_signer.specs.Setup.{Setup}
 use Rattle.desk_parts.specs.Tables.{setup_of}
 use Rattle.desk_driver.specs.ProviderList.{loader_for}
@@ -8,7 +8,7 @@ use Rattle.signer.proofs.signer.Signer.new.Goals as goal
 
 pub invariant_of-result : goal.invariant_of-result
 invariant_of-result g c =
-    let policy = policy_of g.P.Credential.SigningCredential.valid g.P.Credential.SigningCredential.valid_at g.S.DeadlineRule.deadline in
+    let policy = policy_for g.P.Credential.SigningCredential g.S.DeadlineRule in
     let setup : setup_of c.in-Ok.room.desk ≡ record { loaders = loader_for c.args.loader ∷ []; rules = []; handles = [] } = c.in-Ok.ensures.setup ∙ ap (λ l. let s : Setup g.row.S.Denot = record { loaders = l ∷ []; rules = []; handles = [] } in s) c.loader_of-loads.ensures in
     rw (c.in-Ok-add_rule_and_handle.ensures.added, c.push_reserved.ensures.items, c.in-Ok.ensures.providers.0, c.push_reserved-in-Ok-add_rule_and_handle.ensures.items, c.in-Ok.ensures.contexts.0, c.push_reserved-in-Ok-add_rule_and_handle-2.ensures.items, c.in-Ok.ensures.places.0)
     (signer-new policy c.in-Ok.room.desk c.args.loader c.args.ctx c.args.builder c.default.result setup c.in-Ok.ensures.fresh)

@@ -1,5 +1,5 @@
 use Rattle.std.proofs.Common.{◌≡◌, Option, Some, refl, sym, ◌∙◌, ap, subst}
-use Rattle.sequential_signer.specs.Policy.{policy_of}
+use Rattle.sequential_signer.specs.Policy.{policy_for}
 use Rattle.desk_driver.specs.CallAt.{loader_of}
 use Rattle.desk_driver.specs.CallNumbers.{is_above_all}
 use Rattle.desk_driver.proofs.Rows.{for-there, index-is, cache-is}
@@ -70,7 +70,7 @@ returns-clause-poll g c = λ o is.
     let m = meanings_of g.P.ProvideCredential g.S.SignRequest in
     let handle = c.args.sign.begun.id.handle in
     let s = signer_view c.self.inside in
-    let policy = policy_of g.P.Credential.SigningCredential.valid g.P.Credential.SigningCredential.valid_at g.S.DeadlineRule.deadline in
+    let policy = policy_for g.P.Credential.SigningCredential g.S.DeadlineRule in
     let h = has-objects s handle o (ap (λ x. objects_of x handle) c.self.view_is ∙ is) in
     let cache : c.unwrap-cache.result ≡ h.at.cache = cache-is _ h.at c.cache_of.result c.unwrap-cache.result h.handle_is c.cache_of.ensures c.unwrap-cache.ensures in
     let providers : c.index.result.now ≡ o.providers = index-is c.self.inside.providers.items c.unwrap-cache.result h.at.cache o.providers c.index.result.now c.index.result.now h.providers_is cache c.index.ensures in
@@ -95,7 +95,7 @@ returns-clause-issued g c =
     (IsAnswerIssuedBy m (record s { desk = c.drive.new.desk }) c.args.sign.begun.id c.drive.result.answer)
     (subst (λ x. IsIssuedBy m x c.args.sign) (sym c.self.view_is) c.requires)
     (λ o is state.
-    let policy = policy_of g.P.Credential.SigningCredential.valid g.P.Credential.SigningCredential.valid_at g.S.DeadlineRule.deadline in
+    let policy = policy_for g.P.Credential.SigningCredential g.S.DeadlineRule in
     let h = has-objects s handle o is in
     let cache : c.unwrap-cache.result ≡ h.at.cache = cache-is _ h.at c.cache_of.result c.unwrap-cache.result h.handle_is c.cache_of.ensures c.unwrap-cache.ensures in
     let providers : c.index.result.now ≡ o.providers = index-is c.self.inside.providers.items c.unwrap-cache.result h.at.cache o.providers c.index.result.now c.index.result.now h.providers_is cache c.index.ensures in

@@ -1,6 +1,6 @@
 use Rattle.std.proofs.Common.{◌<◌, ◌+◌, length, sym, ap, subst}
 use Rattle.sign_base.specs.declared.call_id.CallId.{CallId}
-use Rattle.sequential_signer.specs.Policy.{policy_of}
+use Rattle.sequential_signer.specs.Policy.{policy_for}
 use Rattle.desk_driver.proofs.CallNumbers.{above-at}
 use Rattle.signer.specs.SignerCalls.{Begins}
 use Rattle.signer.specs.SignerInvariant.{SignerState}
@@ -21,7 +21,7 @@ invariant_of-self-2 g c =
 pub returns-clause-ok : goal.returns-clause-ok
 returns-clause-ok g c =
     let m = meanings_of g.P.ProvideCredential g.S.SignRequest in
-    let policy = policy_of g.P.Credential.SigningCredential.valid g.P.Credential.SigningCredential.valid_at g.S.DeadlineRule.deadline in
+    let policy = policy_for g.P.Credential.SigningCredential g.S.DeadlineRule in
     let s = signer_view c.self.inside in
     let desk = c.begin_request.new.desk in
     let call = c.in_ok-call.call in
