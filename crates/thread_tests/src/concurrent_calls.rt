@@ -1,6 +1,6 @@
 //! Eight threads that make calls at one concurrent signer with two caches: how their calls end, and how often
 //! the gate is asked.
-ghost use Rattle.std.specs.Prelude.{◌≡◌, []};
+ghost use Rattle.std.specs.Prelude.{◌≡◌, ◌<◌, [], true, Some};
 ghost use Rattle.sequential_signer.specs.Policy.{policy_of};
 ghost use Rattle.desk_parts.specs.Tables.{setup_of};
 ghost use Rattle.sign_desk.specs.DeskState.{Represents};
@@ -40,8 +40,22 @@ const ROWS: [Row; 11] = [
     (FailsLoads, 8, 1, 200, [0, 1600, 0, 0, 0, 0], (1600, 0)),
     (HasNoCredential, 8, 1, 200, [0, 1600, 0, 0, 0, 0], (1600, 0)),
     (NeverReady, 8, 2, 20, [0, 0, 0, 160, 0, 0], (320, 0)),
-    (LoadsWithoutMemory, 8, 1, 100, [0, 0, 0, 0, 0, 800], (800, 0)),
-    (SignsWithoutMemory, 8, 1, 100, [0, 0, 0, 0, 0, 800], (2, 800)),
+    (
+        LoadsWithoutMemory,
+        8,
+        1,
+        100,
+        [0, 0, 0, 0, 0, 800],
+        (800, 0),
+    ),
+    (
+        SignsWithoutMemory,
+        8,
+        1,
+        100,
+        [0, 0, 0, 0, 0, 800],
+        (2, 800),
+    ),
     // A load of one cache answers once the other's has been asked for, so the lock is let go for it.
     (LoadsMeet, 8, 1, 100, [800, 0, 0, 0, 0, 0], (2, 800)),
     (VerdictsMeet, 8, 1, 100, [800, 0, 0, 0, 0, 0], (2, 800)),
@@ -128,16 +142,16 @@ fn run<N: SetUp<UntilNow> + Send + Sync, R: Threads + Wait + Clock + Sync>(
     calls: u64,
 ) -> Option<(Ends, (u64, u64))>
     requires book { opened.seen.book ≡ N.book }
-    requires fresh { Represents (policy_of Key.SigningCredential.valid Key.SigningCredential.valid_at UntilNow.DeadlineRule.deadline) desk [] }
+    requires fresh { Represents (policy_of (λ key now. true) (λ key moment now. true)
+        (λ rule key duration now. Some now)) desk [] }
     requires setup { setup_of desk ≡ N.setup }
 {
     let (signer, me) = TestSigner::<N>::new(opened, desk, settings);
     let mut callers = callers(alloc, &me)?;
-    let threads = callers.len();
     thread::for_each_mut(
         rt,
         callers.as_mut_slice(),
-        threads,
+        THREADS as usize,
         &|_, caller: &mut Caller<N>| make_calls(rt, alloc, &signer, caller, calls),
     );
     Some((sum(callers.as_slice()), signer.settings().gate.counts()))
