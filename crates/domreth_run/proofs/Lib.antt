@@ -1,0 +1,2 @@
+mod BadStays
+mod WholeOutputs
