@@ -8,7 +8,8 @@ use Rattle.sigv4_presign.specs.declared.presign_error.PresignError.{PresignError
 use Rattle.sigv4_presign.specs.declared.presign_error.PresignError.TheVariants as presign
 use Rattle.aws_service.specs.declared.aws_error.AwsError.{AwsError}
 use Rattle.aws_service.specs.declared.aws_error.AwsError.TheVariants.{Head, Authority, Path, Moment, Content}
-use Rattle.aws_service.specs.declared.aws_error.AwsError.TheVariants.{Token, Already, Expires, Link, OutOfMemory}
+use Rattle.aws_service.specs.declared.aws_error.AwsError.TheVariants.{Token, Already, Expires, Link}
+use Rattle.aws_service.specs.declared.aws_error.AwsError.TheVariants.{OutOfMemory}
 
 -- a refusal of a head to be signed in its headers
 abbrev pub sign_refusal : SigError → AwsError

@@ -1,5 +1,6 @@
 -- A head signed in its headers with the credential of a session.
-use Rattle.std.specs.Prelude.{ℕ, ℤ, not, List, [], ◌∷◌, ◌++◌, filter, codes, Option, Some, None, Result, Ok, Err}
+use Rattle.std.specs.Prelude.{ℕ, ℤ, not, List, [], ◌∷◌, ◌++◌, filter, codes, Option, Some, None, Result}
+use Rattle.std.specs.Prelude.{Ok, Err}
 use Rattle.sign_base.specs.declared.head.Field.{Field}
 use Rattle.sign_base.specs.declared.head.Head.{Head}
 use Rattle.sigv4_core.specs.SignedHead.{field, is_named, signing_of}
@@ -34,7 +35,8 @@ signed_or_refused (Ok signed) = Ok signed
 signed_or_refused (Err why) = Err (sign_refusal why)
 
 -- the head signed for the word of its content
-abbrev pub signing_for_word : ServiceView → Session → ℤ → Head → Result (List ℕ) AwsError → Result Head AwsError
+abbrev pub signing_for_word : ServiceView → Session → ℤ → Head → Result (List ℕ) AwsError
+    → Result Head AwsError
 signing_for_word service session now head (Err why) = Err why
 signing_for_word service session now head (Ok word) =
     signed_or_refused (signing_of session.key service.scope word now (head_to_sign service session word head))

@@ -35,7 +35,9 @@ is_token_piece piece = bytes_eq (percent_decode (before_first is_equals_sign pie
 
 -- the query of a URI has a token
 abbrev pub has_token : List ℕ → Bool
-has_token uri = list_any is_token_piece (slice_split is_ampersand (after_first is_question_mark (without_fragment uri)))
+has_token uri =
+    list_any is_token_piece
+    (slice_split is_ampersand (after_first is_question_mark (without_fragment uri)))
 
 -- the URI with one pair more, behind its query
 abbrev pub with_pair : List ℕ → List ℕ → List ℕ

@@ -31,9 +31,9 @@ impl LeftOut {
         }
     }
 
-    /// Those that clients and proxies on the way add or change, so that botocore and other signers of AWS leave
-    /// most of them out: `accept-encoding`, `connection`, `expect`, `transfer-encoding`, `user-agent` and
-    /// `x-amzn-trace-id`.
+    /// Those that clients and proxies on the way add or change, so that botocore and other signers of AWS
+    /// leave most of them out: `accept-encoding`, `connection`, `expect`, `transfer-encoding`, `user-agent`
+    /// and `x-amzn-trace-id`.
     pub fn agents(alloc: Global) -> Result<LeftOut, NoMemory<()>>
         ensures { IfOk result (λ l. l ≡ agent_headers) }
     {

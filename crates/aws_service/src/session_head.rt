@@ -38,7 +38,8 @@ impl<X> AwsService<X> {
 
     /// The head without the headers that are left out.
     fn without_left_out(&self, alloc: Global, head: &Head) -> Result<Head, NoMemory<()>>
-        ensures { IfOk result (λ h. h ≡ record head.now { headers = kept self.now.left_out head.now.headers }) }
+        ensures { IfOk result
+            (λ h. h ≡ record head.now { headers = kept self.now.left_out head.now.headers }) }
     {
         Ok(Head {
             method: head.method.try_clone(alloc)?,

@@ -1,5 +1,6 @@
 //! A presigned link with the token of a session.
-ghost use Rattle.std.specs.Prelude.{◌≡◌, ◌⊎◌, ◌++◌, ◌∷◌, [], ◌/◌, min, if◌then◌else◌, Ok, Err, IfOk, IfErr, OnOk, codes, option_map, bytes_eq};
+ghost use Rattle.std.specs.Prelude.{◌≡◌, ◌⊎◌, ◌++◌, ◌∷◌, [], ◌/◌, min, if◌then◌else◌, Ok, Err, IfOk, IfErr};
+ghost use Rattle.std.specs.Prelude.{OnOk, codes, option_map, bytes_eq};
 ghost use Rattle.std.specs.Duration.{as_nanos};
 ghost use Rattle.std.specs.List.{list_any, slice_split, before_first, after_first};
 ghost use Rattle.percent_encoding.specs.Percent.{percent_decode};

@@ -1,6 +1,7 @@
 -- What the history says of a call: how it was begun, got its credential, and ended. What was seen before
 -- and what was seen afterwards are beginnings of one legal history.
-use Rattle.std.specs.Prelude.{◌≡◌, ◌⊎◌, ℕ, ◌≤◌, Bool, true, false, IsTrue, List, [], ◌∷◌, ◌++◌, Option, Some, None, length}
+use Rattle.std.specs.Prelude.{◌≡◌, ◌⊎◌, ℕ, ◌≤◌, Bool, true, false, IsTrue, List, [], ◌∷◌, ◌++◌, length}
+use Rattle.std.specs.Prelude.{Option, Some, None}
 use Rattle.std.specs.declared.time.Duration.{Duration}
 use mathlib.Core.List.{IsPrefix}
 use Rattle.sign_base.specs.declared.head.Head.{Head}
@@ -16,7 +17,8 @@ use Rattle.sequential_signer.specs.declared.event.Verdict.TheVariants.{Accepted}
 use Rattle.signer_shared.specs.Gates.{GateMeaning}
 use Rattle.concurrent_signer.specs.Entries.{IsAdded}
 use Rattle.concurrent_signer.specs.declared.refusal.Refusal.{Refusal}
-use Rattle.concurrent_signer.specs.declared.refusal.Refusal.TheVariants.{Refused, Busy, GivenUp, NotNow, OutOfMemory}
+use Rattle.concurrent_signer.specs.declared.refusal.Refusal.TheVariants.{Refused, Busy, GivenUp, NotNow}
+use Rattle.concurrent_signer.specs.declared.refusal.Refusal.TheVariants.{OutOfMemory}
 
 module _ {K : Type 0} where
   -- the begin of a call, with this reply
@@ -25,7 +27,8 @@ module _ {K : Type 0} where
 
   -- the call was begun, with this head and for so long
   abbrev pub IsBegun : CallId → Head → Option Duration → List (Entry K) → List (Entry K) → Type 0
-  IsBegun call head expires_in before after = IsAdded before (begin_entry call head expires_in reply.Begun) after
+  IsBegun call head expires_in before after =
+      IsAdded before (begin_entry call head expires_in reply.Begun) after
 
   -- the cancel of a call, with this reply
   abbrev pub cancel_entry : CallId → Reply K → Entry K
@@ -91,7 +94,8 @@ module _ {K : Type 0} where
 
     -- Why a call that was begun has no signed head. A call that is given up is cancelled.
     abbrev pub IsEnded : List (Entry K) → List (Entry K) → Refusal → Type 0
-    IsEnded before after (Refused why) = (wake : Option CallId) × IsReplied before (reply.Refused why wake) after
+    IsEnded before after (Refused why) =
+        (wake : Option CallId) × IsReplied before (reply.Refused why wake) after
     IsEnded before after GivenUp = IsCancelled call before after
     IsEnded before after OutOfMemory = IsCancelled call before after
     IsEnded before after NotNow =

@@ -39,7 +39,8 @@ impl<K: SigningCredential, D: DeadlineRule<Credential = K>, N: SetUp<D>> Model
 
     ghost view = { λ locked. locked.history };
 
-    ghost invariant = { λ locked. Represents (policy_of K.valid K.valid_at D.deadline) locked.desk locked.history
+    ghost invariant = { λ locked.
+        Represents (policy_of K.valid K.valid_at D.deadline) locked.desk locked.history
         × (setup_of locked.desk ≡ N.setup) };
 }
 

@@ -120,8 +120,8 @@ where
     ) -> Result<(), Refusal>
         ensures ok { OnOk result (IsSigned (G.meaning self.now.gate) handle head.old expires_in head.new
             me.old me.new) }
-        ensures err { IfErr result (IsCauseOf (G.meaning self.now.gate) self.now.limit handle head.old expires_in
-            me.old me.new) }
+        ensures err { IfErr result (IsCauseOf (G.meaning self.now.gate) self.now.limit handle head.old
+            expires_in me.old me.new) }
         ensures unchanged { OnErr result (head.new ≡ head.old) }
     {
         let call = self.begin(rt, me, handle, head, expires_in)?;
@@ -214,8 +214,8 @@ where
         Ok(self.poll(rt, me, call, head))
     }
 
-    /// Sleeps until a poll of the call would go on, and whether it would in time. Each step that passes a turn
-    /// on wakes the sleepers.
+    /// Sleeps until a poll of the call would go on, and whether it would in time. Each step that passes a
+    /// turn on wakes the sleepers.
     fn comes_to_turn<R: Wait + Clock>(&self, rt: &R, call: CallId) -> bool {
         let now = self.settings.gate.now();
         let longest = self.settings.patience.turn;

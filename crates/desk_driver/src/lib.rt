@@ -1,6 +1,6 @@
 //! What the drivers of desks share, a signer's and a granter's: what a call was begun with and where it is,
-//! what its objects mean, the providers of a cache by number, the polls of a load, and the errors of refusals.
-//! A driver makes a desk's events and reads its replies, and never looks into the desk.
+//! what its objects mean, the providers of a cache by number, the polls of a load, and the errors of
+//! refusals. A driver makes a desk's events and reads its replies, and never looks into the desk.
 #![tactic(auto)]
 
 pub mod begun_call;

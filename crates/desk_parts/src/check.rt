@@ -40,7 +40,8 @@ impl<K: SigningCredential, D: DeadlineRule<Credential = K>, Q: Drop, H: Drop> Ta
     /// What a credential that was found is good for. Whether it is fresh is not asked.
     pub fn check(&self, view: LiveCallView, now: Timestamp, found: &K) -> Result<(), Why>
         requires { view.rule < length self.now.rules }
-        ensures { IsCheck (desk_check (policy_for K.SigningCredential D.DeadlineRule) self.now now view found.now)
+        ensures { IsCheck
+            (desk_check (policy_for K.SigningCredential D.DeadlineRule) self.now now view found.now)
             found.now result }
     {
         let rule = &self.rules[view.rule as usize];

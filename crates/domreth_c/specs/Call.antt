@@ -1,4 +1,4 @@
--- What a call from another language does: a command answers an input with a text, and the text is handed over.
+-- What a call from another language does: a command answers an input with a text, which is handed over.
 use Rattle.std.specs.Prelude.{◌≡◌, ◌<◌, ◌⊎◌, ◌++◌, ℕ, Bool, true, false, List, Option, None, length, drop}
 use Rattle.domreth_run.specs.Answers.{IsAnswer}
 use Rattle.signctl_core.specs.declared.commands.CommandName.{CommandName}

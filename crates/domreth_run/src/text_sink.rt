@@ -34,7 +34,8 @@ impl Sink for TextSink {
         requires { 0 < length piece.now }
         ensures some { IfOk result (λ n. 0 < n) }
         ensures bound { IfOk result (λ n. n ≤ length piece.now) }
-        ensures bytes { WriteAppends (Some self.old.bytes.items) (Some self.new.bytes.items) result piece.now }
+        ensures bytes { WriteAppends (Some self.old.bytes.items) (Some self.new.bytes.items)
+            result piece.now }
         ensures faults { CountsFault (is_err result) self.old.faults self.new.faults }
     {
         match self.bytes.extend_from_slice(piece) {

@@ -71,7 +71,8 @@ impl<K: SigningCredential, D: DeadlineRule<Credential = K>> GrantDesk<K, D> {
         requires { length self.old.loaders < MOST_ROWS }
         ensures answer { AddAnswer (late_refusal self.old) (length self.old.loaders) result }
         ensures added { OnOk result (self.new ≡ with_source loader self.old) }
-        ensures fresh { OnOk result (GrantRepresents (policy_for K.SigningCredential D.DeadlineRule) self.new []) }
+        ensures fresh { OnOk result
+            (GrantRepresents (policy_for K.SigningCredential D.DeadlineRule) self.new []) }
         ensures unchanged { OnErr result (self.new ≡ self.old) }
     {
         self.state.tables.add_cache(loader, ())
@@ -85,7 +86,8 @@ impl<K: SigningCredential, D: DeadlineRule<Credential = K>> GrantDesk<K, D> {
         requires { length self.old.rules < MOST_ROWS }
         ensures answer { AddAnswerBack (late_refusal self.old) (length self.old.rules) result }
         ensures added { OnOk result (self.new ≡ with_rule rule self.old) }
-        ensures fresh { OnOk result (GrantRepresents (policy_for K.SigningCredential D.DeadlineRule) self.new []) }
+        ensures fresh { OnOk result
+            (GrantRepresents (policy_for K.SigningCredential D.DeadlineRule) self.new []) }
         ensures unchanged { IfErr result (λ refused. (refused.back ≡ rule) × (self.new ≡ self.old)) }
     {
         self.state.tables.add_rule(rule)
@@ -99,7 +101,8 @@ impl<K: SigningCredential, D: DeadlineRule<Credential = K>> GrantDesk<K, D> {
         requires { length self.old.handles < MOST_ROWS }
         ensures answer { AddAnswer (handle_refusal self.old cache rule) (length self.old.handles) result }
         ensures added { OnOk result (self.new ≡ with_handle cache rule self.old) }
-        ensures fresh { OnOk result (GrantRepresents (policy_for K.SigningCredential D.DeadlineRule) self.new []) }
+        ensures fresh { OnOk result
+            (GrantRepresents (policy_for K.SigningCredential D.DeadlineRule) self.new []) }
         ensures unchanged { OnErr result (self.new ≡ self.old) }
     {
         self.state.tables.add_handle(cache, rule)
@@ -115,7 +118,8 @@ impl<K: SigningCredential, D: DeadlineRule<Credential = K>> GrantDesk<K, D> {
         ensures answer { AddAnswerBack (late_refusal self.old) (length self.old.handles) result }
         ensures added { OnOk result
             (self.new ≡ with_handle cache (length self.old.rules) (with_rule rule self.old)) }
-        ensures fresh { OnOk result (GrantRepresents (policy_for K.SigningCredential D.DeadlineRule) self.new []) }
+        ensures fresh { OnOk result
+            (GrantRepresents (policy_for K.SigningCredential D.DeadlineRule) self.new []) }
         ensures unchanged { IfErr result (λ refused. (refused.back ≡ rule) × (self.new ≡ self.old)) }
     {
         self.state.tables.add_rule_and_handle(cache, rule)
@@ -132,7 +136,8 @@ impl<K: SigningCredential, D: DeadlineRule<Credential = K>> GrantDesk<K, D> {
         ensures answer { AddAnswer (late_refusal self.old) (length self.old.handles) result }
         ensures added { OnOk result
             (self.new ≡ with_handle (length self.old.loaders) rule (with_source loader self.old)) }
-        ensures fresh { OnOk result (GrantRepresents (policy_for K.SigningCredential D.DeadlineRule) self.new []) }
+        ensures fresh { OnOk result
+            (GrantRepresents (policy_for K.SigningCredential D.DeadlineRule) self.new []) }
         ensures unchanged { OnErr result (self.new ≡ self.old) }
     {
         self.state.tables.add_cache_and_handle(loader, (), rule)

@@ -16,8 +16,8 @@ impl<K: SigningCredential, D: DeadlineRule<Credential = K>> State<K, D> {
 
     pub fn granted(&mut self, call: CallId, now: Timestamp, answer: &Made<K>) -> GrantReply<K>
         requires { GrantPrecondition self.old }
-        ensures done { GrantTransition (policy_for K.SigningCredential D.DeadlineRule) (Granted call now answer.now)
-            self.old result self.new }
+        ensures done { GrantTransition (policy_for K.SigningCredential D.DeadlineRule)
+            (Granted call now answer.now) self.old result self.new }
         ensures memory { ClonesAreFree K.clones_freely → result ≢ OutOfMemory }
     {
         let Some(view) = self.find(call) else {

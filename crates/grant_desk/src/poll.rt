@@ -33,7 +33,8 @@ impl<K: SigningCredential, D: DeadlineRule<Credential = K>> State<K, D> {
     /// The look of a call at its cache: the cached source is handed to the granter, or the call loads.
     fn look(&mut self, view: LiveCallView, now: Timestamp) -> GrantReply<K>
         requires { IsGrantPlaced self.old view }
-        ensures done { GrantPerforms (look_action (policy_for K.SigningCredential D.DeadlineRule) self.old now view)
+        ensures done { GrantPerforms
+            (look_action (policy_for K.SigningCredential D.DeadlineRule) self.old now view)
             view.call self.old result self.new }
         ensures memory { ClonesAreFree K.clones_freely → result ≢ OutOfMemory }
     {

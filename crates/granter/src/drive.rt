@@ -1,6 +1,6 @@
 //! The steps that a granter makes of a call. It knows where the call is, so each step has few replies.
 ghost use Rattle.std.specs.Prelude.{◌≡◌, IsSome, IfSome, OnOk, OnErr, true, slice_get};
-ghost use Rattle.sequential_signer.specs.Policy.{policy_of};
+ghost use Rattle.sequential_signer.specs.Policy.{policy_for};
 ghost use Rattle.sequential_signer.specs.LiveCall.{is_above};
 ghost use Rattle.sequential_signer.specs.declared.event.Answer.TheVariants as answer;
 ghost use Rattle.sequential_signer.specs.declared.grant_event.GrantEvent.TheVariants.{Begin, Cancel, Poll};
@@ -35,7 +35,7 @@ pub(crate) fn begin_call<K: SigningCredential, D: DeadlineRule<Credential = K>>(
     requires there { IsSome (slice_get desk.old.handles call.handle) }
     requires above { IfSome (slice_get desk.old.greatest call.handle)
         (λ greatest. is_above call.number greatest ≡ true) }
-    ensures step { OnOk result (IsGrantStep (policy_of K.valid K.valid_at D.deadline)
+    ensures step { OnOk result (IsGrantStep (policy_for K.SigningCredential D.DeadlineRule)
         (Begin call expires_in) desk.old Begun desk.new) }
     ensures begun { OnOk result
         (IsBegun (record { id = call; head = tt; expires_in = expires_in }) desk.old desk.new) }
@@ -54,7 +54,7 @@ pub(crate) fn cancel_call<K: SigningCredential, D: DeadlineRule<Credential = K>>
 )
     requires there { IsSome (slice_get desk.old.handles begun.now.id.handle) }
     requires live { IsLive begun.now desk.old }
-    ensures step { IsGrantStep (policy_of K.valid K.valid_at D.deadline)
+    ensures step { IsGrantStep (policy_for K.SigningCredential D.DeadlineRule)
         (Cancel begun.now.id) desk.old Cancelled desk.new }
     ensures others { LeavesOthers begun.now.id desk.old desk.new }
 {
@@ -72,7 +72,7 @@ pub(crate) fn poll_call<K: SigningCredential, D: DeadlineRule<Credential = K>>(
 ) -> GrantReply<K>
     requires there { IsSome (slice_get desk.old.handles begun.now.id.handle) }
     requires unpolled { IsUnpolled begun.now desk.old }
-    ensures step { IsGrantStep (policy_of K.valid K.valid_at D.deadline)
+    ensures step { IsGrantStep (policy_for K.SigningCredential D.DeadlineRule)
         (Poll begun.now.id now) desk.old result desk.new }
     ensures memory { ClonesAreFree K.clones_freely → RunsOutAtBegins (Poll begun.now.id now) result }
     ensures after { AfterPoll begun.now result desk.new }
@@ -97,7 +97,7 @@ pub(crate) fn report_found<K: SigningCredential, D: DeadlineRule<Credential = K>
 ) -> (GrantReply<K>, K)
     requires there { IsSome (slice_get desk.old.handles begun.now.id.handle) }
     requires asking { IsAsking begun.now provider desk.old }
-    ensures step { IsGrantStep (policy_of K.valid K.valid_at D.deadline)
+    ensures step { IsGrantStep (policy_for K.SigningCredential D.DeadlineRule)
         (Provided begun.now.id now (answer.Found source)) desk.old result.0 desk.new }
     ensures memory { ClonesAreFree K.clones_freely
         → RunsOutAtBegins (Provided begun.now.id now (answer.Found source)) result.0 }
@@ -124,7 +124,7 @@ pub(crate) fn report_missing<K: SigningCredential, D: DeadlineRule<Credential = 
 ) -> GrantReply<K>
     requires there { IsSome (slice_get desk.old.handles begun.now.id.handle) }
     requires asking { IsAsking begun.now provider desk.old }
-    ensures step { IsGrantStep (policy_of K.valid K.valid_at D.deadline)
+    ensures step { IsGrantStep (policy_for K.SigningCredential D.DeadlineRule)
         (Provided begun.now.id now answer.Missing) desk.old result desk.new }
     ensures after { AfterNone begun.now provider why.Missing result desk.new }
     ensures others { LeavesOthers begun.now.id desk.old desk.new }
@@ -148,7 +148,7 @@ pub(crate) fn report_failed_load<K: SigningCredential, D: DeadlineRule<Credentia
 ) -> GrantReply<K>
     requires there { IsSome (slice_get desk.old.handles begun.now.id.handle) }
     requires asking { IsAsking begun.now provider desk.old }
-    ensures step { IsGrantStep (policy_of K.valid K.valid_at D.deadline)
+    ensures step { IsGrantStep (policy_for K.SigningCredential D.DeadlineRule)
         (Provided begun.now.id now (answer.Failed ERROR)) desk.old result desk.new }
     ensures after { AfterNone begun.now provider (why.Loader ERROR) result desk.new }
     ensures others { LeavesOthers begun.now.id desk.old desk.new }
@@ -172,7 +172,7 @@ pub(crate) fn report_made<K: SigningCredential, D: DeadlineRule<Credential = K>>
 ) -> (GrantReply<K>, K)
     requires there { IsSome (slice_get desk.old.handles begun.now.id.handle) }
     requires granting { IsSigning begun.now desk.old }
-    ensures step { IsGrantStep (policy_of K.valid K.valid_at D.deadline)
+    ensures step { IsGrantStep (policy_for K.SigningCredential D.DeadlineRule)
         (Granted begun.now.id now (made.Made credential)) desk.old result.0 desk.new }
     ensures memory { ClonesAreFree K.clones_freely
         → RunsOutAtBegins (Granted begun.now.id now (made.Made credential)) result.0 }
@@ -198,7 +198,7 @@ pub(crate) fn report_failed_grant<K: SigningCredential, D: DeadlineRule<Credenti
 )
     requires there { IsSome (slice_get desk.old.handles begun.now.id.handle) }
     requires granting { IsSigning begun.now desk.old }
-    ensures step { IsGrantStep (policy_of K.valid K.valid_at D.deadline)
+    ensures step { IsGrantStep (policy_for K.SigningCredential D.DeadlineRule)
         (Granted begun.now.id now (made.Failed ERROR)) desk.old (Refused (why.Service ERROR)) desk.new }
     ensures others { LeavesOthers begun.now.id desk.old desk.new }
 {

@@ -4,7 +4,7 @@
 //! polls; `IsGrantIssuedBy` says that this granter issued it.
 ghost use Rattle.std.specs.Prelude.{◌≡◌, ◌<◌, Some, [], length, OnOk, OnErr, IfOk, IfErr, IfSome, slice_get};
 ghost use Rattle.std.specs.Prelude.{slice_index};
-ghost use Rattle.sequential_signer.specs.Policy.{policy_of};
+ghost use Rattle.sequential_signer.specs.Policy.{policy_for};
 ghost use Rattle.sequential_signer.specs.declared.grant_event.GrantEvent.TheVariants.{Cancel};
 ghost use Rattle.sequential_signer.specs.declared.grant_event.GrantReply.TheVariants.{Cancelled};
 ghost use Rattle.desk_parts.specs.Adding.{late_refusal, AddAnswerBack};
@@ -90,7 +90,7 @@ where
         granter: G,
     ) -> Result<Self, NoMemory<(P::Ctx, Providers<P>, G)>>
         requires { AreFew loader }
-        ensures ok { IfOk result (IsNewGranter (policy_of P.Credential.valid P.Credential.valid_at G.deadline)
+        ensures ok { IfOk result (IsNewGranter (policy_for P.Credential.SigningCredential G.DeadlineRule)
             ctx loader granter) }
         ensures back { IfErr result (λ e. e.back ≡ (ctx, loader, granter)) }
     {
@@ -143,7 +143,7 @@ where
             self.new ≡ with_context_handle like loads
             (slice_index self.old.provider_places like.cache) ctx self.old))) }
         ensures fresh { OnOk result (GrantRepresents
-            (policy_of P.Credential.valid P.Credential.valid_at G.deadline) self.new.desk []) }
+            (policy_for P.Credential.SigningCredential G.DeadlineRule) self.new.desk []) }
         ensures unchanged { IfErr result (λ refused. (refused.back ≡ ctx) × (self.new ≡ self.old)) }
     {
         let like = self.desk.handle_at(handle).unwrap();
@@ -186,7 +186,7 @@ where
         ensures added { OnOk result (IfSome (slice_get self.old.desk.handles handle) (λ like.
             self.new ≡ with_cache_handle like (slice_index self.old.context_places handle) loader self.old)) }
         ensures fresh { OnOk result (GrantRepresents
-            (policy_of P.Credential.valid P.Credential.valid_at G.deadline) self.new.desk []) }
+            (policy_for P.Credential.SigningCredential G.DeadlineRule) self.new.desk []) }
         ensures unchanged { IfErr result (λ refused. (refused.back ≡ loader) × (self.new ≡ self.old)) }
     {
         let like = self.desk.handle_at(handle).unwrap();
@@ -225,7 +225,7 @@ where
             self.new ≡
             with_service_handle like (slice_index self.old.context_places handle) granter self.old)) }
         ensures fresh { OnOk result (GrantRepresents
-            (policy_of P.Credential.valid P.Credential.valid_at G.deadline) self.new.desk []) }
+            (policy_for P.Credential.SigningCredential G.DeadlineRule) self.new.desk []) }
         ensures unchanged { IfErr result (λ refused. (refused.back ≡ granter) × (self.new ≡ self.old)) }
     {
         let like = self.desk.handle_at(handle).unwrap();
@@ -257,7 +257,7 @@ where
         ensures ok { IfOk result
             (λ grant. (grant.begun.id.handle ≡ handle) × (grant.begun.expires_in ≡ expires_in)
             × Begins (meanings_of P.ProvideCredential G.GrantCredential.own)
-            (policy_of P.Credential.valid P.Credential.valid_at G.deadline)
+            (policy_for P.Credential.SigningCredential G.DeadlineRule)
             (record { old = self.old; new = self.new }) grant) }
         ensures err { IfErr result (RefusesToBegin self.old.begun) }
         ensures unchanged { OnErr result (self.new ≡ self.old) }
@@ -306,7 +306,7 @@ where
         requires { IsGrantIssuedBy (meanings_of P.ProvideCredential G.GrantCredential.own) self.old grant }
         ensures poll { (o : Objects P G P.Ctx) → objects_of self.old grant.begun.id.handle ≡ Some o
             → IsGrantPoll
-            (polled_call (policy_of P.Credential.valid P.Credential.valid_at G.deadline)
+            (polled_call (policy_for P.Credential.SigningCredential G.DeadlineRule)
             P.Credential.clones_freely (meanings_of P.ProvideCredential G.GrantCredential.own)
             o grant.begun now)
             grant.state self.old.desk self.new.desk result }
@@ -331,7 +331,7 @@ where
     /// Gives a call up. It takes no memory.
     pub fn cancel(&mut self, grant: Grant<P, G>)
         requires { IsGrantIssuedBy (meanings_of P.ProvideCredential G.GrantCredential.own) self.old grant }
-        ensures step { IsGrantStep (policy_of P.Credential.valid P.Credential.valid_at G.deadline)
+        ensures step { IsGrantStep (policy_for P.Credential.SigningCredential G.DeadlineRule)
             (Cancel grant.begun.id) self.old.desk Cancelled self.new.desk }
         ensures same { self.new ≡ record self.old { desk = self.new.desk } }
         ensures others { KeepsOthers (meanings_of P.ProvideCredential G.GrantCredential.own) grant.begun.id

@@ -28,7 +28,7 @@ where
     K: SigningCredential,
     D: DeadlineRule<Credential = K>,
 {
-    ghost use Rattle.sequential_signer.specs.Policy.{policy_of};
+    ghost use Rattle.sequential_signer.specs.Policy.{policy_for};
     ghost use Rattle.grant_desk.specs.GrantDeskState.{GrantRepresents};
     ghost use Rattle.desk_parts.specs.Tables.{setup_of};
 
@@ -36,7 +36,7 @@ where
         ensures setup { IfOk result
             (λ room. setup_of room.desk ≡ record { loaders = loader ∷ []; rules = []; handles = [] }) }
         ensures fresh { IfOk result
-            (λ room. GrantRepresents (policy_of K.valid K.valid_at D.deadline) room.desk []) }
+            (λ room. GrantRepresents (policy_for K.SigningCredential D.DeadlineRule) room.desk []) }
         ensures providers { IfOk result
             (λ room. (room.providers.items ≡ []) × (vec_len room.providers < vec_capacity room.providers)) }
         ensures provider_places { IfOk result (λ room. (room.provider_places.items ≡ [])

@@ -42,8 +42,8 @@ impl Write for Few {
     }
 }
 
-/// Whether no debug text of a value has a secret, in one line, in several, under other options, or cut off by a
-/// writer that fails, and the first is this.
+/// Whether no debug text of a value has a secret, in one line, in several, under other options, or cut off by
+/// a writer that fails, and the first is this.
 pub(crate) fn hides_as<T: fmt::Debug>(rt: &impl Abort, alloc: Global, value: &T, wanted: &str) {
     let text = format!(in alloc;
         "{value:?} {value:#?} {value:4?} {value:<64?} {value:.2?} {value:+09?}"

@@ -1,5 +1,5 @@
-//! The words of plain lines: numbers, moments, durations, escaped bytes and request heads, read from words and
-//! written as words. What whole lines say is each command's own.
+//! The words of plain lines: numbers, moments, durations, escaped bytes and request heads, read from words
+//! and written as words. What whole lines say is each command's own.
 //!
 //! Readers take what stands after the word that was read last, and printers add to the end of a text.
 #![tactic(auto)]

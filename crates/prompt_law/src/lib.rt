@@ -1,5 +1,5 @@
-//! The law of any pool of workers whose gate answers at once: each of its calls is signed, with one load in all.
-//! It is of definitions alone, and the function's contract is the law.
+//! The law of any pool of workers whose gate answers at once: each of its calls is signed, with one load in
+//! all. It is of definitions alone, and the function's contract is the law.
 #![tactic(auto)]
 
 ghost use Rattle.sequential_signer.specs.Policy.{policy_of};

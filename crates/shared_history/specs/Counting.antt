@@ -10,7 +10,8 @@ IsCounted cells log = cells ≡ (length log, true) ∷ (0, true) ∷ []
 abbrev pub counter_of : Book → Named
 counter_of book = record { tracked = true; key = 0; book = book }
 
--- where the number was the expected one, the entry was added behind all that had been seen, which were so many
+-- where the number was the expected one, the entry was added behind all that had been seen, which were so
+-- many
 abbrev pub Adds : {E : Type 0} → Step E → View E ℕ → ℕ → View E ℕ → Type 0
 Adds step before found after =
     MatchBool (found == step.old)

@@ -1,5 +1,5 @@
-//! The open calls of one cache in order: the one that holds, then those that wait. A call leaves from anywhere
-//! without a walk along the others.
+//! The open calls of one cache in order: the one that holds, then those that wait. A call leaves from
+//! anywhere without a walk along the others.
 ghost use Rattle.std.specs.Prelude.{◌≡◌, ◌++◌, ◌∷◌, [], false, not, filter, IfOk, OnOk, OnErr};
 ghost use Rattle.sign_base.specs.Calls.{same_call, is_among, first_of};
 ghost use Rattle.sequential_signer.specs.Turn.{before_call};

@@ -226,7 +226,8 @@ impl<K: SigningCredential, D: DeadlineRule<Credential = K>> Desk<K, D> {
     /// Whether no call was begun. Such a desk represents the empty transcript.
     pub fn is_fresh(&self) -> bool
         ensures flag { result ≡ not self.now.started }
-        ensures empty { result ≡ true → Represents (policy_for K.SigningCredential D.DeadlineRule) self.now [] }
+        ensures empty { result ≡ true
+            → Represents (policy_for K.SigningCredential D.DeadlineRule) self.now [] }
         ensures begins { (entries : List (Entry K))
             → Represents (policy_for K.SigningCredential D.DeadlineRule) self.now entries
             → result ≡ not (was_begun (committed_entries entries)) }
@@ -251,7 +252,8 @@ impl<K: SigningCredential, D: DeadlineRule<Credential = K>> Desk<K, D> {
     /// Whatever transcript the desk represents, it then represents that with this entry. What is done is
     /// exactly the event's `Transition`, so a driver knows where its calls are.
     pub fn step(&mut self, event: &Event<K>) -> Reply<K>
-        ensures step { IsStep (policy_for K.SigningCredential D.DeadlineRule) event.now self.old result self.new }
+        ensures step { IsStep (policy_for K.SigningCredential D.DeadlineRule)
+            event.now self.old result self.new }
         ensures transition { Transition (policy_for K.SigningCredential D.DeadlineRule)
             event.now self.old result self.new }
         ensures live { LiveAfter result (length self.old.calls) (length self.new.calls) }

@@ -25,8 +25,8 @@ impl<K: SigningCredential, D: DeadlineRule<Credential = K>> State<K, D> {
 
     pub fn provided(&mut self, call: CallId, now: Timestamp, answer: &Answer<K>) -> Reply<K>
         requires { StepPrecondition self.old }
-        ensures done { Transition (policy_for K.SigningCredential D.DeadlineRule) (Provided call now answer.now)
-            self.old result self.new }
+        ensures done { Transition (policy_for K.SigningCredential D.DeadlineRule)
+            (Provided call now answer.now) self.old result self.new }
         ensures memory { ClonesAreFree K.clones_freely → result ≢ OutOfMemory }
     {
         let Some(view) = self.find(call) else {

@@ -111,8 +111,8 @@ impl<K: SigningCredential, D: DeadlineRule<Credential = K>> State<K, D> {
     fn preview_provided(&self, call: CallId, now: Timestamp, answer: &Answer<K>) -> Reply<K>
         requires { StepPrecondition self.now }
         ensures done { Previews
-            (action_of (policy_for K.SigningCredential D.DeadlineRule) self.now (Provided call now answer.now))
-            result }
+            (action_of (policy_for K.SigningCredential D.DeadlineRule) self.now
+                (Provided call now answer.now)) result }
         ensures memory { ClonesAreFree K.clones_freely → result ≢ OutOfMemory }
     {
         let Some(view) = self.find(call) else {
@@ -128,7 +128,8 @@ impl<K: SigningCredential, D: DeadlineRule<Credential = K>> State<K, D> {
         requires placed { IsPlaced self.now view }
         requires loading { view.stage ≡ Loading }
         ensures done { Previews
-            (load_action (policy_for K.SigningCredential D.DeadlineRule) self.now now answer.now view) result }
+            (load_action (policy_for K.SigningCredential D.DeadlineRule) self.now now answer.now view)
+            result }
         ensures memory { ClonesAreFree K.clones_freely → result ≢ OutOfMemory }
     {
         let view = self.tables.with_answer(view);
@@ -178,7 +179,8 @@ impl<K: SigningCredential, D: DeadlineRule<Credential = K>> State<K, D> {
     fn preview_signed(&self, call: CallId, answer: &Verdict) -> Reply<K>
         requires { StepPrecondition self.now }
         ensures done { Previews
-            (action_of (policy_for K.SigningCredential D.DeadlineRule) self.now (Signed call answer.now)) result }
+            (action_of (policy_for K.SigningCredential D.DeadlineRule) self.now (Signed call answer.now))
+            result }
         ensures memory { RunsOutAtHeads (Signed call answer.now) result }
     {
         let Some(view) = self.find(call) else {

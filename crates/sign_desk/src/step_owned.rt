@@ -18,7 +18,8 @@ impl<K: SigningCredential, D: DeadlineRule<Credential = K>> State<K, D> {
     /// The event is handed over: what is kept of it is moved.
     pub fn step_owned(&mut self, event: Event<K>) -> Reply<K>
         requires { StepPrecondition self.old }
-        ensures done { Transition (policy_for K.SigningCredential D.DeadlineRule) event self.old result self.new }
+        ensures done { Transition (policy_for K.SigningCredential D.DeadlineRule)
+            event self.old result self.new }
         ensures memory { ClonesAreFree K.clones_freely → RunsOutAtBegins event result }
     {
         match event {

@@ -7,7 +7,7 @@ use Rattle.std.proofs.lemmas.List.Sums.{position_or_len_is, fails_before_first, 
 use Rattle.std.proofs.lemmas.List.Folds.{prefix_len-append}
 use Rattle.std.proofs.Math.Seq.{take-append-add, drop-append_seam}
 use Rattle.memchr.specs.Find.{IsFirstByte, is_byte}
-use Rattle.sign_io.specs.declared.close.Close.{Close}
+use Rattle.sign_io.specs.declared.input_end.InputEnd.{InputEnd}
 use Rattle.sign_base.specs.Bytes.{newline}
 use Rattle.sign_io.specs.Lines.{is_newline, line_limit, input_limit, HasNoNewline, IsLine, BeginsTooLong}
 use Rattle.sign_io.specs.LineInput.{LineInput, taken, with_taken, looked_at, NeedsRead}
@@ -70,9 +70,9 @@ position-front bytes m inside =
     ∙ prefix_len-append (λ byte. not (is_newline byte)) (take m bytes) (drop m bytes) ∙ rw other refl
 
 -- an input that is not closed
-pub unclosed : (closed : Option Close) → false ≡ is_some closed → closed ≡ None
+pub unclosed : (closed : Option InputEnd) → false ≡ is_some closed → closed ≡ None
 unclosed None is = refl
-unclosed (Some close) is = cc
+unclosed (Some why) is = cc
 
 module _ (input : LineInput) where
   -- no more is looked at than is held

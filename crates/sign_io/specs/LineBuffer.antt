@@ -1,7 +1,7 @@
 -- What a line buffer is seen as, and what its steps do.
 use Rattle.std.specs.Prelude.{◌≡◌, ℕ, List, Option, Result, Ok, Err, Bool, true, false}
 use Rattle.std.specs.Io.KnownBytes.{Consumes, IsAtEnd}
-use Rattle.sign_io.specs.declared.close.Close.{Close}
+use Rattle.sign_io.specs.declared.input_end.InputEnd.{InputEnd}
 use Rattle.sign_io.specs.declared.line_buffer.ReadOutcome.{ReadOutcome}
 use Rattle.sign_io.specs.declared.line_buffer.ReadOutcome.TheVariants.{Ready, AtEnd, Failed}
 use Rattle.sign_io.specs.LineInput.{LineInput, with_taken, NeedsRead, TakenByNeed}
@@ -12,7 +12,7 @@ pub record BufferedInput : Type 0 where
   pub input : LineInput
 
 -- what a step answers, which leaves the line in the buffer
-abbrev pub step_answer : Result (Unit {0}) Close → List ℕ → Result (List ℕ) Close
+abbrev pub step_answer : Result (Unit {0}) InputEnd → List ℕ → Result (List ℕ) InputEnd
 step_answer (Ok u) line = Ok line
 step_answer (Err why) line = Err why
 

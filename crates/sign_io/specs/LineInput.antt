@@ -1,6 +1,6 @@
 -- What a reader of lines is seen as: an input, how far it was taken and handed out, and how it closed.
 use Rattle.std.specs.Prelude.{◌≡◌, ◌≤◌, ◌+◌, ◌-◌, ◌++◌, ◌⊎◌, [], ℕ, List, Option, Some, None, length, take}
-use Rattle.sign_io.specs.declared.close.Close.{Close}
+use Rattle.sign_io.specs.declared.input_end.InputEnd.{InputEnd}
 use Rattle.sign_io.specs.Lines.{IsLine, input_limit}
 
 -- an input: how many of its bytes were handed out, those that were taken and not handed
@@ -8,7 +8,7 @@ use Rattle.sign_io.specs.Lines.{IsLine, input_limit}
 pub record LineInput : Type 0 where
   pub handed : ℕ
   pub held : List ℕ
-  pub closed : Option Close
+  pub closed : Option InputEnd
 
 -- the number of bytes taken
 abbrev pub taken : LineInput → ℕ
@@ -19,8 +19,8 @@ abbrev pub with_taken : LineInput → List ℕ → LineInput
 with_taken input bytes = record input { held = input.held ++ bytes }
 
 -- the input closed
-abbrev pub closed_by : LineInput → Close → LineInput
-closed_by input close = record input { closed = Some close }
+abbrev pub closed_by : LineInput → InputEnd → LineInput
+closed_by input why = record input { closed = Some why }
 
 -- the held bytes that are looked at: those among the first `input_limit` of the input
 abbrev pub looked_at : LineInput → List ℕ

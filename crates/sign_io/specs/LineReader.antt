@@ -2,8 +2,8 @@
 use Rattle.std.specs.Prelude.{◌≡◌, ◌<◌, ◌≤◌, ◌+◌, ◌++◌, ◌∷◌, ◌⊎◌, [], ℕ, Bool, true, false, List}
 use Rattle.std.specs.Prelude.{Option, Some, None, Result, Ok, Err, MatchOption, length}
 use Rattle.std.specs.Io.KnownBytes.{Consumes, IsAtEnd}
-use Rattle.sign_io.specs.declared.close.Close.{Close}
-use Rattle.sign_io.specs.declared.close.Close.TheVariants as close
+use Rattle.sign_io.specs.declared.input_end.InputEnd.{InputEnd}
+use Rattle.sign_io.specs.declared.input_end.InputEnd.TheVariants as input_end
 use Rattle.sign_base.specs.Bytes.{newline}
 use Rattle.sign_io.specs.Lines.{IsLine, BeginsTooLong, input_limit}
 use Rattle.sign_io.specs.LineInput.{LineInput, taken, with_taken, closed_by, looked_at}
@@ -19,36 +19,36 @@ GivesLine input line new =
 abbrev pub GivesLastLine : LineInput → Option (List ℕ) → List ℕ → LineInput → Type 0
 GivesLastLine input left line new =
     NeedsRead input × IsAtEnd left × (0 < length line) × (input.held ≡ line)
-    × (new ≡ record { handed = input.handed + length line; held = []; closed = Some close.End })
+    × (new ≡ record { handed = input.handed + length line; held = []; closed = Some input_end.End })
 
 -- why the input closes: it holds a line too long; no whole line and too many bytes; nothing at the end of the
 -- source; or the beginning of a line where a read failed
-abbrev pub ClosesBy : LineInput → Option (List ℕ) → Close → Type 0
-ClosesBy input left close.TooLong = BeginsTooLong (looked_at input)
-ClosesBy input left close.TooMuch = IsLine (looked_at input) × (input_limit < taken input)
-ClosesBy input left close.End = NeedsRead input × IsAtEnd left × (input.held ≡ [])
-ClosesBy input left close.Fault = NeedsRead input
+abbrev pub ClosesBy : LineInput → Option (List ℕ) → InputEnd → Type 0
+ClosesBy input left input_end.TooLong = BeginsTooLong (looked_at input)
+ClosesBy input left input_end.TooMuch = IsLine (looked_at input) × (input_limit < taken input)
+ClosesBy input left input_end.End = NeedsRead input × IsAtEnd left × (input.held ≡ [])
+ClosesBy input left input_end.Fault = NeedsRead input
 
--- a line or a close, by what is held with the bytes taken for it and what is left of
+-- a line or the input's end, by what is held with the bytes taken for it and what is left of
 -- the source; and the input then
-abbrev pub Answers : LineInput → Option (List ℕ) → Result (List ℕ) Close → LineInput → Type 0
+abbrev pub Answers : LineInput → Option (List ℕ) → Result (List ℕ) InputEnd → LineInput → Type 0
 Answers input left (Ok line) new = GivesLine input line new ⊎ GivesLastLine input left line new
 Answers input left (Err why) new = ClosesBy input left why × (new ≡ closed_by input why)
 
 -- the next answer of an open input, by the source before and after it
-abbrev pub AnswersOpen : LineInput → Option (List ℕ) → Option (List ℕ) → Result (List ℕ) Close
+abbrev pub AnswersOpen : LineInput → Option (List ℕ) → Option (List ℕ) → Result (List ℕ) InputEnd
     → LineInput → Type 0
 AnswersOpen old before after answer new =
     (bytes : List ℕ) × Consumes before after bytes × TakenByNeed old bytes
     × Answers (with_taken old bytes) after answer new × IsWithinLimit new
 
 -- the next answer: one that closed answers the same again
-abbrev pub AnswersNext : LineInput → Option (List ℕ) → Option (List ℕ) → Result (List ℕ) Close
+abbrev pub AnswersNext : LineInput → Option (List ℕ) → Option (List ℕ) → Result (List ℕ) InputEnd
     → LineInput → Type 0
 AnswersNext old before after answer new =
     MatchOption old.closed (AnswersOpen old before after answer new) (λ why. (answer ≡ Err why) × (new ≡ old))
 
 -- whether an answer says that a read failed
-abbrev pub is_fault : Result (List ℕ) Close → Bool
-is_fault (Err close.Fault) = true
+abbrev pub is_fault : Result (List ℕ) InputEnd → Bool
+is_fault (Err input_end.Fault) = true
 is_fault _ = false

@@ -12,7 +12,7 @@ ghost use Rattle.sign_io.specs.Window.{ReadsPiece};
 ghost use Rattle.sign_io.specs.LineBuffer.{step_answer, Fills, is_failed};
 
 use crate::window::Window;
-use crate::{Close, Failed, Source};
+use crate::{InputEnd, Failed, Source};
 use memchr::memchr;
 use sign_base::NoMemory;
 use std::alloc::Global;
@@ -30,7 +30,7 @@ pub(crate) struct LineBuffer {
     handed: u64,
     /// The number of held bytes before the first newline that is looked at, or of all that are.
     line_len: usize,
-    closed: Option<Close>,
+    closed: Option<InputEnd>,
 }
 
 impl Model for LineBuffer {
@@ -102,7 +102,7 @@ impl LineBuffer {
     }
 
     /// Hands out the next line, which then stands in the window, or closes.
-    pub(crate) fn advance<S: Source>(&mut self, source: &mut S) -> Result<(), Close>
+    pub(crate) fn advance<S: Source>(&mut self, source: &mut S) -> Result<(), InputEnd>
         ensures answer { AnswersNext self.old.input (S.left source.old) (S.left source.new)
             (step_answer result self.new.line) self.new.input }
         ensures faults { self.old.input.closed ≡ None
@@ -110,13 +110,13 @@ impl LineBuffer {
             (S.faults source.new) }
         ensures still { (NeedsRead self.old.input → ⊥) → source.new ≡ source.old }
     {
-        if let Some(close) = self.closed {
-            return Err(close);
+        if let Some(why) = self.closed {
+            return Err(why);
         }
         match self.fill(source) {
             ReadOutcome::Ready => self.hand_out(),
             ReadOutcome::AtEnd => self.finish(),
-            ReadOutcome::Failed => self.close(Close::Fault),
+            ReadOutcome::Failed => self.close(InputEnd::Fault),
         }
     }
 
@@ -161,7 +161,7 @@ impl LineBuffer {
     }
 
     /// Hands out the line that is whole, or closes where there is none.
-    fn hand_out(&mut self) -> Result<(), Close>
+    fn hand_out(&mut self) -> Result<(), InputEnd>
         requires unclosed { self.old.input.closed ≡ None }
         requires ready { NeedsRead self.old.input → ⊥ }
         ensures answer { (left : Option (List ℕ))
@@ -170,10 +170,10 @@ impl LineBuffer {
         ensures no_fault { is_fault (step_answer result self.new.line) ≡ false }
     {
         if self.line_len > LINE_LIMIT {
-            return self.close(Close::TooLong);
+            return self.close(InputEnd::TooLong);
         }
         if self.line_len == self.looked_at().len() {
-            return self.close(Close::TooMuch);
+            return self.close(InputEnd::TooMuch);
         }
         self.cut_line();
         Ok(())
@@ -195,7 +195,7 @@ impl LineBuffer {
     }
 
     /// Hands out all that is held as the last line, where there is some, and closes.
-    fn finish(&mut self) -> Result<(), Close>
+    fn finish(&mut self) -> Result<(), InputEnd>
         requires { NeedsRead self.old.input }
         ensures answer { (left : Option (List ℕ)) → IsAtEnd left
             → Answers self.old.input left (step_answer result self.new.line) self.new.input }
@@ -204,22 +204,22 @@ impl LineBuffer {
     {
         let len = self.window.held().len();
         if len == 0 {
-            return self.close(Close::End);
+            return self.close(InputEnd::End);
         }
         self.window.hand_out(len, len);
         self.handed += len as u64;
         self.line_len = 0;
-        self.closed = Some(Close::End);
+        self.closed = Some(InputEnd::End);
         Ok(())
     }
 
-    fn close(&mut self, close: Close) -> Result<(), Close>
-        ensures answer { result ≡ Err close }
-        ensures closed { self.new.input ≡ closed_by self.old.input close }
+    fn close(&mut self, why: InputEnd) -> Result<(), InputEnd>
+        ensures answer { result ≡ Err why }
+        ensures closed { self.new.input ≡ closed_by self.old.input why }
         ensures within { IsWithinLimit self.new.input }
     {
-        self.closed = Some(close);
-        Err(close)
+        self.closed = Some(why);
+        Err(why)
     }
 }
 

@@ -11,7 +11,7 @@ ghost use Rattle.sign_io.specs.Next.{answer_of, Leaves};
 
 use crate::line_buffer::LineBuffer;
 pub use crate::line_buffer::{INPUT_LIMIT, LINE_LIMIT};
-use crate::{Close, Source};
+use crate::{InputEnd, Source};
 use sign_base::NoMemory;
 use std::alloc::Global;
 use std::fmt;
@@ -51,7 +51,8 @@ impl fmt::Debug for Next<'_> {
     }
 }
 
-/// A reader of lines. It takes a buffer once, and no memory for a line. `Debug` shows nothing of what it holds.
+/// A reader of lines. It takes a buffer once, and no memory for a line. `Debug` shows nothing of what it
+/// holds.
 #[derive(Drop)]
 pub struct LineReader {
     lines: LineBuffer,
@@ -120,13 +121,13 @@ impl fmt::Debug for LineReader {
 }
 
 /// The answer of a reader that closed.
-fn no_line<'a>(close: Close) -> Next<'a>
-    ensures { answer_of result ≡ Err close }
+fn no_line<'a>(why: InputEnd) -> Next<'a>
+    ensures { answer_of result ≡ Err why }
 {
-    match close {
-        Close::TooLong => Next::TooLong,
-        Close::TooMuch => Next::TooMuch,
-        Close::End => Next::End,
-        Close::Fault => Next::Fault,
+    match why {
+        InputEnd::TooLong => Next::TooLong,
+        InputEnd::TooMuch => Next::TooMuch,
+        InputEnd::End => Next::End,
+        InputEnd::Fault => Next::Fault,
     }
 }

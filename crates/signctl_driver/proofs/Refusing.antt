@@ -3,7 +3,7 @@ use Rattle.std.proofs.Common.{◌≡◌, ◌+◌, ◌≤◌, ℕ, Bool, false, i
 use Rattle.std.specs.Result.{result_map_both}
 use Rattle.std.proofs.lemmas.Bool.Decides.{nat_tests}
 use Rattle.sign_io.specs.Lines.{line_limit}
-use Rattle.sign_io.specs.declared.close.Close.{Close}
+use Rattle.sign_io.specs.declared.input_end.InputEnd.{InputEnd}
 use Rattle.signctl_driver.specs.Command.{Command, BadLine, blamed}
 use Rattle.signctl_driver.specs.Lines.{is_too_long}
 use Rattle.signctl_driver.specs.LineOutcome.{Ends, line_outcome_by, line_outcome}
@@ -48,7 +48,7 @@ module _ {Item Cause : Type 0} (command : Command Item Cause) (line : List ℕ) 
         ))
     refused-line (Err e) h = tt
 
-module _ {Item Cause E : Type 0} (command : Command Item Cause) (Served : List Item → Type 0) (answer : Result (List ℕ) Close) (old new : List ℕ) where
+module _ {Item Cause E : Type 0} (command : Command Item Cause) (Served : List Item → Type 0) (answer : Result (List ℕ) InputEnd) (old new : List ℕ) where
   -- how a run may end at this answer, by what was added
   abbrev pub EndsBy : Result (Option Status) E → Type 0
   EndsBy result =

@@ -4,8 +4,8 @@ use Rattle.std.proofs.lemmas.List.{take_at}
 use Rattle.std.proofs.lemmas.List.Elements.{All-take}
 use Rattle.sign_io.specs.Faults.{CountsFault}
 use Rattle.sign_io.specs.Lines.{is_newline, HasNoNewline}
-use Rattle.sign_io.specs.declared.close.Close.{Close}
-use Rattle.sign_io.specs.declared.close.Close.TheVariants as close
+use Rattle.sign_io.specs.declared.input_end.InputEnd.{InputEnd}
+use Rattle.sign_io.specs.declared.input_end.InputEnd.TheVariants as input_end
 use Rattle.sign_io.specs.LineInput.{LineInput, NeedsRead}
 use Rattle.sign_io.specs.LineReader.{AnswersOpen, AnswersNext, is_fault}
 use Rattle.signctl_driver.specs.Command.{Command, BadLine}
@@ -24,7 +24,7 @@ module _ {Item Cause : Type 0} (command : Command Item Cause) where
   end-no_fault items (Err cause) status closing t = ap (λ s. is_read_fault s) (sym (status-is {Item = Item} _ _ _ _ t))
 
   -- a run ends as in a failed read exactly where the reader says so
-  pub turn-fault : (items : List Item) (answer : Result (List ℕ) Close) (status : Status) (closing : List ℕ)
+  pub turn-fault : (items : List Item) (answer : Result (List ℕ) InputEnd) (status : Status) (closing : List ℕ)
       → line_outcome command items answer ≡ Ends status closing → is_read_fault status ≡ is_fault answer
   turn-fault items (Ok line) status closing t = by_reading (reading_of command items line) t
     where
@@ -32,10 +32,10 @@ module _ {Item Cause : Type 0} (command : Command Item Cause) where
           → is_read_fault status ≡ false
       by_reading (Ok x) e = absurd (cc)
       by_reading (Err bad) e = ap (λ s. is_read_fault s) (sym (status-is {Item = Item} _ _ _ _ e))
-  turn-fault items (Err close.TooLong) status closing t = ap (λ s. is_read_fault s) (sym (status-is {Item = Item} _ _ _ _ t))
-  turn-fault items (Err close.TooMuch) status closing t = ap (λ s. is_read_fault s) (sym (status-is {Item = Item} _ _ _ _ t))
-  turn-fault items (Err close.End) status closing t = end-no_fault items (command.closing items) status closing t
-  turn-fault items (Err close.Fault) status closing t = ap (λ s. is_read_fault s) (sym (status-is {Item = Item} _ _ _ _ t))
+  turn-fault items (Err input_end.TooLong) status closing t = ap (λ s. is_read_fault s) (sym (status-is {Item = Item} _ _ _ _ t))
+  turn-fault items (Err input_end.TooMuch) status closing t = ap (λ s. is_read_fault s) (sym (status-is {Item = Item} _ _ _ _ t))
+  turn-fault items (Err input_end.End) status closing t = end-no_fault items (command.closing items) status closing t
+  turn-fault items (Err input_end.Fault) status closing t = ap (λ s. is_read_fault s) (sym (status-is {Item = Item} _ _ _ _ t))
 
   -- and no write has failed yet
   end-no_write_fault : (items : List Item) (closes : Result (List ℕ) Cause) (status : Status)
@@ -44,7 +44,7 @@ module _ {Item Cause : Type 0} (command : Command Item Cause) where
   end-no_write_fault items (Ok text) status closing t = ap (λ s. is_write_fault s) (sym (status-is {Item = Item} _ _ _ _ t))
   end-no_write_fault items (Err cause) status closing t = ap (λ s. is_write_fault s) (sym (status-is {Item = Item} _ _ _ _ t))
 
-  pub turn-no_write_fault : (items : List Item) (answer : Result (List ℕ) Close) (status : Status)
+  pub turn-no_write_fault : (items : List Item) (answer : Result (List ℕ) InputEnd) (status : Status)
       (closing : List ℕ) → line_outcome command items answer ≡ Ends status closing
       → is_write_fault status ≡ false
   turn-no_write_fault items (Ok line) status closing t = by_reading (reading_of command items line) t
@@ -53,44 +53,44 @@ module _ {Item Cause : Type 0} (command : Command Item Cause) where
           → is_write_fault status ≡ false
       by_reading (Ok x) e = absurd (cc)
       by_reading (Err bad) e = ap (λ s. is_write_fault s) (sym (status-is {Item = Item} _ _ _ _ e))
-  turn-no_write_fault items (Err close.TooLong) status closing t = ap (λ s. is_write_fault s) (sym (status-is {Item = Item} _ _ _ _ t))
-  turn-no_write_fault items (Err close.TooMuch) status closing t = ap (λ s. is_write_fault s) (sym (status-is {Item = Item} _ _ _ _ t))
-  turn-no_write_fault items (Err close.End) status closing t =
+  turn-no_write_fault items (Err input_end.TooLong) status closing t = ap (λ s. is_write_fault s) (sym (status-is {Item = Item} _ _ _ _ t))
+  turn-no_write_fault items (Err input_end.TooMuch) status closing t = ap (λ s. is_write_fault s) (sym (status-is {Item = Item} _ _ _ _ t))
+  turn-no_write_fault items (Err input_end.End) status closing t =
       end-no_write_fault items (command.closing items) status closing t
-  turn-no_write_fault items (Err close.Fault) status closing t = ap (λ s. is_write_fault s) (sym (status-is {Item = Item} _ _ _ _ t))
+  turn-no_write_fault items (Err input_end.Fault) status closing t = ap (λ s. is_write_fault s) (sym (status-is {Item = Item} _ _ _ _ t))
 
   -- after a good line no read has failed
-  pub good-no_fault : (items : List Item) (answer : Result (List ℕ) Close) (x : Item)
+  pub good-no_fault : (items : List Item) (answer : Result (List ℕ) InputEnd) (x : Item)
       → line_outcome command items answer ≡ Good x → is_fault answer ≡ false
   good-no_fault items (Ok line) x t = refl
-  good-no_fault items (Err close.TooLong) x t = refl
-  good-no_fault items (Err close.TooMuch) x t = refl
-  good-no_fault items (Err close.End) x t = refl
-  good-no_fault items (Err close.Fault) x t = absurd (cc)
+  good-no_fault items (Err input_end.TooLong) x t = refl
+  good-no_fault items (Err input_end.TooMuch) x t = refl
+  good-no_fault items (Err input_end.End) x t = refl
+  good-no_fault items (Err input_end.Fault) x t = absurd (cc)
 
   -- and nothing closes the output then
-  pub turn-nothing : (items : List Item) (answer : Result (List ℕ) Close) (status : Status) (closing : List ℕ)
+  pub turn-nothing : (items : List Item) (answer : Result (List ℕ) InputEnd) (status : Status) (closing : List ℕ)
       → line_outcome command items answer ≡ Ends status closing → is_fault answer ≡ true → closing ≡ []
   turn-nothing items (Ok line) status closing t h = absurd (cc)
-  turn-nothing items (Err close.TooLong) status closing t h = absurd (cc)
-  turn-nothing items (Err close.TooMuch) status closing t h = absurd (cc)
-  turn-nothing items (Err close.End) status closing t h = absurd (cc)
-  turn-nothing items (Err close.Fault) status closing t h = sym (closing-is {Item = Item} _ _ _ _ t)
+  turn-nothing items (Err input_end.TooLong) status closing t h = absurd (cc)
+  turn-nothing items (Err input_end.TooMuch) status closing t h = absurd (cc)
+  turn-nothing items (Err input_end.End) status closing t h = absurd (cc)
+  turn-nothing items (Err input_end.Fault) status closing t h = sym (closing-is {Item = Item} _ _ _ _ t)
 
   module _ (left next : Option (List ℕ)) (items : List Item) (bytes : List ℕ) (input new : LineInput)
-      (answer : Result (List ℕ) Close) (read : IsReadSoFar command left items bytes input)
+      (answer : Result (List ℕ) InputEnd) (read : IsReadSoFar command left items bytes input)
       (answers : AnswersNext input left next answer new) where
     -- where a read failed, one was needed
     pub needs-fault : is_fault answer ≡ true → NeedsRead input
     needs-fault h = by_read read
       where
-        by_answer : (a : Result (List ℕ) Close) → is_fault a ≡ true → AnswersOpen input left next a new
+        by_answer : (a : Result (List ℕ) InputEnd) → is_fault a ≡ true → AnswersOpen input left next a new
             → NeedsRead input
         by_answer (Ok line) f opened = absurd (cc)
-        by_answer (Err close.TooLong) f opened = absurd (cc)
-        by_answer (Err close.TooMuch) f opened = absurd (cc)
-        by_answer (Err close.End) f opened = absurd (cc)
-        by_answer (Err close.Fault) f opened =
+        by_answer (Err input_end.TooLong) f opened = absurd (cc)
+        by_answer (Err input_end.TooMuch) f opened = absurd (cc)
+        by_answer (Err input_end.End) f opened = absurd (cc)
+        by_answer (Err input_end.Fault) f opened =
             let needs = opened.3.0 in
             let P : List ℕ → Type 0 = λ v. HasNoNewline v in (
               needs.0,
@@ -103,11 +103,11 @@ module _ {Item Cause : Type 0} (command : Command Item Cause) where
 
         by_read : IsReadSoFar command left items bytes input → NeedsRead input
         by_read (inl runs) =
-            let P : Option Close → Type 0 = λ o. MatchOption o (AnswersOpen input left next answer new) (λ close. (answer ≡ Err close) × (new ≡ input)) in
+            let P : Option InputEnd → Type 0 = λ o. MatchOption o (AnswersOpen input left next answer new) (λ why. (answer ≡ Err why) × (new ≡ input)) in
             by_answer answer h (subst P runs.0 answers)
         by_read (inr over) =
-            let P : Option Close → Type 0 = λ o. MatchOption o (AnswersOpen input left next answer new) (λ close. (answer ≡ Err close) × (new ≡ input)) in
-            let e : (answer ≡ Err close.End) × (new ≡ input) = subst P over.0 answers in
+            let P : Option InputEnd → Type 0 = λ o. MatchOption o (AnswersOpen input left next answer new) (λ why. (answer ≡ Err why) × (new ≡ input)) in
+            let e : (answer ≡ Err input_end.End) × (new ≡ input) = subst P over.0 answers in
             let f : false ≡ true = sym (ap (λ a. is_fault a) e.0) ∙ h in
             absurd (cc)
 
@@ -119,10 +119,10 @@ module _ {Item Cause : Type 0} (command : Command Item Cause) where
         by_read : IsReadSoFar command left items bytes input → CountsFault (is_fault answer) before now
         by_read (inl runs) = counts runs.0
         by_read (inr over) =
-            let P : Option Close → Type 0 = λ o. MatchOption o (AnswersOpen input left next answer new) (λ close. (answer ≡ Err close) × (new ≡ input)) in
-            let e : (answer ≡ Err close.End) × (new ≡ input) = subst P over.0 answers in
+            let P : Option InputEnd → Type 0 = λ o. MatchOption o (AnswersOpen input left next answer new) (λ why. (answer ≡ Err why) × (new ≡ input)) in
+            let e : (answer ≡ Err input_end.End) × (new ≡ input) = subst P over.0 answers in
             let Q : Bool → Type 0 = λ f. CountsFault f before now in
-            subst Q (sym (ap (λ a. is_fault a) e.0)) (still (λ needs. let e : Some close.End ≡ None = sym over.0 ∙ needs.0 in absurd (cc)))
+            subst Q (sym (ap (λ a. is_fault a) e.0)) (still (λ needs. let e : Some input_end.End ≡ None = sym over.0 ∙ needs.0 in absurd (cc)))
 
 -- a failed read stays what a run ends by, where nothing waits to be written
 pub finish-fault : (fault : Bool) (text : List ℕ) (before now : Option (List ℕ)) (status result : Status)

@@ -1,7 +1,7 @@
 -- What holds of a run between two lines.
 use Rattle.std.proofs.Common.{◌≡◌, ◌⊎◌, ℕ, ◌≤◌, List, [], ◌++◌, length, Option, Some, None}
 use Rattle.std.specs.Io.KnownBytes.{Appends, Consumes, IsAtEnd}
-use Rattle.sign_io.specs.declared.close.Close.TheVariants as close
+use Rattle.sign_io.specs.declared.input_end.InputEnd.TheVariants as input_end
 use Rattle.sign_io.specs.LineInput.{LineInput, IsWithinLimit}
 use Rattle.signctl_driver.specs.Command.{Command, answers_to}
 use Rattle.signctl_driver.specs.Lines.{End}
@@ -29,7 +29,7 @@ abbrev pub IsReadSoFar : {Item Cause : Type 0} → Command Item Cause → Option
     → LineInput → Type 0
 IsReadSoFar command left items bytes input =
     ((input.closed ≡ None) × GoesOn command items bytes)
-    ⊎ ((input.closed ≡ Some close.End) × IsAtEnd left × (input.held ≡ []) × (lines_read command bytes End ≡ record { items = items; bad = None }))
+    ⊎ ((input.closed ≡ Some input_end.End) × IsAtEnd left × (input.held ≡ []) × (lines_read command bytes End ≡ record { items = items; bad = None }))
 
 -- the items of the lines so far, the bytes of these lines, and the answers that were written
 pub record RunState {C Item Cause : Type 0} (command : Command Item Cause) (represents : C → List Item → Type 0) (streams : Streams) (input : LineInput) (service : Service C) : Type 0 where

@@ -5,8 +5,8 @@ use Rattle.std.specs.Io.KnownBytes.{Appends, Consumes}
 use Rattle.std.proofs.KnownBytes.{Appends-nil, Appends-trans, Consumes-nil, Consumes-trans}
 use Rattle.sign_base.specs.Bytes.{newline}
 use Rattle.sign_io.specs.Lines.{line_limit, input_limit, HasNoNewline, IsLine, BeginsTooLong}
-use Rattle.sign_io.specs.declared.close.Close.{Close}
-use Rattle.sign_io.specs.declared.close.Close.TheVariants as close
+use Rattle.sign_io.specs.declared.input_end.InputEnd.{InputEnd}
+use Rattle.sign_io.specs.declared.input_end.InputEnd.TheVariants as input_end
 use Rattle.sign_io.specs.LineInput.{LineInput, taken, with_taken, looked_at, NeedsRead, IsWithinLimit}
 use Rattle.sign_io.specs.LineReader.{GivesLine, GivesLastLine, Answers, AnswersOpen, AnswersNext}
 use Rattle.signctl_driver.specs.Command.{Command, BadLine, answers_to}
@@ -194,18 +194,18 @@ end-no_line command items (Ok text) x t = cc
 end-no_line command items (Err cause) x t = cc
 
 -- an answer hands out what was taken, or keeps it
-taken-kept : (input : LineInput) (left : Option (List ℕ)) (answer : Result (List ℕ) Close) (new : LineInput)
+taken-kept : (input : LineInput) (left : Option (List ℕ)) (answer : Result (List ℕ) InputEnd) (new : LineInput)
     → Answers input left answer new → taken new ≡ taken input
 taken-kept input left (Ok line) new (inl gives) =
     omega (arith, gives.2, ap (λ (v : List ℕ). length v) gives.1, length-append line (newline ∷ new.held))
 taken-kept input left (Ok line) new (inr gives) =
     ap (λ i. taken i) gives.4 ∙ omega (arith, ap (λ (v : List ℕ). length v) gives.3)
-taken-kept input left (Err close) new closes = ap (λ i. taken i) closes.1
+taken-kept input left (Err why) new closes = ap (λ i. taken i) closes.1
 
 module _ {C Item Cause : Type 0} (command : Command Item Cause) (represents : C → List Item → Type 0) (before left : Option (List ℕ)) (sink : Since) (input : LineInput) (service : Service C)
     (state : RunState command represents (streams_of (record { before = before; now = left }) sink) input service) (next : Option (List ℕ)) where
   -- what an open input has taken after an answer
-  open-taken : (answer : Result (List ℕ) Close) (new : LineInput)
+  open-taken : (answer : Result (List ℕ) InputEnd) (new : LineInput)
       → (h : AnswersOpen input left next answer new)
       → HasTaken (record { before = before; now = next }) (state.bytes ++ (input.held ++ h.0))
   open-taken answer new h =
@@ -220,7 +220,7 @@ module _ {C Item Cause : Type 0} (command : Command Item Cause) (represents : C 
   handed-few = omega (arith, state.handed, state.within)
 
   -- the answers to the lines so far are still a prefix of the output to the bytes taken
-  pub reached-after : (answer : Result (List ℕ) Close) (new : LineInput)
+  pub reached-after : (answer : Result (List ℕ) InputEnd) (new : LineInput)
       → AnswersNext input left next answer new → ((NeedsRead input → ⊥) → next ≡ left)
       → (all : List ℕ) × HasTaken (record { before = before; now = next }) all
       × StopsEarly command next all (answers_to command state.items)
@@ -230,20 +230,20 @@ module _ {C Item Cause : Type 0} (command : Command Item Cause) (represents : C 
           → (all : List ℕ) × HasTaken (record { before = before; now = next }) all
           × StopsEarly command next all (answers_to command state.items)
       by_read (inl runs) =
-          let P : Option Close → Type 0 = λ o. MatchOption o (AnswersOpen input left next answer new) (λ close. (answer ≡ Err close) × (new ≡ input)) in
+          let P : Option InputEnd → Type 0 = λ o. MatchOption o (AnswersOpen input left next answer new) (λ why. (answer ≡ Err why) × (new ≡ input)) in
           let h : AnswersOpen input left next answer new = subst P runs.0 answers in (
             state.bytes ++ (input.held ++ h.0),
             open-taken answer new h,
             inl (answers-start_fault command state.items state.bytes (input.held ++ h.0) runs.1 handed-few),
           )
       by_read (inr over) =
-          let same : next ≡ left = still (λ needs. let e : Some close.End ≡ None = sym over.0 ∙ needs.0 in absurd (cc)) in
+          let same : next ≡ left = still (λ needs. let e : Some input_end.End ≡ None = sym over.0 ∙ needs.0 in absurd (cc)) in
           let P : Option (List ℕ) → Type 0 = λ l. HasTaken (record { before = before; now = l }) (state.bytes ++ input.held) × StopsEarly command l (state.bytes ++ input.held) (answers_to command state.items) in
           let done = subst P (sym same) (reached command represents before left sink input service state) in
           (state.bytes ++ input.held, done.0, done.1)
 
   -- memory has run out after the answers that were written
-  pub stops-taking : (answer : Result (List ℕ) Close) (new : LineInput)
+  pub stops-taking : (answer : Result (List ℕ) InputEnd) (new : LineInput)
       → AnswersNext input left next answer new → ((NeedsRead input → ⊥) → next ≡ left)
       → RunEnds command (record { before = before; now = next }) sink OutOfMemory
   stops-taking answer new answers still =
@@ -312,12 +312,12 @@ module _ {C Item Cause : Type 0} (command : Command Item Cause) (represents : C 
         clear_line line e part = let S : List ℕ → Type 0 = λ v. HasNoNewline v in subst S e part.0
 
     -- the run goes on after it
-    pub state-line : (answer : Result (List ℕ) Close) (new : LineInput)
+    pub state-line : (answer : Result (List ℕ) InputEnd) (new : LineInput)
         → AnswersNext input left next answer new → line_outcome command state.items answer ≡ Good item
         → RunState command represents (streams_of (record { before = before; now = next }) sink) new served
     state-line answer new answers turn = by_read state.read
       where
-        by_answer : (a : Result (List ℕ) Close) → GoesOn command state.items state.bytes
+        by_answer : (a : Result (List ℕ) InputEnd) → GoesOn command state.items state.bytes
             → AnswersOpen input left next a new → line_outcome command state.items a ≡ Good item
             → RunState command represents (streams_of (record { before = before; now = next }) sink) new
             served
@@ -338,20 +338,20 @@ module _ {C Item Cause : Type 0} (command : Command Item Cause) (represents : C 
                 by_gives (inl gives) = state-whole line new h go gives reads
                 by_gives (inr gives) = state-last line new h go gives reads
             by_reading (Err bad) e same = absurd (cc)
-        by_answer (Err close.TooLong) go h t = absurd (cc)
-        by_answer (Err close.TooMuch) go h t = absurd (cc)
-        by_answer (Err close.End) go h t = absurd (end-no_line command state.items (command.closing state.items) item t)
-        by_answer (Err close.Fault) go h t = absurd (cc)
+        by_answer (Err input_end.TooLong) go h t = absurd (cc)
+        by_answer (Err input_end.TooMuch) go h t = absurd (cc)
+        by_answer (Err input_end.End) go h t = absurd (end-no_line command state.items (command.closing state.items) item t)
+        by_answer (Err input_end.Fault) go h t = absurd (cc)
 
         by_read : IsReadSoFar command left state.items state.bytes input
             → RunState command represents (streams_of (record { before = before; now = next }) sink) new
             served
         by_read (inl runs) =
-            let P : Option Close → Type 0 = λ o. MatchOption o (AnswersOpen input left next answer new) (λ close. (answer ≡ Err close) × (new ≡ input)) in
+            let P : Option InputEnd → Type 0 = λ o. MatchOption o (AnswersOpen input left next answer new) (λ why. (answer ≡ Err why) × (new ≡ input)) in
             by_answer answer runs.1 (subst P runs.0 answers) turn
         by_read (inr over) =
-            let P : Option Close → Type 0 = λ o. MatchOption o (AnswersOpen input left next answer new) (λ close. (answer ≡ Err close) × (new ≡ input)) in
-            let h : (answer ≡ Err close.End) × (new ≡ input) = subst P over.0 answers in
+            let P : Option InputEnd → Type 0 = λ o. MatchOption o (AnswersOpen input left next answer new) (λ why. (answer ≡ Err why) × (new ≡ input)) in
+            let h : (answer ≡ Err input_end.End) × (new ≡ input) = subst P over.0 answers in
             let t : end_outcome command state.items (command.closing state.items) ≡ Good item = sym (ap (λ a. line_outcome command state.items a) h.0) ∙ turn in
             absurd (end-no_line command state.items (command.closing state.items) item t)
 
@@ -360,21 +360,21 @@ module _ {C Item Cause : Type 0} (command : Command Item Cause) (represents : C 
       → AnswersOpen input left next (Ok line) new
   opened line new answers = by_read state.read
     where
-      P : Option Close → Type 0
-      P o = MatchOption o (AnswersOpen input left next (Ok line) new) (λ close. (Ok line ≡ Err close) × (new ≡ input))
+      P : Option InputEnd → Type 0
+      P o = MatchOption o (AnswersOpen input left next (Ok line) new) (λ why. (Ok line ≡ Err why) × (new ≡ input))
 
       by_read : IsReadSoFar command left state.items state.bytes input
           → AnswersOpen input left next (Ok line) new
       by_read (inl runs) = subst P runs.0 answers
       by_read (inr over) =
-          let h : (Ok line ≡ Err close.End) × (new ≡ input) = subst P over.0 answers in
-          let e : Ok line ≡ Err close.End = h.0 in
+          let h : (Ok line ≡ Err input_end.End) × (new ≡ input) = subst P over.0 answers in
+          let e : Ok line ≡ Err input_end.End = h.0 in
           absurd (cc)
 
   -- it is not too long, and there are not too many before it
-  pub line-fits : (answer : Result (List ℕ) Close) (new : LineInput) → AnswersNext input left next answer new
+  pub line-fits : (answer : Result (List ℕ) InputEnd) (new : LineInput) → AnswersNext input left next answer new
       → IfOk answer (λ line. (length line ≤ line_limit) × (service.lines < input_limit))
-  line-fits (Err close) new answers = tt
+  line-fits (Err why) new answers = tt
   line-fits (Ok line) new answers = by_gives (opened line new answers)
     where
       by : (h : AnswersOpen input left next (Ok line) new) → Answers (with_taken input h.0) next (Ok line) new
@@ -391,7 +391,7 @@ module _ {C Item Cause : Type 0} (command : Command Item Cause) (represents : C 
       by_gives h = by h h.3
 
   -- a good line hands out a byte more, and no more than the limit
-  pub line-hands_out : (item : Item) (answer : Result (List ℕ) Close) (new : LineInput)
+  pub line-hands_out : (item : Item) (answer : Result (List ℕ) InputEnd) (new : LineInput)
       → AnswersNext input left next answer new → line_outcome command state.items answer ≡ Good item
       → input_limit - new.handed < input_limit - input.handed
   line-hands_out item (Ok line) new answers turn = by_gives (opened line new answers)
@@ -407,14 +407,14 @@ module _ {C Item Cause : Type 0} (command : Command Item Cause) (represents : C 
       by_gives : AnswersOpen input left next (Ok line) new
           → input_limit - new.handed < input_limit - input.handed
       by_gives h = by h h.3
-  line-hands_out item (Err close.TooLong) new answers turn = absurd (cc)
-  line-hands_out item (Err close.TooMuch) new answers turn = absurd (cc)
-  line-hands_out item (Err close.End) new answers turn =
+  line-hands_out item (Err input_end.TooLong) new answers turn = absurd (cc)
+  line-hands_out item (Err input_end.TooMuch) new answers turn = absurd (cc)
+  line-hands_out item (Err input_end.End) new answers turn =
       absurd (end-no_line command state.items (command.closing state.items) item turn)
-  line-hands_out item (Err close.Fault) new answers turn = absurd (cc)
+  line-hands_out item (Err input_end.Fault) new answers turn = absurd (cc)
 
   -- the run ends at this answer
-  pub ends-after : (answer : Result (List ℕ) Close) (new : LineInput) (status : Status) (closing : List ℕ)
+  pub ends-after : (answer : Result (List ℕ) InputEnd) (new : LineInput) (status : Status) (closing : List ℕ)
       → AnswersNext input left next answer new → ((NeedsRead input → ⊥) → next ≡ left)
       → line_outcome command state.items answer ≡ Ends status closing
       → (all : List ℕ) × HasTaken (record { before = before; now = next }) all
@@ -452,13 +452,13 @@ module _ {C Item Cause : Type 0} (command : Command Item Cause) (represents : C 
                 ends-last command state.items next state.bytes go handed-few line bad gives.1 gives.2 (subst S gives.3 gives.0.2.0) (omega (arith, length-append state.bytes line, state.handed, gives.0.1, ap (λ (v : List ℕ). length v) gives.3)) e,
               )
 
-      by_answer : (a : Result (List ℕ) Close) → GoesOn command state.items state.bytes
+      by_answer : (a : Result (List ℕ) InputEnd) → GoesOn command state.items state.bytes
           → AnswersOpen input left next a new → line_outcome command state.items a ≡ Ends status closing
           → End_of status closing
       by_answer (Ok line) go h t = by_line line go h (reading_of command state.items line) refl t
-      by_answer (Err close.TooLong) go h t = by Refused (bad_line (too_long_line (length state.items + 1))) t (
+      by_answer (Err input_end.TooLong) go h t = by Refused (bad_line (too_long_line (length state.items + 1))) t (
         state.bytes ++ (input.held ++ h.0),
-        open-taken (Err close.TooLong) new h,
+        open-taken (Err input_end.TooLong) new h,
         ends-too_long command state.items next state.bytes go handed-few (input.held ++ h.0) (seen-long h.3.0),
       )
         where
@@ -466,9 +466,9 @@ module _ {C Item Cause : Type 0} (command : Command Item Cause) (represents : C 
               → BeginsTooLong (seen state.bytes (input.held ++ h.0))
           seen-long long =
               let P : ℕ → Type 0 = λ n. BeginsTooLong (take (input_limit - n) (input.held ++ h.0)) in subst P (sym state.handed) long
-      by_answer (Err close.TooMuch) go h t = by Refused too_much_line t (
+      by_answer (Err input_end.TooMuch) go h t = by Refused too_much_line t (
         state.bytes ++ (input.held ++ h.0),
-        open-taken (Err close.TooMuch) new h,
+        open-taken (Err input_end.TooMuch) new h,
         ends-too_much command state.items next state.bytes go handed-few (input.held ++ h.0) (seen-part h.3.0.0)
             (omega (arith, length-append state.bytes (input.held ++ h.0), state.handed, h.3.0.1)),
       )
@@ -477,29 +477,29 @@ module _ {C Item Cause : Type 0} (command : Command Item Cause) (represents : C 
               → IsLine (seen state.bytes (input.held ++ h.0))
           seen-part part =
               let P : ℕ → Type 0 = λ n. IsLine (take (input_limit - n) (input.held ++ h.0)) in subst P (sym state.handed) part
-      by_answer (Err close.End) go h t =
+      by_answer (Err input_end.End) go h t =
           let all : state.bytes ++ (input.held ++ h.0) ≡ state.bytes = ap (λ v. state.bytes ++ v) h.3.0.2 ∙ append-nil state.bytes in
           let P : List ℕ → Type 0 = λ v. HasTaken (record { before = before; now = next }) v in (
             state.bytes,
-            subst P all (open-taken (Err close.End) new h),
+            subst P all (open-taken (Err input_end.End) new h),
             ends-closing command state.items next state.bytes (command.closing state.items) h.3.0.1 handed-few (all_read-none command state.items state.bytes go) refl status closing t,
           )
-      by_answer (Err close.Fault) go h t = by ReadFault [] t (
+      by_answer (Err input_end.Fault) go h t = by ReadFault [] t (
         state.bytes ++ (input.held ++ h.0),
-        open-taken (Err close.Fault) new h,
+        open-taken (Err input_end.Fault) new h,
         ends-fault command state.items next state.bytes go handed-few (input.held ++ h.0) h.3.0.2
             (omega (arith, length-append state.bytes (input.held ++ h.0), state.handed, h.3.0.1)),
       )
 
       by_read : IsReadSoFar command left state.items state.bytes input → End_of status closing
       by_read (inl runs) =
-          let Answered : Option Close → Type 0 = λ o. MatchOption o (AnswersOpen input left next answer new) (λ close. (answer ≡ Err close) × (new ≡ input)) in
+          let Answered : Option InputEnd → Type 0 = λ o. MatchOption o (AnswersOpen input left next answer new) (λ why. (answer ≡ Err why) × (new ≡ input)) in
           by_answer answer runs.1 (subst Answered runs.0 answers) turn
       by_read (inr over) =
-          let Answered : Option Close → Type 0 = λ o. MatchOption o (AnswersOpen input left next answer new) (λ close. (answer ≡ Err close) × (new ≡ input)) in
-          let h : (answer ≡ Err close.End) × (new ≡ input) = subst Answered over.0 answers in
+          let Answered : Option InputEnd → Type 0 = λ o. MatchOption o (AnswersOpen input left next answer new) (λ why. (answer ≡ Err why) × (new ≡ input)) in
+          let h : (answer ≡ Err input_end.End) × (new ≡ input) = subst Answered over.0 answers in
           let t : end_outcome command state.items (command.closing state.items) ≡ Ends status closing = sym (ap (λ a. line_outcome command state.items a) h.0) ∙ turn in
-          let same : next ≡ left = still (λ needs. let e : Some close.End ≡ None = sym over.0 ∙ needs.0 in absurd (cc)) in
+          let same : next ≡ left = still (λ needs. let e : Some input_end.End ≡ None = sym over.0 ∙ needs.0 in absurd (cc)) in
           let Q : Option (List ℕ) → Type 0 = λ l. HasTaken (record { before = before; now = l }) state.bytes × EndsWith command l status state.bytes (answers_to command state.items ++ closing) in
           let R : List ℕ → Type 0 = λ v. HasTaken (record { before = before; now = left }) v in
           let all : state.bytes ++ input.held ≡ state.bytes = ap (λ v. state.bytes ++ v) over.2 ∙ append-nil state.bytes in

@@ -1,7 +1,7 @@
--- What a command does with the next line of an input, or with its close.
+-- What a command does with the next line of an input, or with its end.
 use Rattle.std.specs.Prelude.{ℕ, ◌+◌, List, [], Result, Ok, Err, length}
-use Rattle.sign_io.specs.declared.close.Close.{Close}
-use Rattle.sign_io.specs.declared.close.Close.TheVariants as close
+use Rattle.sign_io.specs.declared.input_end.InputEnd.{InputEnd}
+use Rattle.sign_io.specs.declared.input_end.InputEnd.TheVariants as input_end
 use Rattle.signctl_driver.specs.Command.{Command, BadLine, blamed}
 use Rattle.signctl_driver.specs.LinesRead.{reading_of, too_long_line}
 use Rattle.signctl_driver.specs.Output.{bad_line, too_much_line}
@@ -24,11 +24,12 @@ abbrev pub end_outcome : {Item Cause : Type 0} → Command Item Cause → List I
 end_outcome command items (Ok closing) = Ends Done closing
 end_outcome command items (Err cause) = Ends Refused (bad_line (blamed command (length items + 1) cause))
 
--- the outcome of the next line, or of the close, after the items of the lines before it
-abbrev pub line_outcome : {Item Cause : Type 0} → Command Item Cause → List Item → Result (List ℕ) Close
+-- the outcome of the next line, or of the input's end, after the items of the lines before it
+abbrev pub line_outcome : {Item Cause : Type 0} → Command Item Cause → List Item → Result (List ℕ) InputEnd
     → LineOutcome Item
 line_outcome command items (Ok line) = line_outcome_by (reading_of command items line)
-line_outcome command items (Err close.TooLong) = Ends Refused (bad_line (too_long_line (length items + 1)))
-line_outcome command items (Err close.TooMuch) = Ends Refused too_much_line
-line_outcome command items (Err close.End) = end_outcome command items (command.closing items)
-line_outcome command items (Err close.Fault) = Ends ReadFault []
+line_outcome command items (Err input_end.TooLong) =
+    Ends Refused (bad_line (too_long_line (length items + 1)))
+line_outcome command items (Err input_end.TooMuch) = Ends Refused too_much_line
+line_outcome command items (Err input_end.End) = end_outcome command items (command.closing items)
+line_outcome command items (Err input_end.Fault) = Ends ReadFault []

@@ -1,5 +1,5 @@
-//! The lines of output that the driver adds itself, that a line is bad and that the input is too long, and the
-//! end of any line; and bytes to a sink: all of a text, or a prefix of it where a write fails.
+//! The lines of output that the driver adds itself, that a line is bad and that the input is too long, and
+//! the end of any line; and bytes to a sink: all of a text, or a prefix of it where a write fails.
 //!
 //! Where an allocation fails, a part of a line may stand at the end of the text.
 ghost use Rattle.std.specs.Prelude.{◌≡◌, ◌++◌, ◌∷◌, OnOk, OnErr, IsOk, is_err, [], codes, decimal};

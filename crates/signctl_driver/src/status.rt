@@ -1,5 +1,5 @@
-//! How a command ends, by its exit status and the line on standard error, and the words of a program's command
-//! line, whatever its commands are.
+//! How a command ends, by its exit status and the line on standard error, and the words of a program's
+//! command line, whatever its commands are.
 ghost use Rattle.std.specs.Prelude.{◌≡◌, map, drop, string_bytes};
 ghost use Rattle.signctl_driver.specs.Reasons.{usage_line, reason_line};
 ghost use Rattle.signctl_driver.specs.Streams.{WritesOnce};

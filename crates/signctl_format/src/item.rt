@@ -1,4 +1,5 @@
-//! What a line of a script, or of `grant`, says, when one that sets up is bad, and events as scripts name them.
+//! What a line of a script, or of `grant`, says, when one that sets up is bad, and events as scripts name
+//! them.
 ghost use Rattle.std.specs.Prelude.{◌≡◌};
 ghost use Rattle.signctl_format.specs.ScriptSetup.{setup_error};
 

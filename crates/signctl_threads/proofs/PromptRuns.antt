@@ -14,8 +14,8 @@ use Rattle.signctl_threads.specs.Words.{IsPoolSize}
 use Rattle.signctl_threads.specs.Written.{Written}
 use Rattle.signctl_threads.specs.declared.end.PoolEnd.{PoolEnd}
 use Rattle.signctl_threads.specs.declared.end.PoolEnd.TheVariants as end
-use Rattle.signctl_threads.specs.declared.words.PoolCommand.{PoolCommand}
-use Rattle.signctl_threads.specs.declared.words.PoolCommand.TheVariants.{Pool, Queue}
+use Rattle.signctl_threads.specs.declared.words.ThreadedCommand.{ThreadedCommand}
+use Rattle.signctl_threads.specs.declared.words.ThreadedCommand.TheVariants.{Pool, Queue}
 use Rattle.signctl_threads.proofs.PoolLines.{every_pool_writes_the_same_line, every_queue_writes_the_same_line}
 
 module _ {D : Type 0} (sink : Written D) where
@@ -27,7 +27,7 @@ module _ {D : Type 0} (sink : Written D) where
       → AppendsPrefix (sink.holds sink.old) (sink.holds sink.new) new
   prefix old new e h = subst (λ l. AppendsPrefix (sink.holds sink.old) (sink.holds sink.new) l) e h
 
-  command-line : (command : PoolCommand) (ended : PoolEnd) → IsPoolSize command
+  command-line : (command : ThreadedCommand) (ended : PoolEnd) → IsPoolSize command
       → EndsCommand pool_meaning command ended sink → WritesLine (prompt_line command) ended sink
   command-line (Pool workers jobs) (end.Done settled) size h =
       whole (pool_line jobs settled.journal.items) (prompt_line (Pool workers jobs)) (every_pool_writes_the_same_line workers jobs settled size.0 h.0) h.1
@@ -55,11 +55,11 @@ module _ {D : Type 0} (sink : Written D) where
   command-line (Queue workers jobs capacity) (end.Ended status.OutOfMemory) size h = tt
 
   -- the command that was asked for wrote its line
-  pub prompt-run : (asked : Option PoolCommand) (ended : PoolEnd) → IfSome asked IsPoolSize
+  pub prompt-run : (asked : Option ThreadedCommand) (ended : PoolEnd) → IfSome asked IsPoolSize
       → IsThreadsRun pool_meaning asked ended sink → WritesPromptLine asked ended sink
   prompt-run asked ended size run = by_asked asked size run.gives
     where
-      by_asked : (o : Option PoolCommand) → IfSome o IsPoolSize
+      by_asked : (o : Option ThreadedCommand) → IfSome o IsPoolSize
           → IfSome o (λ command. EndsCommand pool_meaning command ended sink) → WritesPromptLine o ended sink
       by_asked None size gives = tt
       by_asked (Some command) size gives = command-line command ended size gives

@@ -23,8 +23,8 @@ use Rattle.signctl_threads.specs.Queue.{EndsQueue}
 use Rattle.signctl_threads.specs.Written.{Written}
 use Rattle.signctl_threads.specs.declared.end.PoolEnd.{PoolEnd}
 use Rattle.signctl_threads.specs.declared.end.PoolEnd.TheVariants as end
-use Rattle.signctl_threads.specs.declared.words.PoolCommand.{PoolCommand}
-use Rattle.signctl_threads.specs.declared.words.PoolCommand.TheVariants.{Pool, Queue}
+use Rattle.signctl_threads.specs.declared.words.ThreadedCommand.{ThreadedCommand}
+use Rattle.signctl_threads.specs.declared.words.ThreadedCommand.TheVariants.{Pool, Queue}
 
 module _ (gate : GateMeaning ScriptCredential) (workers jobs : ℕ) where
   -- a signer that was closed behind a pool: its desk represents the journal of the run
@@ -61,13 +61,13 @@ module _ (gate : GateMeaning ScriptCredential) (workers jobs : ℕ) where
   EndsPool _ sink = ⊥
 
 -- what a run of a command gives
-abbrev pub EndsCommand : {D : Type 0} → GateMeaning ScriptCredential → PoolCommand → PoolEnd
+abbrev pub EndsCommand : {D : Type 0} → GateMeaning ScriptCredential → ThreadedCommand → PoolEnd
     → Written D → Type 0
 EndsCommand gate (Pool workers jobs) ended sink = EndsPool gate workers jobs ended sink
 EndsCommand gate (Queue workers jobs capacity) ended sink = EndsQueue gate workers jobs ended sink
 
 -- a run did what its words ask for
-pub record IsThreadsRun {D : Type 0} (gate : GateMeaning ScriptCredential) (asked : Option PoolCommand)
+pub record IsThreadsRun {D : Type 0} (gate : GateMeaning ScriptCredential) (asked : Option ThreadedCommand)
     (ended : PoolEnd) (sink : Written D) : Type 0 where
   -- Usage comes exactly where nothing is asked for, and writes nothing
   pub usage : (ended ≡ end.Ended status.Usage) ↔ (asked ≡ None)

@@ -8,11 +8,11 @@ use Rattle.signctl_threads.specs.LineLaws.{line_of_all_signed}
 use Rattle.signctl_threads.specs.Written.{Written}
 use Rattle.signctl_threads.specs.declared.end.PoolEnd.{PoolEnd}
 use Rattle.signctl_threads.specs.declared.end.PoolEnd.TheVariants as end
-use Rattle.signctl_threads.specs.declared.words.PoolCommand.{PoolCommand}
-use Rattle.signctl_threads.specs.declared.words.PoolCommand.TheVariants.{Pool, Queue}
+use Rattle.signctl_threads.specs.declared.words.ThreadedCommand.{ThreadedCommand}
+use Rattle.signctl_threads.specs.declared.words.ThreadedCommand.TheVariants.{Pool, Queue}
 
 -- all jobs signed, or answered and none left; and one load, if there is a job
-abbrev pub prompt_line : PoolCommand → List ℕ
+abbrev pub prompt_line : ThreadedCommand → List ℕ
 prompt_line (Pool workers jobs) = line_of_all_signed jobs
 prompt_line (Queue workers jobs capacity) = books_line jobs jobs 0 (min jobs 1)
 
@@ -25,5 +25,5 @@ WritesLine line (end.Ended status.WriteFault) sink =
 WritesLine line _ sink = Unit {0}
 
 -- so it is for the command that is asked for
-abbrev pub WritesPromptLine : {D : Type 0} → Option PoolCommand → PoolEnd → Written D → Type 0
+abbrev pub WritesPromptLine : {D : Type 0} → Option ThreadedCommand → PoolEnd → Written D → Type 0
 WritesPromptLine asked ended sink = IfSome asked (λ command. WritesLine (prompt_line command) ended sink)

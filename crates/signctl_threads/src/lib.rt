@@ -29,4 +29,4 @@ pub use program::run_threads;
 pub use refused::QueueRefused;
 pub use run::run_pool;
 pub use serve::serve_queue;
-pub use words::{PoolCommand, is_for_threads, names_pool};
+pub use words::{ThreadedCommand, is_for_threads, names_threaded};

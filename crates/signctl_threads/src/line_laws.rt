@@ -1,5 +1,5 @@
-//! The laws of the lines of a pool and of a queue, over the definitions alone: each function's contract is the
-//! law.
+//! The laws of the lines of a pool and of a queue, over the definitions alone: each function's contract is
+//! the law.
 ghost use Rattle.signctl_threads.specs.LineLaws.{EveryPoolWritesTheSameLine, EveryQueueWritesTheSameLine};
 
 /// A pool whose gate answers at once writes one line, `calls J signed J loads L settled`, where L is the

@@ -1,5 +1,6 @@
 //! A pool of workers at one shared signer, run to its end: the command `pool`.
-ghost use Rattle.std.specs.Prelude.{◌≡◌, ◌<◌, ◌≤◌, [], ℕ, List, IfOk, IfErr, MatchResult, MatchBool, All, IsTrue, false, map, length};
+ghost use Rattle.std.specs.Prelude.{◌≡◌, ◌<◌, ◌≤◌, [], ℕ, List, IfOk, IfErr, MatchResult, MatchBool, All};
+ghost use Rattle.std.specs.Prelude.{IsTrue, false, map, length};
 ghost use Rattle.std.specs.List.{list_any};
 ghost use Rattle.sign_io.specs.Faults.{CountsFault};
 ghost use Rattle.desk_parts.specs.Tables.{setup_of};
@@ -28,7 +29,7 @@ use std::thread::Threads;
 const TURNS: u64 = 1;
 
 /// Serves so many jobs by so many workers, and writes the line of the settled journal.
-pub(crate) fn serve_pool<G: Gate<ScriptCredential> + Sync, D: Sink, R: Threads + Wait + Sync>(
+pub(crate) fn run_pool_command<G: Gate<ScriptCredential> + Sync, D: Sink, R: Threads + Wait + Sync>(
     rt: &R,
     alloc: Global,
     workers: u32,

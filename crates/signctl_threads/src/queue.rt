@@ -19,7 +19,7 @@ use std::sync::Wait;
 use std::thread::Threads;
 
 /// Serves so many jobs by so many workers through a queue, and writes the line of the books.
-pub(crate) fn run_queue<G: Gate<ScriptCredential> + Sync, D: Sink, R: Threads + Wait + Sync>(
+pub(crate) fn run_queue_command<G: Gate<ScriptCredential> + Sync, D: Sink, R: Threads + Wait + Sync>(
     rt: &R,
     alloc: Global,
     workers: u32,

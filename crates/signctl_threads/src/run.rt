@@ -1,12 +1,12 @@
 //! The commands that threads serve, run to their ends.
 ghost use Rattle.std.specs.Prelude.{map, string_bytes, IfSome};
-ghost use Rattle.signctl_threads.specs.Words.{pool_named, IsPoolSize};
+ghost use Rattle.signctl_threads.specs.Words.{threaded_command, IsPoolSize};
 ghost use Rattle.signctl_threads.specs.Pool.{IsThreadsRun};
 
 use crate::end::PoolEnd;
-use crate::pool::serve_pool;
-use crate::queue::run_queue;
-use crate::words::{PoolCommand, command_of};
+use crate::pool::run_pool_command;
+use crate::queue::run_queue_command;
+use crate::words::{ThreadedCommand, command_of};
 use sign_io::Sink;
 use signctl_driver::Status;
 use signctl_format::ScriptCredential;
@@ -28,21 +28,21 @@ pub fn run_pool<G: Gate<ScriptCredential> + Sync, D: Sink, R: Threads + Wait + S
     gate: &G,
     sink: &mut D,
 ) -> PoolEnd
-    ensures size { IfSome (pool_named (map string_bytes words.now)) IsPoolSize }
-    ensures run { IsThreadsRun (G.meaning gate.now) (pool_named (map string_bytes words.now)) result
+    ensures size { IfSome (threaded_command (map string_bytes words.now)) IsPoolSize }
+    ensures run { IsThreadsRun (G.meaning gate.now) (threaded_command (map string_bytes words.now)) result
         (record { holds = D.holds; faults = D.faults; old = sink.old; new = sink.new }) }
 {
     match command_of(words) {
         None => PoolEnd::Ended(Status::Usage),
-        Some(PoolCommand::Pool { workers, jobs }) => {
-            serve_pool(rt, alloc, workers, jobs, gate, sink)
+        Some(ThreadedCommand::Pool { workers, jobs }) => {
+            run_pool_command(rt, alloc, workers, jobs, gate, sink)
         }
         Some(
-            PoolCommand::Queue {
+            ThreadedCommand::Queue {
                 workers,
                 jobs,
                 capacity,
             },
-        ) => run_queue(rt, alloc, workers, jobs, capacity, gate, sink),
+        ) => run_queue_command(rt, alloc, workers, jobs, capacity, gate, sink),
     }
 }

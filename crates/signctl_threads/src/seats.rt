@@ -10,7 +10,7 @@ use crate::check::{any_ran_out, any_stopped};
 use crate::desk::{QueuePool, queue_pool};
 use crate::rest::work_on_rest;
 use crate::slots::{Slot, into_seats, new_slots};
-use crate::threads::run_threads;
+use crate::threads::run_submitters;
 use sign_base::NoMemory;
 use sign_pool::{Submitter, Worker};
 use signctl_format::ScriptCredential;
@@ -74,7 +74,7 @@ fn serve_slots<G: Gate<ScriptCredential> + Sync, R: Threads + Wait + Sync>(
     requires slots { AreNewSlots pool.now.queue workers slots.old }
     ensures { IfOk result (λ _. AreServedSlots pool.now.queue (G.meaning gate.now) workers jobs slots.new) }
 {
-    run_threads(rt, alloc, pool, gate, workers, jobs, slots);
+    run_submitters(rt, alloc, pool, gate, workers, jobs, slots);
     if any_stopped(slots) {
         return Err(NoMemory { back: () });
     }

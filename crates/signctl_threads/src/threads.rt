@@ -16,7 +16,7 @@ use std::thread;
 use std::thread::Threads;
 
 /// A thread for each slot. All are joined.
-pub(crate) fn run_threads<G: Gate<ScriptCredential> + Sync, R: Threads + Wait + Sync>(
+pub(crate) fn run_submitters<G: Gate<ScriptCredential> + Sync, R: Threads + Wait + Sync>(
     rt: &R,
     alloc: Global,
     pool: &QueuePool,

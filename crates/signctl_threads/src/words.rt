@@ -1,7 +1,8 @@
 //! The commands that threads serve, by their words.
 ghost use Rattle.std.specs.Prelude.{◌≡◌, ◌<◌, ◌≤◌, IfSome, map, string_bytes, option_map};
-ghost use Rattle.signctl_threads.specs.Words.{pool_named, pool_by_words, queue_by_words, names_pool};
-ghost use Rattle.signctl_threads.specs.Words.{IsPoolSize, most_workers, most_jobs, most_capacity};
+ghost use Rattle.signctl_threads.specs.Words.{threaded_command, pool_by_words, queue_by_words};
+ghost use Rattle.signctl_threads.specs.Words.{names_threaded, IsPoolSize};
+ghost use Rattle.signctl_threads.specs.Words.{most_workers, most_jobs, most_capacity};
 ghost use Rattle.signctl_threads.specs.CommandLine.{is_for_threads};
 
 use line_words::word::parse_number;
@@ -18,7 +19,7 @@ const MOST_CAPACITY: u64 = 1_024;
 
 /// A command that threads serve.
 #[derive(Clone, Copy, Debug, PartialEq, Eq)]
-pub enum PoolCommand {
+pub enum ThreadedCommand {
     /// So many jobs, by so many workers.
     Pool {
         workers: u32,
@@ -33,8 +34,8 @@ pub enum PoolCommand {
 }
 
 /// The command that the words name.
-pub(crate) fn command_of(words: &[String]) -> Option<PoolCommand>
-    ensures named { result ≡ pool_named (map string_bytes words.now) }
+pub(crate) fn command_of(words: &[String]) -> Option<ThreadedCommand>
+    ensures named { result ≡ threaded_command (map string_bytes words.now) }
     ensures size { IfSome result IsPoolSize }
 {
     match words {
@@ -49,7 +50,7 @@ pub(crate) fn command_of(words: &[String]) -> Option<PoolCommand>
     }
 }
 
-fn pool_by_words(word: &str, workers: &str, jobs: &str) -> Option<PoolCommand>
+fn pool_by_words(word: &str, workers: &str, jobs: &str) -> Option<ThreadedCommand>
     ensures named { result ≡ pool_by_words word.now workers.now jobs.now }
     ensures size { IfSome result IsPoolSize }
 {
@@ -61,13 +62,13 @@ fn pool_by_words(word: &str, workers: &str, jobs: &str) -> Option<PoolCommand>
     if workers == 0 {
         return None;
     }
-    Some(PoolCommand::Pool {
+    Some(ThreadedCommand::Pool {
         workers: workers as u32,
         jobs,
     })
 }
 
-fn queue_by_words(word: &str, workers: &str, jobs: &str, capacity: &str) -> Option<PoolCommand>
+fn queue_by_words(word: &str, workers: &str, jobs: &str, capacity: &str) -> Option<ThreadedCommand>
     ensures named { result ≡ queue_by_words word.now workers.now jobs.now capacity.now }
     ensures size { IfSome result IsPoolSize }
 {
@@ -80,7 +81,7 @@ fn queue_by_words(word: &str, workers: &str, jobs: &str, capacity: &str) -> Opti
     if workers == 0 || capacity == 0 {
         return None;
     }
-    Some(PoolCommand::Queue {
+    Some(ThreadedCommand::Queue {
         workers: workers as u32,
         jobs,
         capacity,
@@ -88,8 +89,8 @@ fn queue_by_words(word: &str, workers: &str, jobs: &str, capacity: &str) -> Opti
 }
 
 /// Whether the first word is that of a command that threads serve.
-pub fn names_pool(words: &[String]) -> bool
-    ensures { result ≡ names_pool (map string_bytes words.now) }
+pub fn names_threaded(words: &[String]) -> bool
+    ensures { result ≡ names_threaded (map string_bytes words.now) }
 {
     match words {
         [word, ..] => word.as_str() == "pool" || word.as_str() == "queue",
@@ -103,7 +104,7 @@ pub fn is_for_threads(words: &Option<Vec<String>>) -> bool
     ensures { result ≡ is_for_threads (option_map (λ all. map string_bytes all.items) words.now) }
 {
     match words {
-        Some(all) => names_pool(after_name(all.as_slice())),
+        Some(all) => names_threaded(after_name(all.as_slice())),
         None => false,
     }
 }

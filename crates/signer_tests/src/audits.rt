@@ -1,5 +1,5 @@
-//! An auditor with ample memory: a right claim is legal, any other is answered by the reply that is due, and the
-//! calls ahead are named.
+//! An auditor with ample memory: a right claim is legal, any other is answered by the reply that is due, and
+//! the calls ahead are named.
 ghost use Rattle.std.specs.Prelude.{[], IfSome};
 ghost use Rattle.sequential_signer.specs.Policy.{policy_for};
 ghost use Rattle.sign_desk.specs.DeskState.{Represents};

@@ -1,5 +1,5 @@
-//! The commands `pool` and `queue`: what they write, by their words and their gates, and that their workers run beside
-//! each other.
+//! The commands `pool` and `queue`: what they write, by their words and their gates, and that their workers
+//! run beside each other.
 use crate::gates::Answers::{
     FailsLoads, HasNoCredential, LoadsWithoutMemory, NeverReady, RejectsHeads, SignsWithoutMemory,
     VerdictsMeet,

@@ -28,8 +28,8 @@ const THREADS: u32 = 8;
 /// How often calls ended so: signed, refused, busy, given up, not now, out of memory.
 type Ends = [u64; 6];
 
-/// How the gate answers, how many calls may be live, how often a provider is asked, how many calls each thread
-/// makes; how the calls end; how often the gate is asked for a load, and for a verdict.
+/// How the gate answers, how many calls may be live, how often a provider is asked, how many calls each
+/// thread makes; how the calls end; how often the gate is asked for a load, and for a verdict.
 type Row = (Answers, usize, u64, u64, Ends, (u64, u64));
 
 const ROWS: [Row; 11] = [

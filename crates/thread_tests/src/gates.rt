@@ -77,7 +77,8 @@ impl<K> TestGate<K> {
     }
 }
 
-/// Notes that one was asked, and waits until the other is. It is looked at so often that a thread has time to start.
+/// Notes that one was asked, and waits until the other is. It is looked at so often that a thread has time
+/// to start.
 fn meet(mine: &AtomicU64, other: &AtomicU64) -> bool {
     mine.store(1, Ordering::SeqCst);
     for _ in 0..1_000_000_000u64 {

@@ -1,5 +1,5 @@
-//! What threads share, tried: books, shared signers, signing pools, and the commands `pool` and `queue`, by workers
-//! with gates of several kinds, and by workers that run beside each other.
+//! What threads share, tried: books, shared signers, signing pools, and the commands `pool` and `queue`, by
+//! workers with gates of several kinds, and by workers that run beside each other.
 #![tactic(auto)]
 
 #[cfg(test)]

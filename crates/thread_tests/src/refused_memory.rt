@@ -1,5 +1,5 @@
-//! Steps of a shared signer, jobs of a pool, and a worker's jobs, where memory is refused. Steps and jobs of a
-//! pool are tried once more. `None` is an allocation that failed outside of these.
+//! Steps of a shared signer, jobs of a pool, and a worker's jobs, where memory is refused. Steps and jobs of
+//! a pool are tried once more. `None` is an allocation that failed outside of these.
 ghost use Rattle.std.specs.Prelude.{◌≡◌, ◌≤◌, [], vec_capacity};
 
 use crate::gates::{Answers, TestGate};
@@ -35,7 +35,8 @@ fn steps<R: Wait>(rt: &R, signer: &KeySigner, pass: &mut Pass<Key>, event: &Even
     pass.receipts().len() == before + 1
 }
 
-/// The length of the settled journal of two begins, each through its own pass, or 0. There is room for the passes.
+/// The length of the settled journal of two begins, each through its own pass, or 0. There is room for the
+/// passes.
 fn settled<R: Wait>(
     rt: &R,
     alloc: Global,
@@ -142,7 +143,8 @@ fn served_and_live<R: Wait>(rt: &R, alloc: Global) -> Option<(Served, usize)> {
     }
 }
 
-/// At a begin, a poll, a load, the hand-over of its answer, a signature: the worker stops, and the call is over.
+/// At a begin, a poll, a load, the hand-over of its answer, a signature: the worker stops, and the call is
+/// over.
 #[test]
 fn a_refused_allocation_leaves_no_call(rt: HostRuntime) {
     let told = match served_and_live(&rt, rt.alloc()) {

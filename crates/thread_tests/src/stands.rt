@@ -84,8 +84,8 @@ impl Stand {
         }
     }
 
-    /// Finishes the pool with its seats, once it refused to be finished with too few, if need be at the second
-    /// try. `None` where an allocation failed outside of that.
+    /// Finishes the pool with its seats, once it refused to be finished with too few, if need be at the
+    /// second try. `None` where an allocation failed outside of that.
     pub fn finish<R: Wait>(self, rt: &R, alloc: Global) -> Option<Report> {
         let Stand {
             pool,

@@ -139,8 +139,8 @@ fn served<R: Threads + Wait + Sync + Abort>(
     (met_full, stand.finish(rt, alloc).expect(rt, "memory"))
 }
 
-/// How the gate answers, how many jobs the queue holds, how many each thread submits; whether a thread meets a
-/// full queue.
+/// How the gate answers, how many jobs the queue holds, how many each thread submits; whether a thread meets
+/// a full queue.
 const ROWS: [(Answers, usize, u64, bool); 4] = [
     (Answers::Signs, 1, 100, true),
     (Answers::Signs, 2, 100, true),

@@ -1,5 +1,5 @@
-//! The script examples/waiting_calls.script through a book: three calls need a credential, one of them loads it, and the
-//! others wait. The journal is then the transcript.
+//! The script examples/waiting_calls.script through a book: three calls need a credential, one of them loads
+//! it, and the others wait. The journal is then the transcript.
 use pool_jobs::pool_desk;
 use sequential_signer::{Entry, Event, Reply};
 use signctl_format::{

@@ -1,5 +1,5 @@
-//! The view of a head: what it shows, that each call on it succeeds or is refused, and that no debug text has a
-//! secret of it.
+//! The view of a head: what it shows, that each call on it succeeds or is refused, and that no debug text has
+//! a secret of it.
 use super::parts;
 use crate::told::{hides_as, is_told, shown};
 use fixtures::{Headers, head_with_headers};

@@ -5,7 +5,7 @@ use Rattle.signctl_threads.proofs.seats.serve_slots.Goals as goal
 
 pub work_on_rest-requires-clause-stopped : goal.work_on_rest-requires-clause-stopped
 work_on_rest-requires-clause-stopped g c =
-    none-any (λ (s : Slot). s.out_of_memory) c.run_threads.new.slots (sym c.any_stopped.ensures ∙ c.if-any_stopped.false)
+    none-any (λ (s : Slot). s.out_of_memory) c.run_submitters.new.slots (sym c.any_stopped.ensures ∙ c.if-any_stopped.false)
 
 pub returns : goal.returns
 returns g c = record {

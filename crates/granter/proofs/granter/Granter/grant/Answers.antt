@@ -1,5 +1,5 @@
 use Rattle.std.proofs.Common.{◌<◌, ◌+◌, length, refl, sym, subst}
-use Rattle.sequential_signer.specs.Policy.{policy_of}
+use Rattle.sequential_signer.specs.Policy.{policy_for}
 use Rattle.desk_driver.proofs.CallNumbers.{above-at}
 use Rattle.granter.specs.GranterCalls.{Begins}
 use Rattle.granter.specs.GranterInvariant.{GranterState}
@@ -23,7 +23,7 @@ invariant_of-self-2 g c =
 pub returns-clause-ok : goal.returns-clause-ok
 returns-clause-ok g c =
     let m = meanings_of g.P.ProvideCredential g.G.GrantCredential in
-    let policy = policy_of g.P.Credential.SigningCredential.valid g.P.Credential.SigningCredential.valid_at g.G.DeadlineRule.deadline in
+    let policy = policy_for g.P.Credential.SigningCredential g.G.DeadlineRule in
     let s = granter_view c.self.inside in
     let desk = c.begin_call.new.desk in
     let begun : BegunCall = record { id = record { handle = c.args.handle; number = c.self.inside.begun }; head = tt; expires_in = c.args.expires_in } in

@@ -1,5 +1,5 @@
 use Rattle.std.proofs.Common.{◌≡◌, Option, Some, refl, sym, ◌∙◌, ap, subst}
-use Rattle.sequential_signer.specs.Policy.{policy_of}
+use Rattle.sequential_signer.specs.Policy.{policy_for}
 use Rattle.desk_driver.specs.CallAt.{loader_of}
 use Rattle.desk_driver.specs.ProviderList.{loader_for}
 use Rattle.desk_driver.specs.CallNumbers.{is_above_all}
@@ -72,7 +72,7 @@ returns-clause-poll g c = λ o is.
     let m = meanings_of g.P.ProvideCredential g.G.GrantCredential in
     let handle = c.args.grant.begun.id.handle in
     let s = granter_view c.self.inside in
-    let policy = policy_of g.P.Credential.SigningCredential.valid g.P.Credential.SigningCredential.valid_at g.G.DeadlineRule.deadline in
+    let policy = policy_for g.P.Credential.SigningCredential g.G.DeadlineRule in
     let h = has-objects s handle o (ap (λ x. objects_of x handle) c.self.view_is ∙ is) in
     let cache : c.unwrap-cache.result ≡ h.at.cache = cache-is _ h.at c.cache_of.result c.unwrap-cache.result h.handle_is c.cache_of.ensures c.unwrap-cache.ensures in
     let from : c.index-provider_place.result.now ≡ h.provider_place = index-is c.self.inside.provider_places.items c.unwrap-cache.result h.at.cache h.provider_place c.index-provider_place.result.now c.index-provider_place.result.now h.provider_place_is cache c.index-provider_place.ensures in
@@ -97,7 +97,7 @@ returns-clause-issued g c =
     (IsAnswerIssuedBy m (record s { desk = c.drive.new.desk }) c.args.grant.begun.id c.drive.result)
     (subst (λ x. IsGrantIssuedBy m x c.args.grant) (sym c.self.view_is) c.requires)
     (λ o is state.
-    let policy = policy_of g.P.Credential.SigningCredential.valid g.P.Credential.SigningCredential.valid_at g.G.DeadlineRule.deadline in
+    let policy = policy_for g.P.Credential.SigningCredential g.G.DeadlineRule in
     let h = has-objects s handle o is in
     let cache : c.unwrap-cache.result ≡ h.at.cache = cache-is _ h.at c.cache_of.result c.unwrap-cache.result h.handle_is c.cache_of.ensures c.unwrap-cache.ensures in
     let from : c.index-provider_place.result.now ≡ h.provider_place = index-is c.self.inside.provider_places.items c.unwrap-cache.result h.at.cache h.provider_place c.index-provider_place.result.now c.index-provider_place.result.now h.provider_place_is cache c.index-provider_place.ensures in

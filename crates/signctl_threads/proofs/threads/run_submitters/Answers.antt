@@ -3,7 +3,7 @@ use Rattle.signctl_threads.specs.Slots.{IsNewSlot, IsRun}
 use Rattle.signctl_threads.specs.declared.slots.Slot.{Slot}
 use Rattle.signctl_threads.proofs.Places.{each_here}
 use Rattle.signctl_threads.proofs.RunSlots.{all_ran, new_slot}
-use Rattle.signctl_threads.proofs.threads.run_threads.Goals as goal
+use Rattle.signctl_threads.proofs.threads.run_submitters.Goals as goal
 
 pub for_each_mut-requires-clause-accepts : goal.for_each_mut-requires-clause-accepts
 for_each_mut-requires-clause-accepts g c κs within = λ i p below is. (

@@ -1,8 +1,8 @@
-//! How the reading of an input came to its close.
+//! How the reading of an input ended.
 
 /// Why no further line of an input is handed out.
 #[derive(Clone, Copy, Debug, PartialEq, Eq)]
-pub enum Close {
+pub enum InputEnd {
     /// A line has more bytes than a line may have.
     TooLong,
     /// The input has more bytes than are looked at.

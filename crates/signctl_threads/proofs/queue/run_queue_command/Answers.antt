@@ -1,7 +1,7 @@
 use Rattle.std.proofs.Common.{◌∙◌, subst}
 use Rattle.signctl_driver.specs.Output.{AppendsPrefix}
 use Rattle.signctl_threads.proofs.QueueRuns.{line_of_books}
-use Rattle.signctl_threads.proofs.queue.run_queue.Goals as goal
+use Rattle.signctl_threads.proofs.queue.run_queue_command.Goals as goal
 
 pub returns-in-Err-write_all-clause-gives : goal.returns-in-Err-write_all-clause-gives
 returns-in-Err-write_all-clause-gives g c = (

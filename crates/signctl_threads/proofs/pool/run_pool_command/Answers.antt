@@ -1,7 +1,7 @@
 use Rattle.std.proofs.Common.{ap, ◌∙◌, subst}
 use Rattle.signctl_driver.specs.Output.{AppendsPrefix}
 use Rattle.signctl_threads.specs.Line.{pool_line}
-use Rattle.signctl_threads.proofs.pool.serve_pool.Goals as goal
+use Rattle.signctl_threads.proofs.pool.run_pool_command.Goals as goal
 
 pub returns-in-Err-write_all-clause-gives : goal.returns-in-Err-write_all-clause-gives
 returns-in-Err-write_all-clause-gives g c = (
