@@ -1,4 +1,5 @@
 pub mod Hmac
+pub mod HashedKey
 pub mod Law
 pub use Rattle.base64.specs.Engines
 pub use Rattle.base64.specs.GeneralPurpose

@@ -10,9 +10,9 @@ use sha2::{Digest, Sha256};
 /// The length of a block of both hashes, in bytes.
 const BLOCK: usize = 64;
 
-const INNER: u8 = 0x36;
+pub(crate) const INNER: u8 = 0x36;
 
-const OUTER: u8 = 0x5c;
+pub(crate) const OUTER: u8 = 0x5c;
 
 /// HMAC-SHA1.
 pub(crate) fn hmac_sha1(key: &[u8], text: &[u8]) -> [u8; 20]
@@ -54,7 +54,7 @@ fn sha1_block(key: &[u8]) -> [u8; BLOCK]
 }
 
 /// A key as one block of SHA-256.
-fn sha256_block(key: &[u8]) -> [u8; BLOCK]
+pub(crate) fn sha256_block(key: &[u8]) -> [u8; BLOCK]
     ensures { result ≡ filled_block (short_key sha256 key.now) }
 {
     if key.len() > BLOCK {
@@ -75,7 +75,7 @@ fn filled_block(key: &[u8]) -> [u8; BLOCK]
 }
 
 /// A block with each byte xor the mask.
-fn masked_block(mut block: [u8; BLOCK], mask: u8) -> [u8; BLOCK]
+pub(crate) fn masked_block(mut block: [u8; BLOCK], mask: u8) -> [u8; BLOCK]
     ensures { result ≡ masked_block mask block }
 {
     mask_each(&mut block, mask);

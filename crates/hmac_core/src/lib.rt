@@ -4,3 +4,6 @@
 pub mod hash;
 mod hmac;
 pub mod laws;
+mod sha256_key;
+
+pub use sha256_key::Sha256Key;

@@ -10,6 +10,9 @@ use crate::query::canonical_query;
 use sign_base::{Fields, NoMemory, Octets};
 use std::alloc::{AllocError, Global};
 
+/// Room for the method, the names, the word and the ends of the lines of most requests.
+const ROOM: usize = 256;
+
 /// A canonical request, and the names of its headers joined by `;`.
 #[derive(Drop)]
 pub struct CanonicalTexts {
@@ -51,7 +54,11 @@ pub fn canonical_texts(
     let path = canonical_path(alloc, path)?;
     let query = canonical_query(alloc, query)?;
     let headers = canonical_headers(alloc, fields)?;
-    let mut request = Vec::new(alloc);
+    let room = ROOM
+        .saturating_add(path.len())
+        .saturating_add(query.len())
+        .saturating_add(headers.lines.len());
+    let mut request = Vec::with_capacity(alloc, room)?;
     push_line(&mut request, method)?;
     push_line(&mut request, path.as_bytes())?;
     push_line(&mut request, query.as_slice())?;

@@ -40,12 +40,17 @@ fn cut_pair<'a>(text: &'a [u8], sides: (usize, usize)) -> (EncodedPair<'a>, &'a 
     ((key, value), rest)
 }
 
-/// The pairs as they stand, each with its `=`, joined by `&`.
-pub(crate) fn join_pairs(alloc: Global, pairs: &[EncodedPair<'_>]) -> Result<Vec<u8>, AllocError>
+/// The pairs as they stand, each with its `=`, joined by `&`. Their sides have about so many bytes.
+pub(crate) fn join_pairs(
+    alloc: Global,
+    len: usize,
+    pairs: &[EncodedPair<'_>],
+) -> Result<Vec<u8>, AllocError>
     ensures { IfOk result (λ text. text.items
         ≡ joined_texts (codes "&") (map (header_text (codes "=")) (shown_pairs pairs.now))) }
 {
-    let mut text = Vec::new(alloc);
+    let ends = pairs.len().saturating_mul(2);
+    let mut text = Vec::with_capacity(alloc, len.saturating_add(ends))?;
     for (i, pair) in pairs.iter().enumerate() {
         if i != 0 {
             text.push(b'&')?;

@@ -36,11 +36,33 @@ pub(crate) fn canonical_headers(alloc: Global, fields: &Fields) -> Result<Header
     let names = lowercase_names(alloc, fields)?;
     let headers = sorted_headers(alloc, fields, names.as_slice())?;
     let mut texts = HeaderTexts {
-        lines: Vec::new(alloc),
-        names: Vec::new(alloc),
+        lines: Vec::with_capacity(alloc, lines_room(fields))?,
+        names: Vec::with_capacity(alloc, names_room(fields))?,
     };
     push_headers(headers.as_slice(), &mut texts)?;
     Ok(texts)
+}
+
+/// Room for the names of headers, each with a byte behind it.
+fn names_room(fields: &Fields) -> usize {
+    let mut room: usize = 0;
+    for field in fields.as_slice() {
+        room = room
+            .saturating_add(field.name.as_slice().len())
+            .saturating_add(1);
+    }
+    room
+}
+
+/// Room for the lines of headers.
+fn lines_room(fields: &Fields) -> usize {
+    let mut room = names_room(fields);
+    for field in fields.as_slice() {
+        room = room
+            .saturating_add(field.value.as_slice().len())
+            .saturating_add(1);
+    }
+    room
 }
 
 /// Writes headers that ascend by name.
@@ -132,17 +154,18 @@ fn named_values<'a>(
 fn lowercase_names(alloc: Global, fields: &Fields) -> Result<Vec<u8>, AllocError>
     ensures { IfOk result (λ names. names.items ≡ lowercase_names fields.now) }
 {
-    let mut names = Vec::new(alloc);
+    let mut names = Vec::with_capacity(alloc, names_room(fields))?;
     for field in fields.as_slice() {
         names.extend_from_slice(field.name.as_slice())?;
     }
-    in_lower_case(alloc, names.as_slice())
+    Ok(in_lower_case(names))
 }
 
-fn in_lower_case(alloc: Global, names: &[u8]) -> Result<Vec<u8>, AllocError>
-    ensures { IfOk result (λ lower. lower.items ≡ lowercase names.now) }
+fn in_lower_case(mut names: Vec<u8>) -> Vec<u8>
+    ensures { result.items ≡ lowercase names.items }
 {
-    names.to_ascii_lowercase(alloc)
+    names.make_ascii_lowercase();
+    names
 }
 
 /// Appends the values of some headers, joined by `,`.

@@ -10,7 +10,7 @@ use std::alloc::Global;
 pub(crate) fn canonical_path(alloc: Global, path: &[u8]) -> Result<String, NoMemory<()>>
     ensures { IfOk result (λ text. string_bytes text ≡ canonical_path path.now) }
 {
-    let mut text = String::new(alloc);
+    let mut text = String::with_capacity(alloc, path.len())?;
     let mut first = true;
     for segment in path.split(|b| *b == b'/') {
         if !first {

@@ -16,11 +16,11 @@ use std::alloc::{AllocError, Global};
 pub(crate) fn canonical_query(alloc: Global, query: &[u8]) -> Result<Vec<u8>, NoMemory<()>>
     ensures { IfOk result (λ text. text.items ≡ canonical_query query.now) }
 {
-    let mut text = String::new(alloc);
+    let mut text = String::with_capacity(alloc, query.len())?;
     let lengths = push_sides(alloc, &mut text, query)?;
     let mut pairs = pairs_of(alloc, text.as_bytes(), lengths.as_slice())?;
     pairs.sort_unstable();
-    Ok(join_pairs(alloc, pairs.as_slice())?)
+    Ok(join_pairs(alloc, text.len(), pairs.as_slice())?)
 }
 
 /// Writes the sides of the pairs, encoded, one after another, and answers how long each is.

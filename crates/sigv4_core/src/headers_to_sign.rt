@@ -1,33 +1,32 @@
 //! The headers of a head that a signature covers.
-ghost use Rattle.std.specs.Prelude.{◌≡◌, ◌++◌, ◌∷◌, ◌||◌, [], IfOk, OnOk, bytes_eq, codes};
+ghost use Rattle.std.specs.Prelude.{◌≡◌, ◌++◌, ◌∷◌, ◌||◌, ℤ, [], IfOk, OnOk, bytes_eq, codes};
 ghost use Rattle.std.specs.List.{list_any};
-ghost use Rattle.sign_time.specs.Calendar.{IsFourDigitYear};
+ghost use Rattle.sign_time.specs.Calendar.{civil_of};
+ghost use Rattle.sign_time.specs.MomentText.{iso8601_text};
 ghost use Rattle.http_header.specs.Token.{lowercase};
 ghost use Rattle.sigv4_core.specs.SignedHead.{field, is_named, is_replaced, kept_headers, with_host};
 ghost use Rattle.sigv4_core.specs.SignedHead.{headers_to_sign};
 
-use sign_base::{Field, Fields, NoMemory, Octets, Timestamp};
-use sign_time::FormatMoment;
+use sign_base::{Field, Fields, NoMemory, Octets};
 use std::alloc::Global;
 
 /// The headers of a head but for those that a signature replaces, then the host where they name none,
-/// and the moment.
+/// and the moment, by its text.
 #[tactic(auto, unfolding(crate::specs::SignedHead::headers_to_sign))]
 pub(crate) fn headers_to_sign(
     alloc: Global,
     authority: &str,
-    now: Timestamp,
+    date_time: &[u8],
     headers: &Fields,
 ) -> Result<Vec<Field>, NoMemory<()>>
-    requires { IsFourDigitYear now }
-    ensures { IfOk result (λ fields. fields.items ≡ headers_to_sign authority.now now headers.now) }
+    ensures { IfOk result (λ fields. (t : ℤ) → date_time.now ≡ iso8601_text (civil_of t)
+        → fields.items ≡ headers_to_sign authority.now t headers.now) }
 {
     let mut fields = kept_headers(alloc, headers)?;
     push_host(alloc, &mut fields, authority)?;
-    let moment = now.format_iso8601(alloc)?;
     fields.push(Field {
         name: Octets::from_slice(alloc, b"x-amz-date")?,
-        value: Octets::from_vec(moment.into_bytes()),
+        value: Octets::from_slice(alloc, date_time)?,
     })?;
     Ok(fields)
 }

@@ -1,13 +1,16 @@
 //! When a signature is made.
 ghost use Rattle.std.specs.Prelude.{◌≡◌, ℤ};
 ghost use Rattle.std.specs.Bool.{OnFalse};
-ghost use Rattle.sign_time.specs.Calendar.{IsFourDigitYear};
+ghost use Rattle.sign_time.specs.Calendar.{IsFourDigitYear, day_of};
 ghost use Rattle.sigv4_core.specs.SignedHead.{is_before_year_0};
 
 use sign_base::Timestamp;
 
 /// The nanoseconds from 1970 back to the start of the year 0.
 const YEAR_0: i128 = -62_167_219_200_000_000_000;
+
+/// The nanoseconds of a day.
+const DAY: u128 = 86_400_000_000_000;
 
 /// What a service works in that says when it signs.
 pub trait Moment: Drop {
@@ -37,4 +40,12 @@ pub fn is_before_year_0(now: Timestamp) -> bool
     ensures year { OnFalse result (IsFourDigitYear now) }
 {
     now.as_nanos() < YEAR_0
+}
+
+/// The day of a moment, counted from the start of the year 0.
+pub(crate) fn day_of(now: Timestamp) -> u128
+    requires { IsFourDigitYear now }
+    ensures { result ≡ day_of now }
+{
+    (now.as_nanos() - YEAR_0) as u128 / DAY
 }

@@ -81,14 +81,19 @@ fn is_digest(word: &[u8]) -> bool
     word.len() == DIGEST_LEN && has_hex_digits(word)
 }
 
+// The loop has no early exit, so that it may be compiled to vector code.
 fn has_hex_digits(word: &[u8]) -> bool
     ensures { result ≡ list_all is_lower_hex word.now }
 {
-    word.iter().all(|b| is_lower_hex(*b))
+    let mut all = true;
+    for b in word {
+        all &= is_lower_hex(*b);
+    }
+    all
 }
 
 fn is_lower_hex(b: u8) -> bool
     ensures { result ≡ is_lower_hex b }
 {
-    b.is_ascii_digit() || (b >= b'a' && b <= b'f')
+    b.is_ascii_digit() | ((b >= b'a') & (b <= b'f'))
 }

@@ -1,5 +1,5 @@
 //! What a signature is for: a region and a service.
-ghost use Rattle.std.specs.Prelude.{◌≡◌, IfOk, IfErr, OnOk, true, false, codes};
+ghost use Rattle.std.specs.Prelude.{◌≡◌, IfOk, IfErr, IsTrue, OnOk, true, false, codes};
 ghost use Rattle.std.specs.List.{list_all};
 ghost use Rattle.sign_base.specs.declared.error_kind.ErrorKind.TheVariants.{ConfigInvalid};
 ghost use Rattle.sigv4_core.specs.Refused.{RefusedWith};
@@ -58,6 +58,14 @@ impl SigScope {
         ensures accepted { is_scope self.now.region self.now.service ≡ true }
     {
         self.service.as_slice()
+    }
+
+    /// Whether the other is an equal scope.
+    pub(crate) fn is_same(&self, other: &SigScope) -> bool
+        ensures { IsTrue result → self.now ≡ other.now }
+    {
+        self.region.as_slice() == other.region.as_slice()
+            && self.service.as_slice() == other.service.as_slice()
     }
 
     /// An equal scope.

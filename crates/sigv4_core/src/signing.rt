@@ -1,6 +1,7 @@
 //! A request head with its signature in its headers.
-ghost use Rattle.std.specs.Prelude.{◌≡◌, ◌⊎◌, ◌++◌, ◌∷◌, [], Ok, Err, IfOk, IfErr, codes};
-ghost use Rattle.sign_time.specs.Calendar.{IsFourDigitYear};
+ghost use Rattle.std.specs.Prelude.{◌≡◌, ◌⊎◌, ◌++◌, ◌∷◌, ℤ, [], Ok, Err, IfOk, IfErr, codes};
+ghost use Rattle.sign_time.specs.Calendar.{IsFourDigitYear, civil_of};
+ghost use Rattle.sign_time.specs.MomentText.{iso8601_text};
 ghost use Rattle.sign_request.specs.PlainTarget.{plain_target};
 ghost use Rattle.sigv4_core.specs.Signature.{date_of};
 ghost use Rattle.sigv4_canonical.specs.CanonicalHeaders.{signed_headers};
@@ -9,14 +10,17 @@ ghost use Rattle.sigv4_core.specs.SignedHead.{signed_head, signing_with, signing
 
 use crate::headers_to_sign::headers_to_sign;
 use crate::moment::is_before_year_0;
-use crate::request_signature::push_scope;
 use crate::target::{authority_of, path_of, query_of, target_to_sign};
-use crate::{Payload, SigCredential, SigError, SigScope, SigningKey};
+use crate::{KeptKey, Payload, SigCredential, SigError, SigScope, SigningKey};
 use http::uri::Uri;
 use sign_base::{Field, Fields, Head, NoMemory, Octets, Timestamp};
 use sign_request::HeaderSeeds;
+use sign_time::FormatMoment;
 use sigv4_canonical::{CanonicalTexts, canonical_texts};
 use std::alloc::Global;
+
+/// Room for the value of `authorization` of most requests.
+const AUTHORIZATION: usize = 256;
 
 /// The head with its signature in the header `authorization`, as AWS Signature Version 4 has it ("Create a
 /// signed AWS API request"): of its method, its path, its query and each of its headers.
@@ -53,7 +57,6 @@ pub fn sign_head(
 }
 
 /// Answers what `sign_head` does, whatever the keys.
-#[tactic(auto, unfolding(crate::specs::SignedHead::signing_of, crate::specs::SignedHead::signing_with))]
 pub fn sign_head_seeded(
     alloc: Global,
     head: &Head,
@@ -67,15 +70,38 @@ pub fn sign_head_seeded(
     ensures err { IfErr result (λ why. (why ≡ SigError.OutOfMemory)
         ⊎ (signing_of credential.now scope.now payload.now now head.now ≡ Err why)) }
 {
+    let mut kept = KeptKey::new();
+    let signed = sign_head_kept(
+        alloc, head, credential, scope, payload, now, keys, &mut kept,
+    );
+    drop(kept);
+    signed
+}
+
+/// Answers what `sign_head_seeded` does, with the signing key that is kept, where it is that of the credential, the
+/// scope and the day. Where it is not, that one is derived, and kept from then on.
+#[tactic(auto, unfolding(crate::specs::SignedHead::signing_of, crate::specs::SignedHead::signing_with))]
+pub fn sign_head_kept(
+    alloc: Global,
+    head: &Head,
+    credential: &SigCredential,
+    scope: &SigScope,
+    payload: &Payload,
+    now: Timestamp,
+    keys: HeaderSeeds,
+    kept: &mut KeptKey,
+) -> Result<Head, SigError>
+    ensures ok { IfOk result (λ h. signing_of credential.now scope.now payload.now now head.now ≡ Ok h) }
+    ensures err { IfErr result (λ why. (why ≡ SigError.OutOfMemory)
+        ⊎ (signing_of credential.now scope.now payload.now now head.now ≡ Err why)) }
+{
     if is_before_year_0(now) {
         // What refuses the head comes first.
         drop(target_to_sign(alloc, head, scope, keys)?);
         return Err(SigError::Moment);
     }
-    let key = SigningKey::derive(alloc, credential, scope, now)?;
-    let signed = sign_head_with_key(alloc, head, &key, payload, now, keys);
-    drop(key);
-    signed
+    let key = kept.key_for(alloc, credential, scope, now)?;
+    sign_head_with_key(alloc, head, key, payload, now, keys)
 }
 
 /// The head with its signature under a derived key, for a moment of the key's day. It is the head that
@@ -118,7 +144,9 @@ fn signed_head(
     requires day { key.now.date ≡ date_of now }
     ensures { IfOk result (λ h. h ≡ signed_head key.now payload.now now head.now (plain_target uri.now)) }
 {
-    let headers = headers_to_sign(alloc, authority_of(uri), now, &head.headers)?;
+    let date_time = now.format_iso8601(alloc)?;
+    let at = date_time.as_bytes();
+    let headers = headers_to_sign(alloc, authority_of(uri), at, &head.headers)?;
     Ok(Head {
         method: head.method.try_clone(alloc)?,
         uri: head.uri.try_clone(alloc)?,
@@ -129,13 +157,13 @@ fn signed_head(
             uri,
             key,
             payload,
-            now,
+            at,
             Fields::from_vec(headers),
         )?,
     })
 }
 
-/// These headers, and the signature of the request with them.
+/// These headers, and the signature of the request with them at a moment of the key's day, by its text.
 #[tactic(auto, unfolding(crate::specs::SignedHead::signed_with))]
 fn signed_with(
     alloc: Global,
@@ -143,24 +171,17 @@ fn signed_with(
     uri: &Uri,
     key: &SigningKey,
     payload: &Payload,
-    now: Timestamp,
+    date_time: &[u8],
     headers: Fields,
 ) -> Result<Fields, NoMemory<()>>
-    requires year { IsFourDigitYear now }
-    requires day { key.now.date ≡ date_of now }
-    ensures { IfOk result (λ fields. fields
-        ≡ signed_with key.now payload.now now head.now (plain_target uri.now) headers) }
+    ensures { IfOk result (λ fields. (t : ℤ) → key.now.date ≡ date_of t
+        → date_time.now ≡ iso8601_text (civil_of t)
+        → fields ≡ signed_with key.now payload.now t head.now (plain_target uri.now) headers) }
 {
     let texts = request_texts(alloc, head, uri, &headers, payload.hash_or_unsigned())?;
-    let signature = key.signature(alloc, now, texts.request.as_slice())?;
-    let value = authorization(
-        alloc,
-        key,
-        now,
-        texts.names.as_slice(),
-        signature.as_slice(),
-    )?;
-    with_authorization(alloc, headers, value)
+    let signature = key.signature_at(alloc, date_time, texts.request.as_slice())?;
+    let value = authorization(alloc, key, texts.names.as_slice(), signature.as_slice())?;
+    Ok(with_authorization(alloc, headers, value)?)
 }
 
 /// What is signed of a head at this target with these headers.
@@ -202,22 +223,22 @@ fn with_authorization(
     Ok(Fields::from_vec(fields))
 }
 
-/// The value of the header `authorization`.
+/// The value of the header `authorization` at a moment of the key's day.
 #[tactic(auto, unfolding(crate::specs::SignedHead::authorization))]
 fn authorization(
     alloc: Global,
     key: &SigningKey,
-    now: Timestamp,
     names: &[u8],
     signature: &[u8],
 ) -> Result<Vec<u8>, NoMemory<()>>
-    requires { IsFourDigitYear now }
-    ensures { IfOk result (λ text. text.items ≡ authorization key.now now names.now signature.now) }
+    ensures { IfOk result (λ text. (t : ℤ) → key.now.date ≡ date_of t
+        → text.items ≡ authorization key.now t names.now signature.now) }
 {
-    let mut text = Vec::from_slice(alloc, b"AWS4-HMAC-SHA256 Credential=")?;
+    let mut text = Vec::with_capacity(alloc, AUTHORIZATION)?;
+    text.extend_from_slice(b"AWS4-HMAC-SHA256 Credential=")?;
     text.extend_from_slice(key.access())?;
     text.push(b'/')?;
-    push_scope(alloc, key.scope(), now, &mut text)?;
+    text.extend_from_slice(key.credential_scope())?;
     text.extend_from_slice(b", SignedHeaders=")?;
     text.extend_from_slice(names)?;
     text.extend_from_slice(b", Signature=")?;

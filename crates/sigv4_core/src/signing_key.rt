@@ -1,11 +1,14 @@
 //! A derived signing key as a value: who signs many requests derives it once a day.
-ghost use Rattle.std.specs.Prelude.{◌≡◌, IfOk, Some, bytes_eq};
+ghost use Rattle.std.specs.Prelude.{◌≡◌, ℤ, IfOk, IsTrue, Some, bytes_eq};
 ghost use Rattle.std.specs.Fmt.{DisplaysOnOk, WritesStyledOnOk};
-ghost use Rattle.sign_time.specs.Calendar.{IsFourDigitYear};
-ghost use Rattle.sigv4_core.specs.Signature.{derived_key, date_of, signature_under, key_stars};
+ghost use Rattle.sign_time.specs.Calendar.{IsFourDigitYear, civil_of};
+ghost use Rattle.sign_time.specs.MomentText.{iso8601_text};
+ghost use Rattle.sigv4_core.specs.Signature.{derived_key, date_of, scope_text, signature_under, key_stars};
 
-use crate::request_signature::{signature_under, signing_key};
+use crate::moment::day_of;
+use crate::request_signature::{scope_text, signing_key, text_to_sign};
 use crate::{SigCredential, SigScope};
+use hmac_core::Sha256Key;
 use sign_base::{NoMemory, Octets, Timestamp};
 use sign_time::FormatMoment;
 use std::alloc::Global;
@@ -19,16 +22,22 @@ use std::marker::Model;
 pub struct SigningKey {
     access: Octets,
     scope: SigScope,
+    /// The day, counted from the start of the year 0.
+    day: u128,
     date: Octets,
-    key: Vec<u8>,
+    credential_scope: Vec<u8>,
+    key: Sha256Key,
 }
 
 impl Model for SigningKey {
     ghost use Rattle.sigv4_core.specs.Signature.{DerivedKey};
+    ghost use Rattle.sigv4_core.specs.SigningDay.{IsSigningDay};
 
     ghost Value = { DerivedKey };
 
-    ghost view = { λ k. record { access = k.access; scope = k.scope; date = k.date; key = k.key.items } };
+    ghost view = { λ k. record { access = k.access; scope = k.scope; date = k.date; key = k.key } };
+
+    ghost invariant = { λ k. IsSigningDay k.day k.date k.scope k.credential_scope.items };
 }
 
 impl SigningKey {
@@ -48,20 +57,43 @@ impl SigningKey {
         Ok(SigningKey {
             access: Octets::from_slice(alloc, credential.access())?,
             scope: scope.try_clone(alloc)?,
-            key: signing_key(alloc, credential.secret(), scope, date.as_bytes())?,
+            day: day_of(now),
+            credential_scope: scope_text(alloc, scope, now)?,
+            key: Sha256Key::new(signing_key(alloc, credential.secret(), scope, date.as_bytes())?),
             date: Octets::from_vec(date.into_bytes()),
         })
     }
 
-    /// Whether the key is for the day of this moment.
+    /// Whether the key is for the day of this moment. It takes memory only where it is not, or may not be.
     ///
     /// Requires a year of four digits.
     pub fn is_for_day_of(&self, alloc: Global, now: Timestamp) -> Result<bool, NoMemory<()>>
         requires { IsFourDigitYear now }
         ensures { IfOk result (λ same. same ≡ bytes_eq self.now.date (date_of now)) }
     {
+        if self.is_of_day(now) {
+            return Ok(true);
+        }
         let date = now.format_date(alloc)?;
         Ok(self.date.as_slice() == date.as_bytes())
+    }
+
+    /// Whether the key is for this access key and scope, and for the day of this moment.
+    pub(crate) fn is_for(&self, access: &[u8], scope: &SigScope, now: Timestamp) -> bool
+        requires { IsFourDigitYear now }
+        ensures access { IsTrue result → self.now.access ≡ access.now }
+        ensures scope { IsTrue result → self.now.scope ≡ scope.now }
+        ensures day { IsTrue result → self.now.date ≡ date_of now }
+    {
+        self.is_of_day(now) && self.scope.is_same(scope) && self.access.as_slice() == access
+    }
+
+    /// Whether the moment is of the key's day.
+    fn is_of_day(&self, now: Timestamp) -> bool
+        requires { IsFourDigitYear now }
+        ensures { IsTrue result → self.now.date ≡ date_of now }
+    {
+        self.day == day_of(now)
     }
 
     /// The signature of a canonical request under this key, in lower-case hexadecimal.
@@ -78,7 +110,31 @@ impl SigningKey {
         ensures { IfOk result (λ text. text
             ≡ signature_under self.now.key self.now.scope now request.now) }
     {
-        signature_under(alloc, self.key.as_slice(), &self.scope, now, request)
+        let date_time = now.format_iso8601(alloc)?;
+        self.signature_at(alloc, date_time.as_bytes(), request)
+    }
+
+    /// The signature at a moment of the key's day, by the text of that moment.
+    pub(crate) fn signature_at(
+        &self,
+        alloc: Global,
+        date_time: &[u8],
+        request: &[u8],
+    ) -> Result<Octets, NoMemory<()>>
+        ensures { IfOk result (λ text. (t : ℤ) → self.now.date ≡ date_of t
+            → date_time.now ≡ iso8601_text (civil_of t)
+            → text ≡ signature_under self.now.key self.now.scope t request.now) }
+    {
+        let text = text_to_sign(alloc, date_time, self.credential_scope.as_slice(), request)?;
+        let signature = self.key.hex_hmac(alloc, text.as_slice())?;
+        Ok(Octets::from_vec(signature.into_bytes()))
+    }
+
+    /// The credential scope of a request of the key's day.
+    pub(crate) fn credential_scope(&self) -> &[u8]
+        ensures { (t : ℤ) → self.now.date ≡ date_of t → result.now ≡ scope_text self.now.scope t }
+    {
+        self.credential_scope.as_slice()
     }
 
     pub fn access(&self) -> &[u8]

@@ -16,9 +16,10 @@ use Rattle.sigv4_presign.specs.CheckedLink.{value_of, is_shaped, unsigned_query,
 use Rattle.sigv4_presign.specs.declared.checked.Checked.{Checked}
 use Rattle.sigv4_presign.specs.declared.checked.Checked.TheVariants.{Early, Late, Valid}
 
--- what is found at a link that is good from t on, for so many seconds
-abbrev pub found_between : ℤ → ℤ → ℤ → Checked
-found_between t end u = if not (int_le t u) then Early else (if int_le end u then Late else Valid)
+-- what is found at a link that is good from t on and before its end, where it is some moment from the soonest to
+-- the latest
+abbrev pub found_between : ℤ → ℤ → ℤ → ℤ → Checked
+found_between t end soonest latest = if not (int_le t latest) then Early else (if int_le end soonest then Late else Valid)
 
 is_le : (a b : ℤ) → a ≤ℤ b → int_le a b ≡ true
 is_le a b h = grind (arith, signed_arith)
@@ -33,23 +34,25 @@ cases_le a b =
       | inr above ↦ inr (grind (arith, signed_arith))
     ]
 
-pub found_between-Early : (t end u : ℤ) → u <ℤ t → found_between t end u ≡ Early
-found_between-Early t end u h = rw (not_le t u h) refl
+pub found_between-Early : (t end soonest latest : ℤ) → latest <ℤ t → found_between t end soonest latest ≡ Early
+found_between-Early t end soonest latest h = rw (not_le t latest h) refl
 
-pub found_between-Late : (t end u : ℤ) → t ≤ℤ u → end ≤ℤ u → found_between t end u ≡ Late
-found_between-Late t end u from past = rw (is_le t u from, is_le end u past) refl
+pub found_between-Late : (t end soonest latest : ℤ) → t ≤ℤ latest → end ≤ℤ soonest
+    → found_between t end soonest latest ≡ Late
+found_between-Late t end soonest latest from past = rw (is_le t latest from, is_le end soonest past) refl
 
-pub found_between-Valid : (t end u : ℤ) → (found_between t end u ≡ Valid) ↔ ((t ≤ℤ u) × (u <ℤ end))
-found_between-Valid t end u = (
+pub found_between-Valid : (t end soonest latest : ℤ)
+    → (found_between t end soonest latest ≡ Valid) ↔ ((t ≤ℤ latest) × (soonest <ℤ end))
+found_between-Valid t end soonest latest = (
   λ e.
-      elim (cases_le t u) [
-        | inl from ↦ elim (cases_le end u) [
-          | inl past ↦ absurd (let bad = sym (found_between-Late t end u from past) ∙ e in cc)
+      elim (cases_le t latest) [
+        | inl from ↦ elim (cases_le end soonest) [
+          | inl past ↦ absurd (let bad = sym (found_between-Late t end soonest latest from past) ∙ e in cc)
           | inr before ↦ (from, before)
         ]
-        | inr early ↦ absurd (let bad = sym (found_between-Early t end u early) ∙ e in cc)
+        | inr early ↦ absurd (let bad = sym (found_between-Early t end soonest latest early) ∙ e in cc)
       ],
-  λ h. rw (is_le t u h.0, not_le end u h.1) refl,
+  λ h. rw (is_le t latest h.0, not_le end soonest h.1) refl,
 )
 
 -- a link whose values are those of its date and its signature is a matter of time alone
@@ -64,9 +67,10 @@ module _ (keys : Keys) (scope : Scope) (head : Head) (target : PlainTarget) (que
     pub signature : value_of query signature_name
         ≡ link_signature keys scope t head target (unsigned_query query)
 
-  pub checked_at-HasValues : HasValues → (u : ℤ)
-      → checked_at keys scope u head (Ok target) ≡ found_between t (t +ℤ pos (expires * second_nanos)) u
-  checked_at-HasValues h u =
+  pub checked_at-HasValues : HasValues → (soonest latest : ℤ)
+      → checked_at keys scope soonest latest head (Ok target)
+      ≡ found_between t (t +ℤ pos (expires * second_nanos)) soonest latest
+  checked_at-HasValues h soonest latest =
       let credential = (bytes_eq-Decides (value_of query credential_name) (credential_text keys scope t)).1 h.credential in
       let signature = (bytes_eq-Decides (value_of query signature_name) (link_signature keys scope t head target (unsigned_query query))).1 h.signature in
       rw (h.read, h.shaped, h.date, h.expiry, h.read, credential, signature) refl

@@ -1,6 +1,6 @@
 -- A link that was made is read back with the values of which it was made, so its check is a matter of time
 -- alone.
-use Rattle.std.proofs.Common.{◌≡◌, ℕ, ◌↔◌, ℤ, pos, ◌+ℤ◌, ◌≤ℤ◌, ◌<ℤ◌, ◌*◌, ◌≤◌, ◌<◌, false, ◌==◌, List, [], ◌∷◌, ◌++◌, length, codes, All, IsUtf8, Some, Ok, refl, sym, ap, ap₂, ◌∙◌, subst, arith}
+use Rattle.std.proofs.Common.{◌≡◌, ℕ, ◌↔◌, ℤ, pos, ◌+ℤ◌, ◌-ℤ◌, ◌≤ℤ◌, ◌<ℤ◌, ◌*◌, ◌≤◌, ◌<◌, false, ◌==◌, List, [], ◌∷◌, ◌++◌, length, codes, All, IsUtf8, Some, Ok, refl, sym, ap, ap₂, ◌∙◌, subst, arith}
 use Rattle.std.specs.Prelude.{unwrap_or}
 use Rattle.std.proofs.lemmas.Bool.Decides.{nat_tests}
 use Rattle.std.proofs.lemmas.List.Elements.{All-nil, All-cons}
@@ -23,9 +23,9 @@ use Rattle.sigv4_core.specs.PayloadWord.{unsigned_payload}
 use Rattle.sigv4_core.specs.Scope.{Scope}
 use Rattle.sigv4_core.specs.Signature.{signature_of}
 use Rattle.sigv4_core.specs.SignedHead.{field, target_to_sign, is_refused_path}
-use Rattle.sigv4_presign.specs.CheckedLink.{unsigned_query, checked, checked_at}
+use Rattle.sigv4_presign.specs.CheckedLink.{unsigned_query, checked, checked_at, checked_within}
 use Rattle.sigv4_presign.specs.LinkDate.{moment_of_text, expires_of_text}
-use Rattle.sigv4_presign.specs.LinkLaw.{WasMade, IsGood, expiry_of}
+use Rattle.sigv4_presign.specs.LinkLaw.{WasMade, IsGood, IsGoodWithin, expiry_of}
 use Rattle.sigv4_presign.specs.LinkPairs.{signature_name, signed_pairs, query_to_sign}
 use Rattle.sigv4_presign.specs.PresignedLink.{link_signature, raw_query, presigned_link}
 use Rattle.sigv4_presign.specs.declared.checked.Checked.TheVariants.{Early, Late, Valid}
@@ -149,37 +149,72 @@ module _ (keys : Keys) (scope : Scope) (expires : ℕ) (now : ℤ) (head link : 
         signature = signature_value keys scope now expires old signed made.fresh plain last ∙ sym same_signature;
       }
 
-  found : (u : ℤ)
-      → checked keys scope u (link_head keys scope expires now head target)
-      ≡ found_between t (expiry_of now expires) u
-  unfolding checked
-  found u =
-      ap (checked_at keys scope u (link_head keys scope expires now head target)) link_signed
-      ∙ checked_at-HasValues keys scope (link_head keys scope expires now head target) link_target query t expires values u
+  found : (soonest latest : ℤ)
+      → checked_at keys scope soonest latest (link_head keys scope expires now head target)
+      (target_to_sign scope (link_head keys scope expires now head target))
+      ≡ found_between t (expiry_of now expires) soonest latest
+  found soonest latest =
+      ap (checked_at keys scope soonest latest (link_head keys scope expires now head target)) link_signed
+      ∙ checked_at-HasValues keys scope (link_head keys scope expires now head target) link_target query t expires values soonest latest
 
 -- what is found at a link that was made
-pub checked-WasMade : (keys : Keys) (scope : Scope) (expires : ℕ) (now u : ℤ) (head link : Head)
+found-WasMade : (keys : Keys) (scope : Scope) (expires : ℕ) (now soonest latest : ℤ) (head link : Head)
     → WasMade keys scope expires now head link
-    → checked keys scope u link ≡ found_between (whole_second now) (expiry_of now expires) u
-checked-WasMade keys scope expires now u head link was =
+    → checked_at keys scope soonest latest link (target_to_sign scope link)
+    ≡ found_between (whole_second now) (expiry_of now expires) soonest latest
+found-WasMade keys scope expires now soonest latest head link was =
     let made = made_of keys scope expires now head link was.made in
-    subst (λ h. checked keys scope u h ≡ found_between (whole_second now) (expiry_of now expires) u) made.1.is
-    (found keys scope expires now head link made.0 was made.1 u)
+    subst (λ h. checked_at keys scope soonest latest h (target_to_sign scope h) ≡ found_between (whole_second now) (expiry_of now expires) soonest latest) made.1.is
+    (found keys scope expires now head link made.0 was made.1 soonest latest)
 
 from_end : (date : ℤ) (n : ℕ) (u : ℤ) → (date +ℤ pos n) ≤ℤ u → date ≤ℤ u
 from_end date n u h = omega (arith, signed_arith, h)
 
+widened : (date : ℤ) (n tolerance : ℕ) (u : ℤ) → (date +ℤ pos n) ≤ℤ (u -ℤ pos tolerance)
+    → date ≤ℤ (u +ℤ pos tolerance)
+widened date n tolerance u h = omega (arith, signed_arith, h)
+
 module _ (keys : Keys) (scope : Scope) (expires : ℕ) (now u : ℤ) (head link : Head)
     (was : WasMade keys scope expires now head link) where
+  checked-WasMade : checked keys scope u link ≡ found_between (whole_second now) (expiry_of now expires) u u
+  unfolding checked
+  checked-WasMade = found-WasMade keys scope expires now u u head link was
+
   pub checked-Valid : (checked keys scope u link ≡ Valid) ↔ IsGood now expires u
   checked-Valid =
-      subst (λ c. (c ≡ Valid) ↔ IsGood now expires u) (sym (checked-WasMade keys scope expires now u head link was))
-      (found_between-Valid (whole_second now) (expiry_of now expires) u)
+      subst (λ c. (c ≡ Valid) ↔ IsGood now expires u) (sym checked-WasMade)
+      (found_between-Valid (whole_second now) (expiry_of now expires) u u)
 
   pub checked-Early : u <ℤ whole_second now → checked keys scope u link ≡ Early
-  checked-Early early = checked-WasMade keys scope expires now u head link was ∙ found_between-Early (whole_second now) (expiry_of now expires) u early
+  checked-Early early = checked-WasMade ∙ found_between-Early (whole_second now) (expiry_of now expires) u u early
 
   pub checked-Late : expiry_of now expires ≤ℤ u → checked keys scope u link ≡ Late
   checked-Late past =
       let from : whole_second now ≤ℤ u = from_end (whole_second now) (expires * second_nanos) u past in
-      checked-WasMade keys scope expires now u head link was ∙ found_between-Late (whole_second now) (expiry_of now expires) u from past
+      checked-WasMade ∙ found_between-Late (whole_second now) (expiry_of now expires) u u from past
+
+  -- and by a clock that may be wrong
+  module _ (tolerance : ℕ) where
+    abbrev soonest : ℤ
+    soonest = u -ℤ pos tolerance
+
+    abbrev latest : ℤ
+    latest = u +ℤ pos tolerance
+
+    within-WasMade : checked_within keys scope u tolerance link
+        ≡ found_between (whole_second now) (expiry_of now expires) soonest latest
+    unfolding checked_within
+    within-WasMade = found-WasMade keys scope expires now soonest latest head link was
+
+    pub within-Valid : (checked_within keys scope u tolerance link ≡ Valid) ↔ IsGoodWithin now expires tolerance u
+    within-Valid =
+        subst (λ c. (c ≡ Valid) ↔ IsGoodWithin now expires tolerance u) (sym within-WasMade)
+        (found_between-Valid (whole_second now) (expiry_of now expires) soonest latest)
+
+    pub within-Early : latest <ℤ whole_second now → checked_within keys scope u tolerance link ≡ Early
+    within-Early early = within-WasMade ∙ found_between-Early (whole_second now) (expiry_of now expires) soonest latest early
+
+    pub within-Late : expiry_of now expires ≤ℤ soonest → checked_within keys scope u tolerance link ≡ Late
+    within-Late past =
+        let from : whole_second now ≤ℤ latest = widened (whole_second now) (expires * second_nanos) tolerance u past in
+        within-WasMade ∙ found_between-Late (whole_second now) (expiry_of now expires) soonest latest from past

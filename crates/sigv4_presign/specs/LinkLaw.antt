@@ -1,6 +1,7 @@
 -- What the laws of links speak of: when a link that was made is good, which requests come by it, and which
 -- texts are a date or an expiry.
-use Rattle.std.specs.Prelude.{◌≡◌, ℕ, ◌*◌, ℤ, pos, ◌+ℤ◌, ◌≤ℤ◌, ◌<ℤ◌, List, [], decimal, true, IsTrue, Ok}
+use Rattle.std.specs.Prelude.{◌≡◌, ℕ, ◌*◌, ℤ, pos, ◌+ℤ◌, ◌-ℤ◌, ◌≤ℤ◌, ◌<ℤ◌, List, [], decimal, true}
+use Rattle.std.specs.Prelude.{IsTrue, Ok}
 use Rattle.sign_base.specs.declared.head.Head.{Head}
 use Rattle.sign_base.specs.declared.head.Version.TheVariants.{V11}
 use Rattle.sign_time.specs.Calendar.{second_nanos, civil_of, IsFourDigitYear}
@@ -19,6 +20,11 @@ expiry_of now expires = whole_second now +ℤ pos (expires * second_nanos)
 -- a link of this moment is good: from its date on, and before it expires
 abbrev pub IsGood : ℤ → ℕ → ℤ → Type 0
 IsGood now expires u = (whole_second now ≤ℤ u) × (u <ℤ expiry_of now expires)
+
+-- and by a clock that may be wrong by so many nanoseconds: so much sooner, and so much longer
+abbrev pub IsGoodWithin : ℤ → ℕ → ℕ → ℤ → Type 0
+IsGoodWithin now expires tolerance u =
+    (whole_second now ≤ℤ (u +ℤ pos tolerance)) × ((u -ℤ pos tolerance) <ℤ expiry_of now expires)
 
 -- the link was made at a moment from a head, with keys and for a scope that can sign
 pub record WasMade (keys : Keys) (scope : Scope) (expires : ℕ) (now : ℤ) (head link : Head) : Type 0 where

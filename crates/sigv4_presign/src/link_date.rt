@@ -23,7 +23,7 @@ const MOST_DIGITS: usize = 6;
 pub(crate) const MOST_EXPIRES: u32 = 604_800;
 
 /// The whole second that is printed as this text, if one is.
-pub(crate) fn moment_of_text(alloc: Global, text: &[u8]) -> Result<Option<Timestamp>, NoMemory<()>>
+pub fn moment_of_text(alloc: Global, text: &[u8]) -> Result<Option<Timestamp>, NoMemory<()>>
     ensures { IfOk result (λ moment. moment ≡ moment_of_text text.now) }
 {
     let Some(moment) = shown_moment(text) else {

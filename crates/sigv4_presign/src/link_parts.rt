@@ -1,9 +1,11 @@
 //! The texts that a link is made of: what its credential pair names, its pairs, and the link.
-ghost use Rattle.std.specs.Prelude.{◌≡◌, ◌++◌, ◌∷◌, [], IfOk, OnOk, codes, map};
+ghost use Rattle.std.specs.Prelude.{◌≡◌, ◌++◌, ◌∷◌, [], IfOk, OnOk, Ok, false, true, bytes_eq, codes, map};
 ghost use Rattle.sign_time.specs.Calendar.{IsFourDigitYear};
 ghost use Rattle.sign_request.specs.CanonicalText.{joined_texts};
 ghost use Rattle.sign_request.specs.PlainTarget.{plain_target};
 ghost use Rattle.sigv4_canonical.specs.Encoding.{percent_encoded};
+ghost use Rattle.sigv4_core.specs.Signature.{derived_key};
+ghost use Rattle.sigv4_core.specs.SignedHead.{is_before_year_0};
 ghost use Rattle.sigv4_presign.specs.LinkPairs.{credential_text, pair_piece, signed_pairs, query_to_sign};
 ghost use Rattle.sigv4_presign.specs.PresignedLink.{link_of, presigned_link};
 
@@ -12,10 +14,10 @@ use crate::link_target::{query_of, scheme_of};
 use http_uri::Uri;
 use sign_base::{Head, NoMemory, Timestamp};
 use sign_time::FormatMoment;
-use sigv4_core::{SigCredential, SigScope, authority_of, encode, path_of};
+use sigv4_core::{SigCredential, SigScope, SigningKey, authority_of, encode, is_before_year_0, path_of};
 use std::alloc::Global;
 
-/// The link that has a signature for this moment.
+/// The link that has a signature for this moment, under the signing key of the credential.
 #[tactic(auto, unfolding(crate::specs::PresignedLink::presigned_link))]
 pub(crate) fn presigned_link(
     alloc: Global,
@@ -23,15 +25,17 @@ pub(crate) fn presigned_link(
     uri: &Uri,
     credential: &SigCredential,
     scope: &SigScope,
+    key: &SigningKey,
     expires: u32,
     now: Timestamp,
 ) -> Result<Vec<u8>, NoMemory<()>>
-    requires { IsFourDigitYear now }
+    requires year { IsFourDigitYear now }
+    requires key { key.now ≡ derived_key credential.now scope.now now }
     ensures { IfOk result (λ link. link.items
         ≡ presigned_link credential.now scope.now expires now head.now (plain_target uri.now)) }
 {
     let query = query_to_sign(alloc, credential, scope, expires, now, query_of(uri))?;
-    let signature = link_signature(alloc, head, uri, query.as_slice(), credential, scope, now)?;
+    let signature = link_signature(alloc, head, uri, query.as_slice(), key, now)?;
     link_with(alloc, uri, query.as_slice(), signature.as_slice())
 }
 
@@ -114,6 +118,26 @@ fn push_pair(
     query.extend_from_slice(before)?;
     query.extend_from_slice(encode(alloc, value)?.as_slice())?;
     Ok(())
+}
+
+/// Whether a text is the access key of a credential and a scope on the day of this moment, between slashes.
+/// Of a moment before the year 0 no text is.
+pub fn is_credential_of(
+    alloc: Global,
+    text: &[u8],
+    credential: &SigCredential,
+    scope: &SigScope,
+    date: Timestamp,
+) -> Result<bool, NoMemory<()>>
+    ensures same { IfOk result (λ same. IsFourDigitYear date
+        → same ≡ bytes_eq text.now (credential_text credential.now scope.now date)) }
+    ensures before { is_before_year_0 date ≡ true → result ≡ Ok false }
+{
+    if is_before_year_0(date) {
+        return Ok(false);
+    }
+    let own = credential_text(alloc, credential, scope, date)?;
+    Ok(text == own.as_slice())
 }
 
 /// The access key and the scope, between slashes.

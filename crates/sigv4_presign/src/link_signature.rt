@@ -2,29 +2,32 @@
 ghost use Rattle.std.specs.Prelude.{◌≡◌, ◌∷◌, [], IfOk, codes};
 ghost use Rattle.sign_time.specs.Calendar.{IsFourDigitYear};
 ghost use Rattle.sign_request.specs.PlainTarget.{plain_target};
+ghost use Rattle.sigv4_core.specs.Credential.{Credential};
+ghost use Rattle.sigv4_core.specs.Scope.{Scope};
+ghost use Rattle.sigv4_core.specs.Signature.{date_of, derived_key};
 ghost use Rattle.sigv4_core.specs.SignedHead.{field};
 ghost use Rattle.sigv4_presign.specs.PresignedLink.{link_signature};
 
 use http_uri::Uri;
 use sign_base::{Field, Fields, Head, NoMemory, Octets, Timestamp};
-use sigv4_core::{SigCredential, SigScope, authority_of, canonical, path_of, signature};
+use sigv4_core::{SigningKey, authority_of, canonical, path_of};
 use std::alloc::Global;
 
-/// The signature of a link with this query. It covers the method, the path, the query, and of the
-/// headers the host alone, whose value is the authority.
+/// The signature of a link with this query, under the signing key of its credential, scope and day. It covers
+/// the method, the path, the query, and of the headers the host alone, whose value is the authority.
 #[tactic(auto, unfolding(crate::specs::PresignedLink::link_signature))]
 pub(crate) fn link_signature(
     alloc: Global,
     head: &Head,
     uri: &Uri,
     query: &[u8],
-    credential: &SigCredential,
-    scope: &SigScope,
+    key: &SigningKey,
     now: Timestamp,
 ) -> Result<Octets, NoMemory<()>>
-    requires { IsFourDigitYear now }
-    ensures { IfOk result (λ text. text
-        ≡ link_signature credential.now scope.now now head.now (plain_target uri.now) query.now) }
+    requires year { IsFourDigitYear now }
+    requires day { key.now.date ≡ date_of now }
+    ensures { IfOk result (λ text. (keys : Credential) (scope : Scope) → key.now ≡ derived_key keys scope now
+        → text ≡ link_signature keys scope now head.now (plain_target uri.now) query.now) }
 {
     let host = host_alone(alloc, authority_of(uri))?;
     let request = canonical(
@@ -35,7 +38,7 @@ pub(crate) fn link_signature(
         &host,
         b"UNSIGNED-PAYLOAD",
     )?;
-    signature(alloc, credential, scope, now, request.as_slice())
+    key.signature(alloc, now, request.as_slice())
 }
 
 /// The headers that are signed.

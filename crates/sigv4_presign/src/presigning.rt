@@ -12,7 +12,7 @@ use crate::link_target::query_of;
 use http_uri::{Uri, UriError};
 use sign_base::{Head, NoMemory, Octets, Timestamp};
 use sign_request::HeaderSeeds;
-use sigv4_core::{SigCredential, SigScope, is_before_year_0, target_to_sign};
+use sigv4_core::{KeptKey, SigCredential, SigScope, is_before_year_0, target_to_sign};
 use std::alloc::Global;
 
 /// The head with a presigned link as its URI, as AWS Signature Version 4 has it ("Authenticating requests:
@@ -50,7 +50,6 @@ pub fn presign(
 }
 
 /// Answers what `presign` does, whatever the keys.
-#[tactic(auto, unfolding(crate::specs::PresignedLink::presigning_of))]
 pub fn presign_seeded(
     alloc: Global,
     head: &Head,
@@ -59,6 +58,31 @@ pub fn presign_seeded(
     expires: u32,
     now: Timestamp,
     keys: HeaderSeeds,
+) -> Result<Head, PresignError>
+    ensures ok { IfOk result (λ h. presigning_of credential.now scope.now expires now head.now ≡ Ok h) }
+    ensures err { IfErr result (λ why. (why ≡ PresignError.OutOfMemory)
+        ⊎ (presigning_of credential.now scope.now expires now head.now ≡ Err why)) }
+{
+    let mut kept = KeptKey::new();
+    let made = presign_kept(
+        alloc, head, credential, scope, expires, now, keys, &mut kept,
+    );
+    drop(kept);
+    made
+}
+
+/// Answers what `presign_seeded` does, with the signing key that is kept, where it is that of the credential, the
+/// scope and the day. Where it is not, that one is derived, and kept from then on.
+#[tactic(auto, unfolding(crate::specs::PresignedLink::presigning_of))]
+pub fn presign_kept(
+    alloc: Global,
+    head: &Head,
+    credential: &SigCredential,
+    scope: &SigScope,
+    expires: u32,
+    now: Timestamp,
+    keys: HeaderSeeds,
+    kept: &mut KeptKey,
 ) -> Result<Head, PresignError>
     ensures ok { IfOk result (λ h. presigning_of credential.now scope.now expires now head.now ≡ Ok h) }
     ensures err { IfErr result (λ why. (why ≡ PresignError.OutOfMemory)
@@ -74,7 +98,8 @@ pub fn presign_seeded(
     if !is_expiry(expires) {
         return Err(PresignError::Expires);
     }
-    let link = presigned_link(alloc, head, &uri, credential, scope, expires, now)?;
+    let key = kept.key_for(alloc, credential, scope, now)?;
+    let link = presigned_link(alloc, head, &uri, credential, scope, key, expires, now)?;
     if !is_target(alloc, link.as_slice())? {
         return Err(PresignError::Link);
     }

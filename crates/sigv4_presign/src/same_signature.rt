@@ -3,7 +3,7 @@
 ghost use Rattle.std.specs.Prelude.{◌≡◌, ◌↔◌, bytes_eq, length};
 
 /// Whether a claimed signature is this one. Its length is no secret: another one answers at once.
-pub(crate) fn same_signature(claimed: &[u8], signature: &[u8]) -> bool
+pub fn is_same_signature(claimed: &[u8], signature: &[u8]) -> bool
     ensures { result ≡ bytes_eq claimed.now signature.now }
 {
     claimed.len() == signature.len() && difference(claimed, signature) == 0

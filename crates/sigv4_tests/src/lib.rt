@@ -5,6 +5,10 @@
 #![tactic(auto)]
 
 #[cfg(test)]
+mod claims;
+#[cfg(test)]
+mod documents;
+#[cfg(test)]
 mod environment_key;
 #[cfg(test)]
 mod everyday;

@@ -5,7 +5,7 @@ use Rattle.sigv4_canonical.proofs.headers.canonical_headers.Goals as goal
 
 pub returns-clause-lines : goal.returns-clause-lines
 returns-clause-lines c =
-    c.in_ok-push_headers.ensures.lines ∙ (ap₂ (λ a hs. a ++ lines_in (named_values hs)) c.new.ensures.items c.as_slice-2.ensures.value ∙ lines-sorted c.args.fields.now (named_values c.in_ok-headers.headers.items) c.in_ok-headers.ensures)
+    c.in_ok-push_headers.ensures.lines ∙ (ap₂ (λ a hs. a ++ lines_in (named_values hs)) c.in_ok-with_capacity.ensures.items c.as_slice-2.ensures.value ∙ lines-sorted c.args.fields.now (named_values c.in_ok-headers.headers.items) c.in_ok-headers.ensures)
 
 pub returns-clause-names : goal.returns-clause-names
 returns-clause-names c =

@@ -14,6 +14,6 @@ returns c =
     omega (arith, ap length c.as_slice-field-items.ensures, c.loop-field-test.false) in
     let whole : c.loop-field.names.items ≡ spelled c.args.fields.now =
     c.loop-field.invariant ∙ ap spelled (take_all _ _ end) in
-    let lower : lowercase c.as_slice-2.result.now ≡ lowercase_names c.args.fields.now =
-    ap lowercase (c.as_slice-2.ensures.value ∙ whole) ∙ lowered c.args.fields.now in
+    let lower : lowercase c.loop-field.names.items ≡ lowercase_names c.args.fields.now =
+    ap lowercase whole ∙ lowered c.args.fields.now in
     rw lower at c.in_lower_case.ensures

@@ -11,19 +11,22 @@ in_a_row first access scope before_names names before_signature signature = simp
 
 pub returns : goal.returns
 unfolding authorization
-returns c =
+returns c = λ t day.
     let first : List ℕ = codes "AWS4-HMAC-SHA256 Credential=" in
     let slash : List ℕ = 47 ∷ [] in
     let before_names : List ℕ = codes ", SignedHeaders=" in
     let before_signature : List ℕ = codes ", Signature=" in
     let key = c.args.key.now in
-    let scope = scope_text key.scope c.args.now in
+    let scope = scope_text key.scope t in
+    let begun : c.extend_from_slice.new.self.items ≡ first =
+    c.in_ok-extend_from_slice.ensures.items ∙ ap (λ s. s ++ first) c.in_ok-text.ensures.items in
     let started : c.push.new.self.items ≡ (first ++ key.access) ++ slash =
-    c.in_ok-push.ensures.items ∙ ap (λ t. t ++ slash) (c.in_ok-extend_from_slice.ensures.items ∙ ap₂ (λ t a. t ++ a) c.in_ok-text.ensures.items c.access.ensures) in
-    let scoped = c.in_ok-push_scope.ensures {u = tt} ∙ ap₂ (λ t s. t ++ scope_text s c.args.now) started c.scope.ensures in
-    c.in_ok-extend_from_slice-5.ensures.items
-    ∙ (ap (λ t. t ++ c.args.signature.now) (c.in_ok-extend_from_slice-4.ensures.items
-    ∙ ap (λ t. t ++ before_signature) (c.in_ok-extend_from_slice-3.ensures.items
-    ∙ ap (λ t. t ++ c.args.names.now) (c.in_ok-extend_from_slice-2.ensures.items
-    ∙ ap (λ t. t ++ before_names) scoped)))
+    c.in_ok-push.ensures.items ∙ ap (λ s. s ++ slash) (c.in_ok-extend_from_slice-2.ensures.items ∙ ap₂ (λ s a. s ++ a) begun c.access.ensures) in
+    let scoped : c.extend_from_slice-3.new.self.items ≡ ((first ++ key.access) ++ slash) ++ scope =
+    c.in_ok-extend_from_slice-3.ensures.items ∙ ap₂ (λ s a. s ++ a) started (c.credential_scope.ensures t day) in
+    c.in_ok-extend_from_slice-7.ensures.items
+    ∙ (ap (λ s. s ++ c.args.signature.now) (c.in_ok-extend_from_slice-6.ensures.items
+    ∙ ap (λ s. s ++ before_signature) (c.in_ok-extend_from_slice-5.ensures.items
+    ∙ ap (λ s. s ++ c.args.names.now) (c.in_ok-extend_from_slice-4.ensures.items
+    ∙ ap (λ s. s ++ before_names) scoped)))
     ∙ in_a_row first key.access scope before_names c.args.names.now before_signature c.args.signature.now)

@@ -6,7 +6,7 @@ use Rattle.sigv4_core.specs.SignedHead.{is_before_year_0}
 use Rattle.sigv4_presign.specs.LinkPairs.{has_link_name}
 use Rattle.sigv4_presign.specs.PresignedLink.{is_expiry, raw_query, presigned_link}
 use Rattle.sigv4_presign.proofs.PresignedHead.{presigning-link}
-use Rattle.sigv4_presign.proofs.presigning.presign_seeded.Goals as goal
+use Rattle.sigv4_presign.proofs.presigning.presign_kept.Goals as goal
 
 pub returns-then-not-branch-clause-err : goal.returns-then-not-branch-clause-err
 returns-then-not-branch-clause-err c =

@@ -1,0 +1,9 @@
+pub mod Texts
+pub mod Lines
+pub mod Settings
+pub mod Sections
+pub mod Profiles
+pub mod Reads
+pub use Rattle.aws_credentials.specs.Found
+pub use Rattle.credentials.specs.Home
+pub use Rattle.credentials.specs.Polled

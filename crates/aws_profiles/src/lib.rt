@@ -1,0 +1,22 @@
+//! The files in which AWS's tools keep the keys of profiles, and the provider that finds one there.
+#![tactic(auto)]
+
+mod fault;
+mod has_files;
+mod line;
+mod profile_load;
+mod profile_provider;
+mod session;
+mod setting;
+mod settings;
+mod shared_file;
+mod texts;
+
+pub use fault::FileFault;
+pub use has_files::HasFiles;
+pub use profile_load::ProfileLoad;
+pub use profile_provider::ProfileProvider;
+pub use session::profile_session;
+pub use setting::{Setting, value_of};
+pub use settings::read_settings;
+pub use shared_file::SharedFile;
