@@ -1,5 +1,5 @@
 //! The credential that the variables of the environment name.
-ghost use Rattle.std.specs.Prelude.{◌≡◌, ⊤, IfOk, option_map, string_bytes};
+ghost use Rattle.std.specs.Prelude.{◌≡◌, ⊤, IfOk, IsOk, option_map, string_bytes};
 ghost use Rattle.aws_credentials.specs.Environment.{found_in_environment};
 ghost use Rattle.aws_credentials.specs.Found.{IsFound, GivesFound};
 
@@ -40,7 +40,10 @@ impl<X: HasVariables> ProvideCredential for EnvironmentProvider<X> {
 
     ghost gives = { λ provider ctx answer. GivesFound (found_in_environment (X.variables ctx)) answer };
 
-    fn provide_credential(&self, _alloc: Global, _ctx: &X) -> Result<(), NoMemory<()>> {
+    fn provide_credential(&self, _alloc: Global, _ctx: &X) -> Result<(), NoMemory<()>>
+        ensures started { IfOk result (λ load. ⊤) }
+        ensures succeeds { IsOk result }
+    {
         Ok(())
     }
 

@@ -6,6 +6,7 @@ mod clocked_context;
 mod environment;
 mod has_variables;
 mod key_texts;
+pub mod laws;
 mod poll_clock;
 mod session_credential;
 mod signing_clock;

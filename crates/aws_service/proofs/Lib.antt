@@ -1,4 +1,6 @@
 mod FirstPlace
 mod Candidates
 mod PollLeaves
+mod SignedByPoll
+mod OneCallMade
 mod LongLinks

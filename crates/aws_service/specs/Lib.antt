@@ -5,5 +5,6 @@ pub mod ServiceView
 pub mod SessionHead
 pub mod SessionLink
 pub mod Service
+pub mod OneCall
 pub use Rattle.sequential_signer.specs.Deadline
 pub use Rattle.sign_request.specs.Keys

@@ -17,3 +17,4 @@ pub mod OneStep
 pub mod LiveCounts
 pub mod ReplyKinds
 pub mod PreviewedStep
+pub mod IdleDesks

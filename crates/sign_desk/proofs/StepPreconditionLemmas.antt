@@ -40,7 +40,7 @@ use Rattle.sequential_signer.proofs.BegunCalls.{begun_there}
 use Rattle.sign_desk.proofs.QueueLaw.{unpolled-absent}
 use Rattle.desk_parts.proofs.LiveRecord.{RecordSays, record_says}
 
-passes_some : (p : CallId → Bool) (c : CallId) (xs : List CallId) → list_any (same_call c) xs ≡ true
+pub passes_some : (p : CallId → Bool) (c : CallId) (xs : List CallId) → list_any (same_call c) xs ≡ true
     → p c ≡ true → 0 < length (filter p xs)
 passes_some p c [] m h = cc
 passes_some p c (x ∷ xs) m h = by_place (same_call c x) refl m (λ k. passes_some p c xs k h)
@@ -53,7 +53,7 @@ passes_some p c (x ∷ xs) m h = by_place (same_call c x) refl m (λ k. passes_s
         let k : 0 < length (filter p xs) = rest m in
         elim (p x) as (λ v. 0 < length (cond v (x ∷ filter p xs) (filter p xs))) [ true ↦ omega arith | false ↦ k ]
 
-fewer_pass : (p q : CallId → Bool) → ((c : CallId) → p c ≡ true → q c ≡ true) → (xs : List CallId)
+pub fewer_pass : (p q : CallId → Bool) → ((c : CallId) → p c ≡ true → q c ≡ true) → (xs : List CallId)
     → length (filter p xs) ≤ length (filter q xs)
 fewer_pass p q f [] = omega arith
 fewer_pass p q f (x ∷ xs) = by_test (p x) refl (fewer_pass p q f xs)
@@ -64,7 +64,7 @@ fewer_pass p q f (x ∷ xs) = by_test (p x) refl (fewer_pass p q f xs)
     by_test true e k = let qx : q x ≡ true = f x e in rw qx (omega arith)
     by_test false e k = elim (q x) as (λ v. length (filter p xs) ≤ length (cond v (x ∷ filter q xs) (filter q xs))) [ true ↦ omega arith | false ↦ k ]
 
-unpolled_live : (b : Bool) (p : Phase) → (b && is_unpolled p) ≡ true → is_live p ≡ true
+pub unpolled_live : (b : Bool) (p : Phase) → (b && is_unpolled p) ≡ true → is_live p ≡ true
 unpolled_live true Unpolled h = refl
 unpolled_live true Unknown h = cc
 unpolled_live true Queued h = cc

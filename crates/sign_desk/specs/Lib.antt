@@ -16,6 +16,7 @@ pub mod Memory
 pub mod CachesAfter
 pub mod Steps
 pub mod PairedEntries
+pub mod Idle
 pub use Rattle.desk_parts.specs.Action as DeskPartsAction
 pub use Rattle.desk_parts.specs.Adding
 pub use Rattle.desk_parts.specs.LiveCallView

@@ -3,6 +3,7 @@
 
 mod boxed_head;
 mod desk;
+mod idle;
 pub mod laws;
 mod load;
 mod poll;
@@ -15,6 +16,7 @@ mod step_owned;
 
 pub use desk::Desk;
 pub use desk_parts::{AddError, AddRefused, HandleRecord, RunError, Stage};
+pub use idle::IdleDesk;
 pub use sequential_signer::{
     Answer, Entry, Event, Loader, Reply, Verdict, Why, same_head, same_reply,
 };

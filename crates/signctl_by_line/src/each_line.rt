@@ -6,7 +6,8 @@ use line_words::ReadError;
 use sign_base::NoMemory;
 use std::alloc::Global;
 
-/// A command that answers each line by itself. It is asked only for lines that say something.
+/// A command that answers each line by itself. It is asked only for lines that say something. It may keep what
+/// saves work at a later line, and no answer depends on that.
 pub trait EachLine: Drop {
     /// What a line says.
     type Item: Drop;
@@ -24,7 +25,7 @@ pub trait EachLine: Drop {
     /// Adds the answer to an item that a line was read as. Where an allocation fails, a part of it may stand
     /// at the end of the text.
     fn answer(
-        &self,
+        &mut self,
         alloc: Global,
         item: &Self::Item,
         text: &mut Vec<u8>,

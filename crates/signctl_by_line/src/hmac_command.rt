@@ -24,7 +24,7 @@ impl EachLine for HmacCommand {
     }
 
     fn answer(
-        &self,
+        &mut self,
         alloc: Global,
         item: &HmacItem,
         text: &mut Vec<u8>,

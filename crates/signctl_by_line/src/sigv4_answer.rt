@@ -10,14 +10,15 @@ use line_words::head_text::push_head;
 use line_words::text::push;
 use sign_base::{Head, NoMemory};
 use sign_request::HeaderSeeds;
-use sigv4_core::{SigError, sign_head_seeded};
-use sigv4_presign::{Checked, PresignError, presign_seeded, verify_seeded};
+use sigv4_core::{KeptKey, SigError, sign_head_kept};
+use sigv4_presign::{Checked, PresignError, presign_kept, verify_kept};
 use std::alloc::Global;
 
-/// Adds the answer to an item.
+/// Adds the answer to an item. The key that is kept is taken where it fits, and is the item's from then on.
 pub(crate) fn push_answer(
     alloc: Global,
     keys: HeaderSeeds,
+    kept: &mut KeptKey,
     item: &Sigv4Item,
     text: &mut Vec<u8>,
 ) -> Result<(), NoMemory<()>>
@@ -32,15 +33,19 @@ pub(crate) fn push_answer(
     } = item;
     match asked {
         Asked::Sign(payload) => {
-            let signed = sign_head_seeded(alloc, head, credential, scope, payload, *moment, keys);
+            let signed = sign_head_kept(
+                alloc, head, credential, scope, payload, *moment, keys, kept,
+            );
             push_signed(text, signed)
         }
         Asked::Presign(seconds) => {
-            let made = presign_seeded(alloc, head, credential, scope, *seconds, *moment, keys);
+            let made = presign_kept(
+                alloc, head, credential, scope, *seconds, *moment, keys, kept,
+            );
             push_presigned(text, made)
         }
         Asked::Verify => {
-            let found = verify_seeded(alloc, head, credential, scope, *moment, keys)?;
+            let found = verify_kept(alloc, head, credential, scope, *moment, keys, kept)?;
             push_line(text, checked_word(found))
         }
     }

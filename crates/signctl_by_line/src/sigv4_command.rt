@@ -7,14 +7,28 @@ use crate::{EachLine, Sigv4Item, read_sigv4_line};
 use line_words::ReadError;
 use sign_base::NoMemory;
 use sign_request::HeaderSeeds;
+use sigv4_core::KeptKey;
 use std::alloc::Global;
 
-/// The command `sigv4`. The names of headers come from outside, so it hands these keys on, for the map that a
-/// head is tested by which has more headers than one may have names. No line has so many, and no answer
-/// depends on the keys.
-#[derive(Clone, Copy, Debug)]
+/// The command `sigv4`. It has no debug form.
+///
+/// It keeps the signing key of the last line that needed one, with the secret of that line, so that a line with the
+/// same credential, scope and day takes one HMAC in place of five. No answer depends on it.
+#[derive(Drop)]
 pub struct Sigv4Command {
-    pub keys: HeaderSeeds,
+    keys: HeaderSeeds,
+    kept: KeptKey,
+}
+
+impl Sigv4Command {
+    /// The names of headers come from outside, so these keys are handed on, for the map that a head is tested by
+    /// which has more headers than one may have names. No line has so many, and no answer depends on the keys.
+    pub fn new(keys: HeaderSeeds) -> Sigv4Command {
+        Sigv4Command {
+            keys,
+            kept: KeptKey::new(),
+        }
+    }
 }
 
 impl EachLine for Sigv4Command {
@@ -29,11 +43,11 @@ impl EachLine for Sigv4Command {
     }
 
     fn answer(
-        &self,
+        &mut self,
         alloc: Global,
         item: &Sigv4Item,
         text: &mut Vec<u8>,
     ) -> Result<(), NoMemory<()>> {
-        push_answer(alloc, self.keys, item, text)
+        push_answer(alloc, self.keys, &mut self.kept, item, text)
     }
 }

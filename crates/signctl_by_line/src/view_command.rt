@@ -28,7 +28,12 @@ impl EachLine for ViewCommand {
         parse_head_line(alloc, line)
     }
 
-    fn answer(&self, alloc: Global, head: &Head, text: &mut Vec<u8>) -> Result<(), NoMemory<()>> {
+    fn answer(
+        &mut self,
+        alloc: Global,
+        head: &Head,
+        text: &mut Vec<u8>,
+    ) -> Result<(), NoMemory<()>> {
         push_answer(alloc, self.keys, head, text)
     }
 }

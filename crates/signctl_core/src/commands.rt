@@ -54,7 +54,7 @@ pub fn run<S: Source, D: Sink>(
         Some(CommandName::Hmac) => drive(alloc, LineByLine(HmacCommand), source, sink),
         Some(CommandName::View) => drive(alloc, LineByLine(ViewCommand { keys }), source, sink),
         Some(CommandName::Grant) => run_lines(alloc, GrantSession::new(alloc), source, sink),
-        Some(CommandName::Sigv4) => drive(alloc, LineByLine(Sigv4Command { keys }), source, sink),
+        Some(CommandName::Sigv4) => drive(alloc, LineByLine(Sigv4Command::new(keys)), source, sink),
         Some(CommandName::Audit) => run_lines(alloc, AuditSession::new(alloc), source, sink),
         Some(CommandName::Load(calls)) => run_load(alloc, calls, sink),
     }

@@ -61,6 +61,7 @@ module _ {P S K C L W : Type 0} (m : Meanings P S K C L W) (old : SignerState P 
   begins policy candidate copied there number parts head step = record {
     number = number;
     head = head;
+    waits = cc;
     step = step;
     next = refl;
     issued = waiting-issued candidate copied there;

@@ -13,3 +13,9 @@ error_of name (Short deadline) = short_error name deadline
 error_of name Range = range_error name
 error_of name (Loader e) = e
 error_of name (Service e) = e
+
+-- the refusal has the error of a provider or of a service
+abbrev pub HasError : Refusal → Type 0
+HasError (Loader e) = Unit {0}
+HasError (Service e) = Unit {0}
+HasError _ = ⊥

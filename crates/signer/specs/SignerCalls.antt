@@ -14,6 +14,7 @@ use Rattle.signer.specs.IssuedBy.{IsIssuedBy}
 use Rattle.signer.specs.SignerInvariant.{SignerState}
 use Rattle.signer.specs.SignerObjects.{Meanings}
 use Rattle.signer.specs.declared.sign.Sign.{Sign}
+use Rattle.signer.specs.declared.sign.SignState.TheVariants.{Waiting}
 use Rattle.signer.specs.declared.sign_poll.SignAnswer.{SignAnswer}
 use Rattle.desk_driver.specs.CallNumbers.{used_up}
 
@@ -40,11 +41,13 @@ module _ {P S K C L W : Type 0} (m : Meanings P S K C L W) where
   IsAnswerIssuedBy signer call given =
       IfSome (state_back given) (λ sign. (sign.begun.id ≡ call) × IsIssuedBy m signer sign)
 
-  -- a call that was begun: the next number, the request's head, and the event of the desk
+  -- a call that was begun: the next number, the request's head, and the event of the desk; it waits for its
+  -- first poll
   pub record Begins (policy : Policy K S) (change : SignerChange P S K C) (parts : Parts)
       (sign : Sign P S K C L C W K) : Type 0 where
     pub number : sign.begun.id.number ≡ change.old.begun
     pub head : IsHeadOf parts sign.begun.head
+    pub waits : sign.state ≡ Waiting sign.begun.head
     pub step : IsStep policy (Begin sign.begun.id sign.begun.head sign.begun.expires_in)
         change.old.desk Begun change.new.desk
     pub next : change.new ≡ record change.old { desk = change.new.desk; begun = change.old.begun + 1 }

@@ -1,6 +1,6 @@
 //! Why a signer refused a call.
-ghost use Rattle.std.specs.Prelude.{◌≡◌, IfOk, IfErr};
-ghost use Rattle.signer.specs.RefusalError.{error_of};
+ghost use Rattle.std.specs.Prelude.{◌≡◌, IfOk, IfErr, IsOk};
+ghost use Rattle.signer.specs.RefusalError.{error_of, HasError};
 
 use desk_driver::{credential_refused, credential_refused_at, range_refused};
 use sign_base::{Error, NoMemory, Timestamp};
@@ -29,10 +29,11 @@ impl Refusal {
     /// The refusal as an error, which names this type of credentials. The error of a provider or of a
     /// service is handed out as it is.
     ///
-    /// Where there is no memory for the error, the refusal comes back.
+    /// Where there is no memory for the error, the refusal comes back. An error that is there takes none.
     pub fn into_error(self, alloc: Global, name: &str) -> Result<Error, NoMemory<Refusal>>
         ensures ok { IfOk result (λ e. e ≡ error_of name.now self) }
         ensures back { IfErr result (λ refused. refused.back ≡ self) }
+        ensures free { HasError self → IsOk result }
     {
         match self {
             Refusal::Missing => match credential_refused(alloc, MISSING, name) {

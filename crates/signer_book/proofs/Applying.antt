@@ -1,5 +1,5 @@
 -- What a book knows of a step before it is made.
-use Rattle.std.proofs.Common.{◌≡◌, Bool, true, false, ◌&&◌, List, Option, Some, None, IsSome, IsTrue, refl, sym, ◌∙◌, ap, subst, inl, inr}
+use Rattle.std.proofs.Common.{◌≡◌, Bool, true, false, ◌&&◌, List, [], ◌∷◌, ◌++◌, Option, Some, None, IsSome, IsTrue, refl, sym, ◌∙◌, ap, subst, inl, inr, append_assoc}
 use Rattle.sign_base.specs.declared.call_id.CallId.{CallId}
 use Rattle.sequential_signer.specs.Policy.{Policy}
 use Rattle.sequential_signer.specs.Setup.{Setup}
@@ -19,7 +19,8 @@ use Rattle.desk_parts.specs.declared.call_record.Stage.{Stage}
 use Rattle.desk_parts.specs.declared.call_record.Stage.TheVariants as stage
 use Rattle.desk_parts.specs.declared.tables.LiveCallView.{LiveCallView}
 use Rattle.sign_desk.specs.Cause.{said_by, cause_of, is_step, IsCaused}
-use Rattle.sign_desk.specs.DeskState.{DeskState}
+use Rattle.sign_desk.specs.DeskState.{DeskState, Represents}
+use Rattle.sign_desk.specs.Steps.{IsStep}
 use Rattle.sign_desk.specs.Transition.{cancel_action, live_action}
 use Rattle.sign_desk.specs.ReplyKinds.{is_reply_to}
 use Rattle.sequential_signer.specs.Replies.{is_cancelled}
@@ -86,3 +87,11 @@ module _ {K D : Type 0} (policy : Policy K D) where
           → reply ≡ expected_reply policy setup entries event
       by_legal (inl h) = h
       by_legal (inr h) = let bad : true ≡ false = ap is_out_of_memory (sym h.0) ∙ memory in absurd (cc)
+
+  -- whatever the desk represents with a journal behind, it then represents with the longer one behind
+  pub steps-behind : (event : Event K) (old : DeskState K D) (reply : Reply K) (new : DeskState K D)
+      (journal : List (Entry K)) → IsStep policy event old reply new → (before : List (Entry K))
+      → Represents policy old (before ++ journal)
+      → Represents policy new (before ++ (journal ++ record { event = event; reply = reply } ∷ []))
+  steps-behind event old reply new journal step before stood =
+      subst (Represents policy new) (append_assoc before journal (record { event = event; reply = reply } ∷ [])) (step.represents (before ++ journal) stood)

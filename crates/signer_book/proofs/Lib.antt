@@ -1,7 +1,8 @@
-pub mod FreshBook
+pub mod IdleBook
 pub mod OpenBegins
 pub mod ReceiptRoom
 pub mod Applying
+pub mod Volumes
 pub mod Owners
 pub mod Passes
 pub mod Distinct

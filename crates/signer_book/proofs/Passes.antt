@@ -1,5 +1,5 @@
 -- Which places the passes so far have, with one more receipt and one more pass.
-use Rattle.std.proofs.Common.{◌≡◌, ℕ, zero, suc, ◌<◌, ◌≤◌, ◌+◌, ◌⊎◌, inl, inr, List, [], ◌∷◌, ◌++◌, Some, option_map, slice_get, length, arith, refl}
+use Rattle.std.proofs.Common.{◌≡◌, ℕ, zero, suc, ◌<◌, ◌≤◌, ◌⊎◌, inl, inr, List, [], ◌∷◌, ◌++◌, Some, option_map, slice_get, length, arith, refl}
 use Rattle.signer_book.specs.Close.{HasPlace}
 use Rattle.signer_book.specs.declared.pass.Receipt.{Receipt}
 

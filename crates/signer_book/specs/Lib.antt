@@ -2,6 +2,8 @@ pub mod OpenBegins
 pub mod BookState
 pub mod Settled
 pub mod Close
+pub mod VolumeState
+pub mod Rotate
 pub mod Doubles
 pub use Rattle.desk_parts.specs.LiveCallView
 pub use Rattle.desk_parts.specs.Tables

@@ -1,25 +1,20 @@
-//! A desk beside the journal of its events and replies.
-ghost use Rattle.std.specs.Prelude.{◌≡◌, ◌≢◌, ◌++◌, ◌∷◌, [], ◌<◌, true, List, IfOk, IfErr, IfSome, IsOk};
+//! A book: a desk beside the journal of all its events and replies.
+ghost use Rattle.std.specs.Prelude.{◌≡◌, ◌≢◌, ◌++◌, ◌∷◌, [], ◌<◌, true, IfOk, IfErr, IsOk};
 ghost use Rattle.std.specs.Prelude.{IsSome, IsTrue, length};
 ghost use Rattle.sign_base.specs.declared.call_id.CallId.{CallId};
 ghost use Rattle.sequential_signer.specs.Policy.{policy_of};
-ghost use Rattle.sequential_signer.specs.Transcript.{committed_entries, is_out_of_memory};
-ghost use Rattle.sequential_signer.specs.ExpectedReply.{expected_reply};
-ghost use Rattle.sequential_signer.specs.declared.event.Entry.{Entry};
 ghost use Rattle.sequential_signer.specs.declared.event.Event.TheVariants.{Cancel};
 ghost use Rattle.sequential_signer.specs.declared.event.Reply.TheVariants.{OutOfMemory};
 ghost use Rattle.desk_parts.specs.Tables.{setup_of};
 ghost use Rattle.desk_parts.specs.LiveCallView.{find_view};
 ghost use Rattle.sign_desk.specs.DeskState.{Represents};
-ghost use Rattle.sign_desk.specs.Cause.{cause_of, IsCaused};
 ghost use Rattle.sign_desk.specs.ReplyKinds.{is_reply_to};
 ghost use Rattle.signer_book.specs.OpenBegins.{is_open};
 ghost use Rattle.signer_book.specs.Settled.{IsSettled};
 ghost use Rattle.signer_book.specs.Close.{IsCloseCause};
 
-use crate::check::check_close;
-use crate::pass::{Pass, Receipt};
-use crate::room::{take_entry_room, take_receipt_room};
+use crate::journaled_desk::JournaledDesk;
+use crate::pass::Pass;
 use crate::settled::{CloseRefused, Settled};
 use sequential_signer::{DeadlineRule, Entry, Event, Reply, SigningCredential};
 use sign_base::{EqualByValue, NoMemory};
@@ -27,12 +22,10 @@ use sign_desk::Desk;
 use std::marker::Model;
 
 /// A desk and its journal. The desk represents the journal, and there is room in it for a cancel of each
-/// live call, and for what closing takes: `owners` has a mark for each entry then.
+/// live call, and for what closing takes.
 #[derive(Drop)]
 pub struct Book<K: SigningCredential, D: DeadlineRule<Credential = K>> {
-    desk: Desk<K, D>,
-    journal: Vec<Entry<K>>,
-    owners: Vec<u32>,
+    kept: JournaledDesk<K, D>,
 }
 
 impl<K: SigningCredential, D: DeadlineRule<Credential = K>> Model for Book<K, D> {
@@ -40,14 +33,13 @@ impl<K: SigningCredential, D: DeadlineRule<Credential = K>> Model for Book<K, D>
 
     ghost Value = { BookState K D };
 
-    ghost use Rattle.std.specs.Prelude.{vec_capacity, min};
     ghost use Rattle.sequential_signer.specs.Policy.{policy_of};
-    ghost use Rattle.signer_book.specs.BookState.{IsBook};
+    ghost use Rattle.sign_desk.specs.DeskState.{Represents};
 
-    ghost view = { λ book. record { desk = book.desk; journal = book.journal.items } };
+    ghost view = { λ book. book.kept };
 
-    ghost invariant = { λ book. IsBook (policy_of K.valid K.valid_at D.deadline) book.desk book.journal.items
-        (min (vec_capacity book.journal) (vec_capacity book.owners)) };
+    ghost invariant = { λ book. Represents (policy_of K.valid K.valid_at D.deadline)
+        book.kept.desk book.kept.journal };
 }
 
 impl<K: SigningCredential, D: DeadlineRule<Credential = K>> Book<K, D> {
@@ -56,12 +48,8 @@ impl<K: SigningCredential, D: DeadlineRule<Credential = K>> Book<K, D> {
         requires { Represents (policy_of K.valid K.valid_at D.deadline) desk [] }
         ensures { result ≡ record { desk = desk; journal = [] } }
     {
-        let journal = Vec::new(desk.alloc());
-        let owners = Vec::new(desk.alloc());
         Book {
-            desk,
-            journal,
-            owners,
+            kept: JournaledDesk::new(desk),
         }
     }
 
@@ -86,40 +74,7 @@ impl<K: SigningCredential, D: DeadlineRule<Credential = K>> Book<K, D> {
         ensures cancel { (call : CallId) → event.now ≡ Cancel call → IsSome (find_view self.old.desk call)
             → is_open call pass.old ≡ true → result ≢ OutOfMemory }
     {
-        let Some(kept) = preview_entry(&self.desk, event) else {
-            return Reply::OutOfMemory;
-        };
-        let Some(given) = preview_entry(&self.desk, event) else {
-            drop(kept);
-            return Reply::OutOfMemory;
-        };
-        let live = self.desk.live();
-        if !take_entry_room(&mut self.journal, &mut self.owners, live, &kept.reply) {
-            drop(kept);
-            drop(given);
-            return Reply::OutOfMemory;
-        }
-        let spare = pass.spare;
-        let Some(spare) = take_receipt_room(&mut pass.receipts, spare, &given) else {
-            drop(kept);
-            drop(given);
-            return Reply::OutOfMemory;
-        };
-        let reply = self.desk.step(event);
-        if reply.is_out_of_memory() {
-            drop(kept);
-            drop(given);
-            drop(reply);
-            return Reply::OutOfMemory;
-        }
-        let place = self.journal.len() as u64;
-        self.journal.push_reserved(kept);
-        pass.receipts.push_reserved(Receipt {
-            place,
-            entry: given,
-        });
-        pass.spare = spare;
-        reply
+        self.kept.apply(pass, event)
     }
 
     /// The entries, in order. The desk represents them.
@@ -128,7 +83,7 @@ impl<K: SigningCredential, D: DeadlineRule<Credential = K>> Book<K, D> {
         ensures represents { Represents (policy_of K.valid K.valid_at D.deadline)
             self.now.desk result.now }
     {
-        self.journal.as_slice()
+        self.kept.journal()
     }
 
     /// The desk, which represents the journal.
@@ -137,7 +92,7 @@ impl<K: SigningCredential, D: DeadlineRule<Credential = K>> Book<K, D> {
         ensures represents { Represents (policy_of K.valid K.valid_at D.deadline)
             result.now self.now.journal }
     {
-        &self.desk
+        self.kept.desk()
     }
 
     /// A pass without receipts. It takes no memory, so it never fails.
@@ -145,7 +100,7 @@ impl<K: SigningCredential, D: DeadlineRule<Credential = K>> Book<K, D> {
         ensures empty { IfOk result (λ pass. pass ≡ []) }
         ensures memory { IsOk result }
     {
-        Ok(Pass::new(self.desk.alloc()))
+        Ok(Pass::new(self.kept.desk().alloc()))
     }
 }
 
@@ -175,14 +130,7 @@ where
             (λ r. Represents (policy_of K.valid K.valid_at D.deadline) r.book.desk r.book.journal) }
         ensures why { IfErr result (λ r. IsCloseCause plan self passes.items r.why) }
     {
-        let checked = check_close(
-            &self.desk,
-            self.journal.as_slice(),
-            &mut self.owners,
-            &plan,
-            passes.as_slice(),
-        );
-        if let Err(why) = checked {
+        if let Err(why) = self.kept.check(&plan, passes.as_slice()) {
             return Err(CloseRefused {
                 book: self,
                 plan,
@@ -190,41 +138,12 @@ where
                 why,
             });
         }
-        let Book {
-            desk,
-            journal,
-            owners,
-        } = self;
-        drop(owners);
+        let Book { kept } = self;
+        let (desk, journal) = kept.into_parts();
         Ok(Settled {
             desk,
             journal,
             passes,
         })
     }
-}
-
-/// The entry that a step at this event would add, unless an allocation fails.
-fn preview_entry<K: SigningCredential, D: DeadlineRule<Credential = K>>(
-    desk: &Desk<K, D>,
-    event: &Event<K>,
-) -> Option<Entry<K>>
-    ensures event { IfSome result (λ entry. entry.event ≡ event.now) }
-    ensures expected { IfSome result (λ entry. (entries : List (Entry K))
-        → Represents (policy_of K.valid K.valid_at D.deadline) desk.now entries
-        → entry.reply ≡ expected_reply (policy_of K.valid K.valid_at D.deadline) (setup_of desk.now)
-        (committed_entries entries) event.now) }
-    ensures kind { IfSome result (λ entry. IsTrue (is_reply_to event.now entry.reply)) }
-    ensures causes { IfSome result (λ entry.
-        IsCaused (cause_of (policy_of K.valid K.valid_at D.deadline) desk.now event.now) entry.reply) }
-    ensures cancel { (entries : List (Entry K))
-        → Represents (policy_of K.valid K.valid_at D.deadline) desk.now entries
-        → (call : CallId) → event.now ≡ Cancel call → IsSome result }
-{
-    let reply = desk.preview(event);
-    if reply.is_out_of_memory() {
-        return None;
-    }
-    let event = event.try_clone(desk.alloc()).ok()?;
-    Some(Entry { event, reply })
 }

@@ -8,6 +8,7 @@ mod job_server;
 pub mod laws;
 mod next_step;
 mod pool;
+mod rotating;
 mod serve;
 mod shared;
 mod slots;
@@ -16,6 +17,10 @@ mod surroundings;
 pub use gate::{Gate, GateLoad};
 pub use job::{Job, Served};
 pub use pool::{PoolRefused, Pooled, serve_all};
+pub use rotating::{Rotated, RotatingSigner};
 pub use serve::serve_jobs;
 pub use shared::SharedSigner;
-pub use signer_book::{Book, CloseError, CloseRefused, Entry, Pass, Receipt, Settled};
+pub use signer_book::{
+    Book, CloseError, CloseRefused, Entry, Pass, Receipt, RotateError, RotateRefused, Settled, Volume,
+    VolumeError, VolumeRefused,
+};

@@ -1,8 +1,9 @@
 //! A link that is given out and comes back, as an example that is proved: what is found at it is a matter of
 //! time alone.
-ghost use Rattle.std.specs.Prelude.{◌≡◌, ◌↔◌, ◌<ℤ◌, ◌≤ℤ◌, IfOk};
+ghost use Rattle.std.specs.Prelude.{◌≡◌, ◌⊎◌, ◌↔◌, ◌<ℤ◌, ◌≤ℤ◌, IfOk, IfErr, Err};
 ghost use Rattle.sign_time.specs.MomentRead.{whole_second};
 ghost use Rattle.sigv4_presign.specs.LinkLaw.{IsGood, expiry_of, bare_request};
+ghost use Rattle.sigv4_presign.specs.PresignedLink.{presigning_of};
 
 use crate::{Checked, PresignError, presign, verify};
 use sign_base::{Fields, Head, Timestamp, Version};
@@ -14,6 +15,8 @@ use std::alloc::Global;
 ///
 /// Credential and scope are lent: that they are of the form that the law of links asks for is said by
 /// `access` and `region`, and by `as_nanos` that a moment is in its range.
+///
+/// Errors: what `presign` refuses.
 pub fn made_and_checked(
     alloc: Global,
     head: &Head,
@@ -26,6 +29,8 @@ pub fn made_and_checked(
     ensures valid { IfOk result (λ found. (found ≡ Checked.Valid) ↔ IsGood made expires arrived) }
     ensures early { IfOk result (λ found. arrived <ℤ whole_second made → found ≡ Checked.Early) }
     ensures late { IfOk result (λ found. expiry_of made expires ≤ℤ arrived → found ≡ Checked.Late) }
+    ensures err { IfErr result (λ why. (why ≡ PresignError.OutOfMemory)
+        ⊎ (presigning_of credential.now scope.now expires made head.now ≡ Err why)) }
 {
     credential.access();
     scope.region();

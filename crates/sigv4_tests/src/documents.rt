@@ -84,7 +84,7 @@ fn documents_have_credentials(rt: HostRuntime) {
     }
 }
 
-fn key_and_token(rt: &impl Abort, alloc: Global, session: &SessionCredential) -> String {
+pub(crate) fn key_and_token(rt: &impl Abort, alloc: Global, session: &SessionCredential) -> String {
     let access = text_of(rt, alloc, session.key().access());
     let token = text_of(rt, alloc, session.token().unwrap_or(b"none"));
     format!(in alloc; "{access} {token}").expect(rt, "memory")

@@ -21,6 +21,8 @@ mod list_users;
 #[cfg(test)]
 mod many_headers;
 #[cfg(test)]
+mod processes;
+#[cfg(test)]
 mod refusals;
 #[cfg(test)]
 mod secrets;

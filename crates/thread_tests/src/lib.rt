@@ -17,6 +17,8 @@ mod refused_memory;
 #[cfg(test)]
 mod report;
 #[cfg(test)]
+mod rotations;
+#[cfg(test)]
 mod seats;
 #[cfg(test)]
 mod serving;

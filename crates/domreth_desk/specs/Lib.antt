@@ -1,0 +1,5 @@
+pub mod TicketPolicy
+pub mod Crossing
+pub mod ReplyOut
+pub mod Events
+pub mod Setup

@@ -1,0 +1,5 @@
+pub mod Causes
+pub mod Given
+pub mod Asked
+pub mod AddedLines
+pub mod Answers
