@@ -4,6 +4,8 @@ pub mod Settings
 pub mod Sections
 pub mod Profiles
 pub mod Reads
+pub mod Order
+pub use Rattle.aws_credentials.specs.Environment
 pub use Rattle.aws_credentials.specs.Found
 pub use Rattle.credentials.specs.Home
 pub use Rattle.credentials.specs.Polled

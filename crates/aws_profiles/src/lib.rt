@@ -1,6 +1,7 @@
 //! The files in which AWS's tools keep the keys of profiles, and the provider that finds one there.
 #![tactic(auto)]
 
+mod aws_provider;
 mod fault;
 mod has_files;
 mod line;
@@ -12,6 +13,7 @@ mod settings;
 mod shared_file;
 mod texts;
 
+pub use aws_provider::{AwsLoad, AwsProvider, aws_chain};
 pub use fault::FileFault;
 pub use has_files::HasFiles;
 pub use profile_load::ProfileLoad;

@@ -35,6 +35,8 @@ mod session_refresh;
 #[cfg(test)]
 mod session_signer;
 #[cfg(test)]
+mod shared_files;
+#[cfg(test)]
 mod signed_heads;
 #[cfg(test)]
 mod suite;
