@@ -55,7 +55,8 @@ pub(crate) fn expiry(
 }
 
 fn moment_of(alloc: Global, place: &str, text: &str) -> Result<Option<Timestamp>, Error>
-    ensures { IsReading (λ moment. moment) (expiry_of DocumentForm.Endpoint place.now (Some text.now)) result }
+    ensures { IsReading (λ moment. moment)
+        (expiry_of DocumentForm.Endpoint place.now (Some text.now)) result }
 {
     match read_moment(alloc, text) {
         Some(moment) => Ok(Some(moment)),

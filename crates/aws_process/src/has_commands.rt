@@ -32,8 +32,8 @@ pub trait HasCommands: Drop {
     ) -> Result<Self::Run, NoMemory<()>>
         ensures { IfOk result (λ run. begun self.now program.now (map string_bytes args.now) run) };
 
-    /// Goes on with a run. A command that ended is `Ready`, whatever its status. A run that answered `Ready` or
-    /// `Failed` is polled no more.
+    /// Goes on with a run. A command that ended is `Ready`, whatever its status. A run that answered `Ready`
+    /// or `Failed` is polled no more.
     fn poll_command(&self, alloc: Global, run: &mut Self::Run) -> Polled<CommandOutput>
         ensures kept { (program : List ℕ) (args : List (List ℕ)) → begun self.now program args run.old
             → CanBePolledAgain result → begun self.now program args run.new }

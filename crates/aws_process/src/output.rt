@@ -63,8 +63,8 @@ fn session_in_print(alloc: Global, stdout: &[u8]) -> Result<Option<SessionCreden
 }
 
 fn refused_status(alloc: Global, status: i32) -> Error
-    ensures { IsErrorOf CredentialInvalid (codes "status " ++ (signed_decimal status ++ codes " of the process"))
-        result }
+    ensures { IsErrorOf CredentialInvalid
+        (codes "status " ++ (signed_decimal status ++ codes " of the process")) result }
 {
     match format!(in alloc; "status {status} of the process") {
         Ok(message) => Error::of(ErrorKind::CredentialInvalid, message),

@@ -1,9 +1,9 @@
 //! The credential that an answer of STS grants.
-ghost use Rattle.std.specs.Prelude.{◌≡◌, ◌⊎◌, ◌++◌, Ok, Err, Some, IfOk, IfErr, codes};
+ghost use Rattle.std.specs.Prelude.{◌≡◌, ◌⊎◌, ◌++◌, Ok, Err, IfOk, IfErr};
 ghost use Rattle.sign_base.specs.Error.{new_error};
 ghost use Rattle.sign_base.specs.declared.error_kind.ErrorKind.TheVariants.{CredentialInvalid};
 ghost use Rattle.sign_request.specs.Refusal.{IsOutOfMemory};
-ghost use Rattle.aws_credentials.specs.Found.{Found, IsFound};
+ghost use Rattle.aws_credentials.specs.Found.{IsFound};
 ghost use Rattle.aws_sts.specs.RoleAnswer.{sts_answer, expiry_in, found_until, with_its_token, granted_in_xml};
 ghost use Rattle.aws_sts.specs.RoleAnswer.{granted, status_error};
 

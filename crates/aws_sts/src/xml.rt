@@ -2,7 +2,7 @@
 ghost use Rattle.std.specs.Prelude.{◌≡◌, IfOk, drop, option_map, string_bytes};
 ghost use Rattle.std.specs.List.{list_any};
 ghost use Rattle.sign_request.specs.Query.{is_ampersand};
-ghost use Rattle.aws_sts.specs.RoleAnswer.{first_piece, unless_reference, element_text};
+ghost use Rattle.aws_sts.specs.RoleAnswer.{first_piece, element_text};
 
 use sign_base::NoMemory;
 use std::alloc::Global;

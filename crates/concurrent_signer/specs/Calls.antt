@@ -1,12 +1,12 @@
 -- What the history says of a call: how it was begun, got its credential, and ended. What was seen before
 -- and what was seen afterwards are beginnings of one legal history.
-use Rattle.std.specs.Prelude.{◌≡◌, ◌⊎◌, ℕ, ◌≤◌, Bool, true, false, IsTrue, List, [], ◌∷◌, ◌++◌, length}
-use Rattle.std.specs.Prelude.{Option, Some, None}
+use Rattle.std.specs.Prelude.{◌≡◌, ◌⊎◌, ℕ, ◌<◌, ◌≤◌, Bool, true, false, IsTrue, List, [], ◌∷◌, ◌++◌}
+use Rattle.std.specs.Prelude.{length, Option, Some, None}
 use Rattle.std.specs.declared.time.Duration.{Duration}
 use mathlib.Core.List.{IsPrefix}
 use Rattle.sign_base.specs.declared.head.Head.{Head}
 use Rattle.sign_base.specs.declared.call_id.CallId.{CallId}
-use Rattle.sequential_signer.specs.Transcript.{committed_entries}
+use Rattle.sequential_signer.specs.Transcript.{call_of, committed_entries}
 use Rattle.sequential_signer.specs.LiveCall.{live_calls}
 use Rattle.sequential_signer.specs.declared.event.Entry.{Entry}
 use Rattle.sequential_signer.specs.declared.event.Event.{Event}
@@ -25,10 +25,11 @@ module _ {K : Type 0} where
   abbrev pub begin_entry : CallId → Head → Option Duration → Reply K → Entry K
   begin_entry call head expires_in r = record { event = Begin call head expires_in; reply = r }
 
-  -- the call was begun, with this head and for so long
-  abbrev pub IsBegun : CallId → Head → Option Duration → List (Entry K) → List (Entry K) → Type 0
-  IsBegun call head expires_in before after =
-      IsAdded before (begin_entry call head expires_in reply.Begun) after
+  -- the call was begun, with this head and for so long, where fewer calls were live than the limit
+  abbrev pub IsBegun : ℕ → CallId → Head → Option Duration → List (Entry K) → List (Entry K) → Type 0
+  IsBegun limit call head expires_in before after =
+      (others : List (Entry K)) × (length (live_calls (committed_entries (before ++ others))) < limit)
+      × (after ≡ (before ++ others) ++ begin_entry call head expires_in reply.Begun ∷ [])
 
   -- the cancel of a call, with this reply
   abbrev pub cancel_entry : CallId → Reply K → Entry K
@@ -66,19 +67,29 @@ module _ {K : Type 0} where
       × IsAdded before (begin_entry call head expires_in reply.NotNow) after
   IsUnbegun limit handle head expires_in before after _ = ⊥
 
+  -- the last entry is the call's, and asks this provider
+  abbrev pub IsAsked : CallId → ℕ → List (Entry K) → Type 0
+  IsAsked call provider seen =
+      (front : List (Entry K)) × (asked : Entry K) × (seen ≡ front ++ asked ∷ [])
+      × (call_of asked.event ≡ call) × (asked.reply ≡ reply.Ask provider)
+
   module _ (gate : GateMeaning K) (call : CallId) (head : Head) where
-    -- the event is the call's, and its answer and its moment are the gate's
-    abbrev pub IsFrom : Event K → Type 0
-    IsFrom (Poll c now) = (c ≡ call) × gate.tells now
-    IsFrom (Provided c now answer) =
-        (c ≡ call) × gate.tells now × ((provider : ℕ) × gate.gives call provider answer)
-    IsFrom (Signed c verdict) = (c ≡ call) × ((credential : K) × gate.judges call credential head verdict)
-    IsFrom _ = ⊥
+    -- the event is the call's, and its answer and its moment are the gate's: of a provider that was asked by the
+    -- last entry that the thread had seen
+    abbrev pub IsFrom : List (Entry K) → Event K → Type 0
+    IsFrom seen (Poll c now) = (c ≡ call) × gate.tells now
+    IsFrom seen (Provided c now answer) =
+        (c ≡ call) × gate.tells now
+        × ((provider : ℕ) × gate.gives call provider answer × IsAsked call provider seen)
+    IsFrom seen (Signed c verdict) =
+        (c ≡ call) × ((credential : K) × gate.judges call credential head verdict)
+    IsFrom seen _ = ⊥
 
     -- the last entry is the call's, and has this reply
     abbrev pub IsReplied : List (Entry K) → Reply K → List (Entry K) → Type 0
     IsReplied before r after =
-        (entry : Entry K) × IsFrom entry.event × (entry.reply ≡ r) × IsAdded before entry after
+        (seen : List (Entry K)) × (entry : Entry K) × IsPrefix before seen × IsFrom seen entry.event
+        × (entry.reply ≡ r) × IsAdded seen entry after
 
     -- the call has this credential to sign with
     abbrev pub IsHandedOut : K → List (Entry K) → List (Entry K) → Type 0
@@ -104,11 +115,11 @@ module _ {K : Type 0} where
     IsEnded before after Busy = ⊥
 
 -- The call was begun with this head, then handed out a credential, and done with what its service accepted.
-abbrev pub IsSigned : {K : Type 0} → GateMeaning K → ℕ → Head → Option Duration → Head
+abbrev pub IsSigned : {K : Type 0} → GateMeaning K → ℕ → ℕ → Head → Option Duration → Head
     → List (Entry K) → List (Entry K) → Type 0
-IsSigned {K} gate handle head expires_in signed before after =
+IsSigned {K} gate limit handle head expires_in signed before after =
     (call : CallId) × (credential : K) × (begun out : List (Entry K)) × (call.handle ≡ handle)
-    × IsBegun call head expires_in before begun × IsHandedOut gate call head credential begun out
+    × IsBegun limit call head expires_in before begun × IsHandedOut gate call head credential begun out
     × IsAccepted gate call head credential signed out after
 
 -- Why there is no signed head: nothing was begun, or the call that was begun ended so.
@@ -117,4 +128,4 @@ abbrev pub IsCauseOf : {K : Type 0} → GateMeaning K → ℕ → ℕ → Head �
 IsCauseOf {K} gate limit handle head expires_in before after refusal =
     IsUnbegun limit handle head expires_in before after refusal
     ⊎ ((call : CallId) × (begun : List (Entry K)) × (call.handle ≡ handle)
-    × IsBegun call head expires_in before begun × IsEnded gate call head begun after refusal)
+    × IsBegun limit call head expires_in before begun × IsEnded gate call head begun after refusal)

@@ -78,7 +78,7 @@ impl<K: SigningCredential, D: DeadlineRule<Credential = K>, N: SetUp<D>> LockedD
     }
 
     /// Begins a call under the handle, unless as many are live as there may be.
-    #[tactic(auto, using(crate::proofs::Adding::added_behind))]
+    #[tactic(auto, using(crate::proofs::Adding::added_behind, crate::proofs::Adding::begun_behind))]
     pub(crate) fn begin<R: Wait>(
         &mut self,
         rt: &R,
@@ -90,7 +90,7 @@ impl<K: SigningCredential, D: DeadlineRule<Credential = K>, N: SetUp<D>> LockedD
         expires_in: Option<Duration>,
     ) -> Result<CallId, Refusal>
         ensures ok { IfOk result (λ call. (call.handle ≡ handle)
-            × IsBegun call head expires_in me.old me.new) }
+            × IsBegun limit call head expires_in me.old me.new) }
         ensures err { IfErr result (IsUnbegun limit handle head expires_in me.old me.new) }
     {
         let call = CallId {

@@ -100,7 +100,7 @@ where
     ghost use Rattle.sign_desk.specs.ReplyKinds.{is_reply_to};
     ghost use Rattle.signer_shared.specs.Gates.{IfAnswered};
     ghost use Rattle.concurrent_signer.specs.Entries.{IsAdded};
-    ghost use Rattle.concurrent_signer.specs.Calls.{IsBegun, IsUnbegun, IsFrom, IsReplied, IsHandedOut};
+    ghost use Rattle.concurrent_signer.specs.Calls.{IsBegun, IsUnbegun, IsAsked, IsFrom, IsReplied, IsHandedOut};
     ghost use Rattle.concurrent_signer.specs.Calls.{IsAccepted, IsCancelled, IsEnded, IsSigned, IsCauseOf};
 
     /// Signs a head under the handle. The thread is blocked until its call is over: it sleeps until the call
@@ -118,8 +118,8 @@ where
         head: &mut Head,
         expires_in: Option<Duration>,
     ) -> Result<(), Refusal>
-        ensures ok { OnOk result (IsSigned (G.meaning self.now.gate) handle head.old expires_in head.new
-            me.old me.new) }
+        ensures ok { OnOk result (IsSigned (G.meaning self.now.gate) self.now.limit handle head.old expires_in
+            head.new me.old me.new) }
         ensures err { IfErr result (IsCauseOf (G.meaning self.now.gate) self.now.limit handle head.old
             expires_in me.old me.new) }
         ensures unchanged { OnErr result (head.new ≡ head.old) }
@@ -139,7 +139,7 @@ where
         expires_in: Option<Duration>,
     ) -> Result<CallId, Refusal>
         ensures ok { IfOk result (λ call. (call.handle ≡ handle)
-            × IsBegun call head.now expires_in me.old me.new) }
+            × IsBegun self.now.limit call head.now expires_in me.old me.new) }
         ensures err { IfErr result (IsUnbegun self.now.limit handle head.now expires_in me.old me.new) }
     {
         let Ok(copy) = head.try_clone(self.alloc) else {
@@ -239,6 +239,7 @@ where
         head: &Head,
         provider: u32,
     ) -> Result<Reply<K>, Refusal>
+        requires { IsAsked call provider me.old }
         ensures ok { IfOk result (λ reply.
             IsReplied (G.meaning self.now.gate) call head.now me.old reply me.new) }
         ensures err { IfErr result (IsEnded (G.meaning self.now.gate) call head.now me.old me.new) }
@@ -372,7 +373,7 @@ where
         head: &Head,
         event: Event<K>,
     ) -> Reply<K>
-        requires { IsFrom (G.meaning self.now.gate) call head.now event }
+        requires { IsFrom (G.meaning self.now.gate) call head.now me.old event }
         ensures { IsReplied (G.meaning self.now.gate) call head.now me.old result me.new }
     {
         let _ = call;

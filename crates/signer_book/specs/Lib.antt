@@ -8,6 +8,6 @@ pub mod Doubles
 pub use Rattle.desk_parts.specs.LiveCallView
 pub use Rattle.desk_parts.specs.Tables
 pub use Rattle.sequential_signer.specs.Policy
-pub use Rattle.sequential_signer.specs.Transcript
 pub use Rattle.sign_desk.specs.DeskState
+pub use Rattle.sign_desk.specs.Idle
 pub use Rattle.sign_desk.specs.ReplyKinds

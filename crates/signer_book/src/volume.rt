@@ -134,6 +134,7 @@ where
         ensures passes { IfOk result (λ s. s.passes.items ≡ passes.items) }
         ensures back { IfErr result
             (λ r. (r.volume ≡ self) × (r.plan ≡ plan) × (r.passes.items ≡ passes.items)) }
+        ensures kept { IfErr result (λ r. IsVolume (policy_of K.valid K.valid_at D.deadline) r.volume) }
         ensures why { IfErr result (λ r. IsVolumeCause plan self passes.items r.why) }
     {
         if let Err(why) = self.check(&plan, passes.as_slice()) {
@@ -175,6 +176,7 @@ where
         ensures passes { IfOk result (λ n. n.passes.items ≡ passes.items) }
         ensures back { IfErr result
             (λ r. (r.volume ≡ self) × (r.plan ≡ plan) × (r.passes.items ≡ passes.items)) }
+        ensures kept { IfErr result (λ r. IsVolume (policy_of K.valid K.valid_at D.deadline) r.volume) }
         ensures why { IfErr result (λ r. IsRotateCause plan self passes.items r.why) }
     {
         match self.turn(&mut plan, passes.as_slice()) {

@@ -5,7 +5,11 @@
 #![tactic(auto)]
 
 #[cfg(test)]
+mod checked_heads;
+#[cfg(test)]
 mod claims;
+#[cfg(test)]
+mod containers;
 #[cfg(test)]
 mod documents;
 #[cfg(test)]

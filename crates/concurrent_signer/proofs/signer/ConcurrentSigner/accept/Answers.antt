@@ -1,7 +1,7 @@
 use Rattle.std.proofs.Common.{refl}
 use Rattle.sequential_signer.specs.declared.event.Reply.TheVariants as reply
 use Rattle.concurrent_signer.specs.Calls.{IsFrom}
-use Rattle.concurrent_signer.proofs.Adding.{unfit_behind}
+use Rattle.concurrent_signer.proofs.Adding.{begins_itself, unfit_behind}
 use Rattle.concurrent_signer.proofs.signer.ConcurrentSigner.accept.Goals as goal
 
 pub returns-in-NotNow-clause-err : goal.returns-in-NotNow-clause-err
@@ -9,7 +9,7 @@ returns-in-NotNow-clause-err g c =
     let gate = g.G.Gate.meaning c.args.self.now.gate in
     let head = c.args.head.now in
     let entry = c.step-event.result in
-    let from : IsFrom gate c.args.call head entry.event =
+    let from : IsFrom gate c.args.call head c.args.me.now entry.event =
     rw c.step-event.ensures.event (refl, (c.args.credential.now, c.requires.judged)) in
     unfit_behind gate c.args.call head c.give_up.result c.args.me.now c.step-event.new.me c.give_up.new.me reply.NotNow
-    c.give_up.ensures.why refl (entry, from, c.in-NotNow.is, c.step-event.ensures.added) c.give_up.ensures.cancelled
+    c.give_up.ensures.why refl (c.args.me.now, entry, begins_itself c.args.me.now, from, c.in-NotNow.is, c.step-event.ensures.added) c.give_up.ensures.cancelled

@@ -1,6 +1,11 @@
 use Rattle.std.proofs.Common.{refl}
-use Rattle.concurrent_signer.proofs.Adding.{replies_behind, unfit_behind}
+use Rattle.concurrent_signer.proofs.Adding.{asked_last, replies_behind, unfit_behind}
 use Rattle.concurrent_signer.proofs.signer.ConcurrentSigner.credential.Goals as goal
+
+pub load-requires : goal.load-requires
+load-requires g c =
+    asked_last (g.G.Gate.meaning c.args.self.now.gate) c.args.call c.args.head.now c.args.me.now c.loop.me
+    c.loop.reply c.in-Ask.provider c.in-Ask.is c.loop.invariant
 
 pub loop-preserved-in_ok-reply-in-Pending : goal.loop-preserved-in_ok-reply-in-Pending
 loop-preserved-in_ok-reply-in-Pending g c =

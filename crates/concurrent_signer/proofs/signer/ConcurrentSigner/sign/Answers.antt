@@ -14,7 +14,7 @@ returns-clause-ok g c =
     let signed = c.sign_with.new.head in
     IfOk-weaker c.sign_with.result
     (λ _. IsAccepted gate call head credential signed c.credential.new.me c.sign_with.new.me)
-    (λ _. IsSigned gate c.args.handle head c.args.expires_in signed c.args.me.now c.sign_with.new.me)
+    (λ _. IsSigned gate c.args.self.now.limit c.args.handle head c.args.expires_in signed c.args.me.now c.sign_with.new.me)
     (λ _ accepted. (
       call,
       credential,
