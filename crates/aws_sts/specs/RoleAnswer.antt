@@ -35,6 +35,7 @@ element_text tag xml =
 abbrev pub expiry_in : List ℕ → Option ℤ
 expiry_in xml = option_and_then read_moment (element_text (codes "Expiration>") xml)
 
+-- the place that messages name
 abbrev pub sts_answer : List ℕ
 sts_answer = codes "the answer of STS"
 

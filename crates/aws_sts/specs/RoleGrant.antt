@@ -24,7 +24,8 @@ poll_answer (Err e) = polled.Failed e
 -- what a poll makes of the answer of the HTTP object: it passes on all but a response, and reads that
 abbrev pub IsReadAs : Polled (Response (List ℕ)) → Polled Session → Type 0
 IsReadAs polled.Pending answer = answer ≡ polled.Pending
-IsReadAs (polled.Ready response) answer = (answer ≡ poll_answer (granted response)) ⊎ (answer ≡ polled.OutOfMemory)
+IsReadAs (polled.Ready response) answer =
+    (answer ≡ poll_answer (granted response)) ⊎ (answer ≡ polled.OutOfMemory)
 IsReadAs (polled.Failed e) answer = answer ≡ polled.Failed e
 IsReadAs polled.OutOfMemory answer = answer ≡ polled.OutOfMemory
 

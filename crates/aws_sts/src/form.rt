@@ -36,7 +36,8 @@ fn push_duration(
     form: &mut Vec<u8>,
     expires_in: Option<Duration>,
 ) -> Result<(), NoMemory<()>>
-    ensures { OnOk result (form.new.items ≡ form.old.items ++ duration_pair (option_map as_nanos expires_in)) }
+    ensures { OnOk result
+        (form.new.items ≡ form.old.items ++ duration_pair (option_map as_nanos expires_in)) }
 {
     if let Some(duration) = expires_in {
         let seconds = duration.as_secs();

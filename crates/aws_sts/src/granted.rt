@@ -4,8 +4,8 @@ ghost use Rattle.sign_base.specs.Error.{new_error};
 ghost use Rattle.sign_base.specs.declared.error_kind.ErrorKind.TheVariants.{CredentialInvalid};
 ghost use Rattle.sign_request.specs.Refusal.{IsOutOfMemory};
 ghost use Rattle.aws_credentials.specs.Found.{IsFound};
-ghost use Rattle.aws_sts.specs.RoleAnswer.{sts_answer, expiry_in, found_until, with_its_token, granted_in_xml};
-ghost use Rattle.aws_sts.specs.RoleAnswer.{granted, status_error};
+ghost use Rattle.aws_sts.specs.RoleAnswer.{sts_answer, expiry_in, found_until, with_its_token};
+ghost use Rattle.aws_sts.specs.RoleAnswer.{granted_in_xml, granted, status_error};
 
 use crate::xml::element_text;
 use aws_credentials::{KeyTexts, SessionCredential, session_in};

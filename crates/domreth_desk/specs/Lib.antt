@@ -3,3 +3,7 @@ pub mod Crossing
 pub mod ReplyOut
 pub mod Events
 pub mod Setup
+pub use Rattle.desk_parts.specs.Adding
+pub use Rattle.sequential_signer.specs.Deadline
+pub use Rattle.sign_base.specs.Moment
+pub use Rattle.sign_desk.specs.DeskState

@@ -10,4 +10,6 @@ pub use Rattle.sequential_signer.specs.Policy
 pub use Rattle.sign_desk.specs.DeskState
 pub use Rattle.sign_desk.specs.ReplyKinds
 pub use Rattle.signer_book.specs.Close
+pub use Rattle.signer_book.specs.Rotate
 pub use Rattle.signer_book.specs.Settled
+pub use Rattle.signer_book.specs.VolumeState

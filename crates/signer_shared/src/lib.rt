@@ -21,6 +21,6 @@ pub use rotating::{Rotated, RotatingSigner};
 pub use serve::serve_jobs;
 pub use shared::SharedSigner;
 pub use signer_book::{
-    Book, CloseError, CloseRefused, Entry, Pass, Receipt, RotateError, RotateRefused, Settled, Volume,
-    VolumeError, VolumeRefused,
+    Book, CloseError, CloseRefused, Entry, Pass, Receipt, RotateError, RotateRefused, Settled,
+    Volume, VolumeError, VolumeRefused,
 };

@@ -128,7 +128,9 @@ where
 }
 
 /// The next volume, to be shared.
-fn share_next<K: SigningCredential, D: DeadlineRule<Credential = K>>(next: NextVolume<K, D>) -> Rotated<K, D>
+fn share_next<K: SigningCredential, D: DeadlineRule<Credential = K>>(
+    next: NextVolume<K, D>,
+) -> Rotated<K, D>
     requires { next.plan ≡ next.volume.opened }
     ensures { (result.signer ≡ next.plan) × (result.journal.items ≡ next.journal.items)
         × (result.passes.items ≡ next.passes.items) }
