@@ -1,4 +1,5 @@
 //! The commands of `signctl` over bytes.
+use crate::room::text_of;
 use crate::{Command, RunError, ffi};
 
 /// The output of the command to the input: what the program writes to it. It is a function of both.
@@ -17,31 +18,20 @@ use crate::{Command, RunError, ffi};
 /// # Ok::<(), RunError>(())
 /// ```
 pub fn run(command: Command, input: &[u8]) -> Result<Vec<u8>, RunError> {
-    let mut output = vec![0; input.len().saturating_mul(2).saturating_add(1024)];
-    loop {
-        let (status, needed) = call(command, input, &mut output);
-        match status {
-            ffi::DONE => {
-                output.truncate(needed);
-                return Ok(output);
-            }
-            ffi::BAD_LINE => {
-                output.truncate(needed);
-                return Err(RunError::BadLine(output));
-            }
-            ffi::NO_ROOM => output = vec![0; needed],
-            ffi::OUT_OF_MEMORY => return Err(RunError::OutOfMemory),
-            other => return Err(RunError::Status(other)),
-        }
+    let room = input.len().saturating_mul(2).saturating_add(1024);
+    match text_of(room, |output, needed| call(command, input, output, needed)) {
+        (ffi::DONE, text) => Ok(text),
+        (ffi::BAD_LINE, text) => Err(RunError::BadLine(text)),
+        (ffi::OUT_OF_MEMORY, _) => Err(RunError::OutOfMemory),
+        (other, _) => Err(RunError::Status(other)),
     }
 }
 
-fn call(command: Command, input: &[u8], output: &mut [u8]) -> (u8, usize) {
+fn call(command: Command, input: &[u8], output: &mut [u8], needed: &mut usize) -> u8 {
     let name = command.name();
-    let mut needed = 0;
     // SAFETY: the declaration fits the export; each pointer and length are those of one slice that is lent for the
     // call, the output and `needed` to it alone; and the export asks nothing of its values.
-    let status = unsafe {
+    unsafe {
         ffi::domreth_run(
             name.as_ptr(),
             name.len(),
@@ -49,8 +39,7 @@ fn call(command: Command, input: &[u8], output: &mut [u8]) -> (u8, usize) {
             input.len(),
             output.as_mut_ptr(),
             output.len(),
-            &mut needed,
+            needed,
         )
-    };
-    (status, needed)
+    }
 }

@@ -14,7 +14,8 @@ ByProvider (provider.Environment environment) Environment Profile = Environment
 ByProvider (provider.Profile chosen) Environment Profile = Profile chosen
 
 -- the load is of this provider, and that of files has this fact
-abbrev pub ByLoad : {X R : Type 0} → AwsProvider X → AwsLoad R → (Option (List ℕ) → Progress R → Type 0) → Type 0
+abbrev pub ByLoad : {X R : Type 0} → AwsProvider X → AwsLoad R → (Option (List ℕ) → Progress R → Type 0)
+    → Type 0
 ByLoad (provider.Environment environment) load.Environment Profile = ⊤
 ByLoad (provider.Environment environment) (load.Profile of) Profile = ⊥
 ByLoad (provider.Profile chosen) load.Environment Profile = ⊥
@@ -22,5 +23,6 @@ ByLoad (provider.Profile chosen) (load.Profile of) Profile = Profile chosen of
 
 -- first the environment, and then the files, of the profile that the environment names
 abbrev pub IsDefaultOrder : {X : Type 0} → Providers (AwsProvider X) → Type 0
-IsDefaultOrder (providers.Chain (provider.Environment environment ∷ (provider.Profile chosen ∷ []))) = chosen ≡ None
+IsDefaultOrder (providers.Chain (provider.Environment environment ∷ (provider.Profile chosen ∷ []))) =
+    chosen ≡ None
 IsDefaultOrder other = ⊥

@@ -74,8 +74,8 @@ module _ {K : Type 0} where
       × (call_of asked.event ≡ call) × (asked.reply ≡ reply.Ask provider)
 
   module _ (gate : GateMeaning K) (call : CallId) (head : Head) where
-    -- the event is the call's, and its answer and its moment are the gate's: of a provider that was asked by the
-    -- last entry that the thread had seen
+    -- the event is the call's, and its answer and its moment are the gate's: of a provider that was asked by
+    -- the last entry that the thread had seen
     abbrev pub IsFrom : List (Entry K) → Event K → Type 0
     IsFrom seen (Poll c now) = (c ≡ call) × gate.tells now
     IsFrom seen (Provided c now answer) =

@@ -100,7 +100,8 @@ where
     ghost use Rattle.sign_desk.specs.ReplyKinds.{is_reply_to};
     ghost use Rattle.signer_shared.specs.Gates.{IfAnswered};
     ghost use Rattle.concurrent_signer.specs.Entries.{IsAdded};
-    ghost use Rattle.concurrent_signer.specs.Calls.{IsBegun, IsUnbegun, IsAsked, IsFrom, IsReplied, IsHandedOut};
+    ghost use Rattle.concurrent_signer.specs.Calls.{IsBegun, IsUnbegun, IsAsked, IsFrom, IsReplied};
+    ghost use Rattle.concurrent_signer.specs.Calls.{IsHandedOut};
     ghost use Rattle.concurrent_signer.specs.Calls.{IsAccepted, IsCancelled, IsEnded, IsSigned, IsCauseOf};
 
     /// Signs a head under the handle. The thread is blocked until its call is over: it sleeps until the call

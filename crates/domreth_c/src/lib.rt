@@ -1,16 +1,20 @@
-//! The static library: `domreth_run` for callers that are no Rattle crate.
-//! `bindings/c/domreth.h` declares the call, and says who owns what.
+//! The static library: calls for callers that are no Rattle crate. `bindings/c/domreth.h` declares them,
+//! and says who owns what.
 //!
 //! A slice crosses to C as its pointer and then its length, and a `Global` as nothing.
 #![tactic(auto)]
 
 ghost use Rattle.signctl_core.specs.Commands.{command_by_word};
-ghost use Rattle.domreth_c.specs.Call.{IsCall};
+ghost use Rattle.domreth_sign.specs.Answers.{signed_lines, link_text, link_check};
+ghost use Rattle.domreth_c.specs.Call.{IsCall, IsTextCall, IsCheck};
 
+mod refusal_status;
 mod room;
 
 use domreth_run::{Answer, HeaderSeeds, NoAnswer};
-use room::hand_over;
+use domreth_sign::{GivenHead, GivenKey, check_link, make_link, sign_lines};
+use refusal_status::refusal_status;
+use room::{hand_over, status_of};
 use std::alloc::Global;
 
 /// Runs the command of this name over the input, and hands its output over where there is room for it.
@@ -39,7 +43,12 @@ pub extern "C" fn domreth_run(
         (record { old = output.old; new = output.new; needed = needed.new }) }
 {
     match Answer::of(alloc, command, input, HeaderSeeds::default()) {
-        Ok(answer) => hand_over(&answer, output, needed),
+        Ok(answer) => hand_over(
+            answer.text.as_slice(),
+            status_of(answer.is_good),
+            output,
+            needed,
+        ),
         Err(why) => {
             *needed = 0;
             match why {
@@ -47,5 +56,81 @@ pub extern "C" fn domreth_run(
                 NoAnswer::OutOfMemory => 6,
             }
         }
+    }
+}
+
+/// Signs a head in its headers, and hands the headers that the signature adds over, a line of HTTP/1.1
+/// each: `host` where the head has none, `x-amz-date` and `authorization`. The last two are in the place of
+/// those that the head has.
+///
+/// | status | when | `needed` | `output` begins with |
+/// |---|---|---|---|
+/// | 0 | the head is signed | the length of the lines | the lines |
+/// | 5 | they do not fit | their length | what stood there |
+/// | the cause's | there is a cause why not: the first of `Refusal` | 0 | what stood there |
+/// | 6 | an allocation failed | 0 | what stood there |
+///
+/// The payload is the SHA-256 of the content in lower-case hexadecimal, or `UNSIGNED-PAYLOAD`, and the
+/// moment is in seconds since the start of 1970. Nothing else in `output` changes.
+#[unsafe(no_mangle)]
+pub extern "C" fn domreth_sign(
+    alloc: Global,
+    head: &GivenHead<'_>,
+    key: &GivenKey<'_>,
+    payload: &[u8],
+    second: i64,
+    output: &mut [u8],
+    needed: &mut usize,
+) -> u8
+    ensures { IsTextCall (signed_lines head.now key.now payload.now second) result
+        (record { old = output.old; new = output.new; needed = needed.new }) }
+{
+    match sign_lines(alloc, head, key, payload, second) {
+        Ok(lines) => hand_over(lines.as_slice(), 0, output, needed),
+        Err(why) => {
+            *needed = 0;
+            refusal_status(why)
+        }
+    }
+}
+
+/// Makes a link by which who has it can send this request for so many seconds, and hands it over, as
+/// `domreth_sign` hands its lines over.
+#[unsafe(no_mangle)]
+pub extern "C" fn domreth_presign(
+    alloc: Global,
+    head: &GivenHead<'_>,
+    key: &GivenKey<'_>,
+    expires: u32,
+    second: i64,
+    output: &mut [u8],
+    needed: &mut usize,
+) -> u8
+    ensures { IsTextCall (link_text head.now key.now expires second) result
+        (record { old = output.old; new = output.new; needed = needed.new }) }
+{
+    match make_link(alloc, head, key, expires, second) {
+        Ok(link) => hand_over(link.as_slice(), 0, output, needed),
+        Err(why) => {
+            *needed = 0;
+            refusal_status(why)
+        }
+    }
+}
+
+/// Checks the head's URI as a link of this key at the moment. The status is 0 where it is valid, 6 where an
+/// allocation failed, and else that of the first cause of `Refusal` that holds.
+#[unsafe(no_mangle)]
+pub extern "C" fn domreth_verify(
+    alloc: Global,
+    head: &GivenHead<'_>,
+    key: &GivenKey<'_>,
+    second: i64,
+) -> u8
+    ensures { IsCheck (link_check head.now key.now second) result }
+{
+    match check_link(alloc, head, key, second) {
+        Ok(()) => 0,
+        Err(why) => refusal_status(why),
     }
 }

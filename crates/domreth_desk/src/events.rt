@@ -67,7 +67,8 @@ pub fn failed(
     now: GivenMoment,
     failure: u64,
 ) -> Option<DeskReply>
-    ensures { AnswersGiven (provided_given call now (Answer.Failed failure)) desk.old.desk result desk.new.desk }
+    ensures { AnswersGiven (provided_given call now (Answer.Failed failure))
+        desk.old.desk result desk.new.desk }
 {
     provided(desk, call, now, Answer::Failed(failure))
 }
@@ -122,7 +123,8 @@ pub fn cancel(desk: &mut TicketDesk, call: CallId) -> DeskReply
 
 /// The credential that the cache holds, if there is such a cache and it holds one.
 pub fn cached(desk: &TicketDesk, cache: u32) -> Option<GivenTicket>
-    ensures { result ≡ option_map ticket_out (option_and_then (λ held. held) (slice_get desk.now.desk.caches cache)) }
+    ensures { result
+        ≡ option_map ticket_out (option_and_then (λ held. held) (slice_get desk.now.desk.caches cache)) }
 {
     match desk.desk.cached(cache) {
         Some(ticket) => Some(GivenTicket::of(*ticket)),

@@ -37,7 +37,8 @@ pub fn sign_lines(
 /// The lines that sign what is asked for.
 fn signed(alloc: Global, asked: &Asked, payload: &Payload) -> Result<Vec<u8>, Refusal>
     ensures { Answers (λ text. text.items) (by_signing asked.now.head
-        (signing_of asked.now.credential asked.now.scope payload.now asked.now.moment asked.now.head)) result }
+        (signing_of asked.now.credential asked.now.scope payload.now asked.now.moment asked.now.head))
+        result }
 {
     let Asked {
         moment,

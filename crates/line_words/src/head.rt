@@ -117,11 +117,7 @@ fn parse_field(alloc: Global, word: &[u8]) -> Result<Field, ReadError>
 }
 
 /// The name of a header, and the word of its value.
-#[tactic(auto, using(
-    crate::proofs::HeadNames::name_found,
-    crate::proofs::HeadNames::no_colon_found,
-    crate::proofs::HeadNames::no_name_found
-))]
+#[tactic(auto, using(crate::proofs::HeadNames::name_found, crate::proofs::HeadNames::no_colon_found, crate::proofs::HeadNames::no_name_found))]
 fn name_and_value(word: &[u8]) -> Result<(&[u8], &[u8]), NotUnderstood>
     ensures { MatchResult result
         (λ x. field_of word.now ≡ field_named x.0.now (value_of x.1.now))

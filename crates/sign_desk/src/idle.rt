@@ -1,5 +1,5 @@
-//! A desk without live calls: a copy of what it keeps beside its setup, by which another desk of that setup is
-//! compared with it, or made like it.
+//! A desk without live calls: a copy of what it keeps beside its setup, by which another desk of that setup
+//! is compared with it, or made like it.
 ghost use Rattle.std.specs.Prelude.{◌≡◌, ◌≢◌, MatchBool, IfOk, OnOk, OnErr, length};
 
 use crate::desk::Desk;
@@ -9,8 +9,8 @@ use sign_base::{EqualByValue, NoMemory, is_same};
 use std::alloc::Global;
 use std::marker::Model;
 
-/// What a desk without live calls keeps beside its setup: the credential of each cache, the number of the last
-/// call begun under each handle, and whether a call was begun.
+/// What a desk without live calls keeps beside its setup: the credential of each cache, the number of the
+/// last call begun under each handle, and whether a call was begun.
 #[derive(Drop)]
 pub struct IdleDesk<K> {
     caches: Vec<Option<K>>,

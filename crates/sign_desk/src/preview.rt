@@ -112,7 +112,7 @@ impl<K: SigningCredential, D: DeadlineRule<Credential = K>> State<K, D> {
         requires { StepPrecondition self.now }
         ensures done { Previews
             (action_of (policy_for K.SigningCredential D.DeadlineRule) self.now
-                (Provided call now answer.now)) result }
+            (Provided call now answer.now)) result }
         ensures memory { ClonesAreFree K.clones_freely → result ≢ OutOfMemory }
     {
         let Some(view) = self.find(call) else {

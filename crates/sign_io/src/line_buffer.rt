@@ -12,7 +12,7 @@ ghost use Rattle.sign_io.specs.Window.{ReadsPiece};
 ghost use Rattle.sign_io.specs.LineBuffer.{step_answer, Fills, is_failed};
 
 use crate::window::Window;
-use crate::{InputEnd, Failed, Source};
+use crate::{Failed, InputEnd, Source};
 use memchr::memchr;
 use sign_base::NoMemory;
 use std::alloc::Global;

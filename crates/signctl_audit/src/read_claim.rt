@@ -130,11 +130,7 @@ fn parse_cancelled(rest: &[u8]) -> Result<ClaimedReply, NotUnderstood>
 }
 
 /// Why a call was refused, and what stands after it.
-#[tactic(auto, unfolding(
-    crate::specs::ClaimReading::why_at,
-    crate::specs::ClaimReading::loader_at,
-    crate::specs::ClaimReading::service_at
-))]
+#[tactic(auto, unfolding(crate::specs::ClaimReading::why_at, crate::specs::ClaimReading::loader_at, crate::specs::ClaimReading::service_at))]
 fn why_at(rest: &[u8]) -> Result<(ClaimedWhy, &[u8]), NotUnderstood>
     ensures { Reads (λ x. (x.0, words_after x.1.now)) result (why_at (words_after rest.now)) }
 {

@@ -6,8 +6,8 @@ use line_words::ReadError;
 use sign_base::NoMemory;
 use std::alloc::Global;
 
-/// A command that answers each line by itself. It is asked only for lines that say something. It may keep what
-/// saves work at a later line, and no answer depends on that.
+/// A command that answers each line by itself. It is asked only for lines that say something. It may keep
+/// what saves work at a later line, and no answer depends on that.
 pub trait EachLine: Drop {
     /// What a line says.
     type Item: Drop;

@@ -12,8 +12,8 @@ use std::alloc::Global;
 
 /// The command `sigv4`. It has no debug form.
 ///
-/// It keeps the signing key of the last line that needed one, with the secret of that line, so that a line with the
-/// same credential, scope and day takes one HMAC in place of five. No answer depends on it.
+/// It keeps the signing key of the last line that needed one, with the secret of that line, so that a line
+/// with the same credential, scope and day takes one HMAC in place of five. No answer depends on it.
 #[derive(Drop)]
 pub struct Sigv4Command {
     keys: HeaderSeeds,
@@ -21,8 +21,9 @@ pub struct Sigv4Command {
 }
 
 impl Sigv4Command {
-    /// The names of headers come from outside, so these keys are handed on, for the map that a head is tested by
-    /// which has more headers than one may have names. No line has so many, and no answer depends on the keys.
+    /// The names of headers come from outside, so these keys are handed on, for the map that a head is tested
+    /// by which has more headers than one may have names. No line has so many, and no answer depends on the
+    /// keys.
     pub fn new(keys: HeaderSeeds) -> Sigv4Command {
         Sigv4Command {
             keys,

@@ -26,11 +26,7 @@ pub fn read_grant_line(line: &[u8]) -> Option<Item<GrantScriptEvent>>
     }
 }
 
-#[tactic(auto, unfolding(
-    crate::specs::GrantReading::grant_item_of,
-    crate::specs::GrantReading::grant_words_say,
-    crate::specs::GrantReading::grant_form
-))]
+#[tactic(auto, unfolding(crate::specs::GrantReading::grant_item_of, crate::specs::GrantReading::grant_words_say, crate::specs::GrantReading::grant_form))]
 fn parse_item(line: &[u8]) -> Result<Item<GrantScriptEvent>, NotUnderstood>
     ensures { Reads (λ i. i) result (grant_item_of line.now) }
 {

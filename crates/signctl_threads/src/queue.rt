@@ -19,15 +19,11 @@ use std::sync::Wait;
 use std::thread::Threads;
 
 /// Serves so many jobs by so many workers through a queue, and writes the line of the books.
-pub(crate) fn run_queue_command<G: Gate<ScriptCredential> + Sync, D: Sink, R: Threads + Wait + Sync>(
-    rt: &R,
-    alloc: Global,
-    workers: u32,
-    jobs: u64,
-    capacity: u64,
-    gate: &G,
-    sink: &mut D,
-) -> PoolEnd
+pub(crate) fn run_queue_command<
+    G: Gate<ScriptCredential> + Sync,
+    D: Sink,
+    R: Threads + Wait + Sync,
+>(rt: &R, alloc: Global, workers: u32, jobs: u64, capacity: u64, gate: &G, sink: &mut D) -> PoolEnd
     requires some { 0 < workers }
     requires jobs { jobs ≤ most_jobs }
     requires capacity { (0 < capacity) × (capacity ≤ most_capacity) }

@@ -1,4 +1,5 @@
-//! A desk, and the journal of its events and replies since some moment: what a book and a volume have in common.
+//! A desk, and the journal of its events and replies since some moment: what a book and a volume have in
+//! common.
 ghost use Rattle.std.specs.Prelude.{◌≡◌, ◌≢◌, ◌++◌, ◌∷◌, [], ◌<◌, true, List, IfSome, MatchResult};
 ghost use Rattle.std.specs.Prelude.{IsSome, IsTrue, length};
 ghost use Rattle.sign_base.specs.declared.call_id.CallId.{CallId};
@@ -29,7 +30,8 @@ use std::marker::Model;
 use std::mem;
 
 /// A desk and its journal. The desk represents some past with the journal behind it, and there is room in the
-/// journal for a cancel of each live call, and for what closing takes: `owners` has a mark for each entry then.
+/// journal for a cancel of each live call, and for what closing takes: `owners` has a mark for each entry
+/// then.
 #[derive(Drop)]
 pub struct JournaledDesk<K: SigningCredential, D: DeadlineRule<Credential = K>> {
     desk: Desk<K, D>,
@@ -75,8 +77,10 @@ impl<K: SigningCredential, D: DeadlineRule<Credential = K>> JournaledDesk<K, D> 
     /// the begin and no cancel.
     pub fn apply(&mut self, pass: &mut Pass<K>, event: &Event<K>) -> Reply<K>
         ensures follows { (before : List (Entry K))
-            → Represents (policy_of K.valid K.valid_at D.deadline) self.old.desk (before ++ self.old.journal)
-            → Represents (policy_of K.valid K.valid_at D.deadline) self.new.desk (before ++ self.new.journal) }
+            → Represents (policy_of K.valid K.valid_at D.deadline)
+            self.old.desk (before ++ self.old.journal)
+            → Represents (policy_of K.valid K.valid_at D.deadline)
+            self.new.desk (before ++ self.new.journal) }
         ensures journal { result ≢ OutOfMemory
             → self.new.journal ≡ self.old.journal ++ record { event = event.now; reply = result } ∷ [] }
         ensures receipt { result ≢ OutOfMemory → pass.new ≡ pass.old ++ record {

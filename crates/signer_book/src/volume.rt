@@ -1,5 +1,5 @@
-//! A volume of a history that goes on: a book that is opened at a desk with a past. It keeps a copy of what that
-//! desk was, by which the plan is compared with it when it is closed.
+//! A volume of a history that goes on: a book that is opened at a desk with a past. It keeps a copy of what
+//! that desk was, by which the plan is compared with it when it is closed.
 ghost use Rattle.std.specs.Prelude.{◌≡◌, ◌≢◌, ◌++◌, ◌∷◌, [], ◌<◌, true, IfOk, IfErr, IfSome, IsOk};
 ghost use Rattle.std.specs.Prelude.{IsSome, IsTrue, MatchBool, MatchOption, MatchResult, length};
 ghost use Rattle.sign_base.specs.declared.call_id.CallId.{CallId};
@@ -116,8 +116,8 @@ where
     K: SigningCredential + EqualByValue,
     D: DeadlineRule<Credential = K> + EqualByValue,
 {
-    /// Closes the volume with the passes of its steps, as a book is closed. `plan` is a desk like the one that
-    /// the volume was opened at: whatever that represented, the journal is legal behind it.
+    /// Closes the volume with the passes of its steps, as a book is closed. `plan` is a desk like the one
+    /// that the volume was opened at: whatever that represented, the journal is legal behind it.
     ///
     /// Errors: the first of `VolumeError` that holds, with everything handed back as it was.
     pub fn close(
@@ -156,8 +156,8 @@ where
     }
 
     /// Closes the volume with the passes of its steps, and opens the next one at its desk, where no call is
-    /// live. The plan is made like that desk. It takes room for two copies of the credential in each cache, and
-    /// of a number for each handle.
+    /// live. The plan is made like that desk. It takes room for two copies of the credential in each cache,
+    /// and of a number for each handle.
     ///
     /// Errors: the first of `RotateError` that holds, with everything handed back as it was.
     pub fn rotate(
@@ -195,7 +195,8 @@ where
         }
     }
 
-    /// Hands the journal out, opens the volume anew at its desk, and makes the plan like it; or changes nothing.
+    /// Hands the journal out, opens the volume anew at its desk, and makes the plan like it; or changes
+    /// nothing.
     fn turn(
         &mut self,
         plan: &mut Desk<K, D>,
@@ -247,8 +248,9 @@ where
         }
     }
 
-    /// Whether the plan is a desk like the one that the volume was opened at: of the same setup, with the same
-    /// credential in each cache and the same number for each handle, and without live calls. No memory is taken.
+    /// Whether the plan is a desk like the one that the volume was opened at: of the same setup, with the
+    /// same credential in each cache and the same number for each handle, and without live calls. No memory
+    /// is taken.
     pub fn is_opened_at(&self, plan: &Desk<K, D>) -> bool
         ensures { MatchBool result (plan.now ≡ self.now.opened) (plan.now ≢ self.now.opened) }
     {

@@ -79,10 +79,10 @@ where
     ghost use Rattle.signer_book.specs.VolumeState.{Continues, IsVolume};
     ghost use Rattle.signer_book.specs.Rotate.{IsVolumeCause, IsRotateCause};
 
-    /// Closes the journal with the passes of its steps, and hands back a signer that goes on at the desk as it
-    /// then is, where no call is live: whatever transcript the plan represented, the next plan represents that
-    /// with the journal behind it. It waits for nobody. It takes a time linear in the journal and the receipts,
-    /// and room for two copies of the credential in each cache, and of a number for each handle.
+    /// Closes the journal with the passes of its steps, and hands back a signer that goes on at the desk as
+    /// it then is, where no call is live: whatever transcript the plan represented, the next plan represents
+    /// that with the journal behind it. It waits for nobody. It takes a time linear in the journal and the
+    /// receipts, and room for two copies of the credential in each cache, and of a number for each handle.
     ///
     /// Errors: the first of `RotateError` that holds, with volume, plan and passes handed back. Unless it is
     /// `Plan`, `open` goes on with that volume and that plan.
@@ -104,8 +104,8 @@ where
         }
     }
 
-    /// Closes the journal with the passes of its steps, for good; calls may be live. It waits for nobody, takes
-    /// no memory, and a time linear in the journal and the receipts.
+    /// Closes the journal with the passes of its steps, for good; calls may be live. It waits for nobody,
+    /// takes no memory, and a time linear in the journal and the receipts.
     ///
     /// Errors: the first of `VolumeError` that holds, with volume, plan and passes handed back.
     pub fn close(self, passes: Vec<Pass<K>>) -> Result<Settled<K, D>, VolumeRefused<K, D>>

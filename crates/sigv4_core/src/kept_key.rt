@@ -36,8 +36,8 @@ impl KeptKey {
         KeptKey { kept: None }
     }
 
-    /// The signing key of the credential for this scope and the day of this moment: the one that is kept, where it
-    /// is that, or else one that is derived, and kept from then on.
+    /// The signing key of the credential for this scope and the day of this moment: the one that is kept,
+    /// where it is that, or else one that is derived, and kept from then on.
     ///
     /// Requires a year of four digits.
     pub fn key_for(

@@ -78,8 +78,8 @@ pub fn sign_head_seeded(
     signed
 }
 
-/// Answers what `sign_head_seeded` does, with the signing key that is kept, where it is that of the credential, the
-/// scope and the day. Where it is not, that one is derived, and kept from then on.
+/// Answers what `sign_head_seeded` does, with the signing key that is kept, where it is that of the
+/// credential, the scope and the day. Where it is not, that one is derived, and kept from then on.
 #[tactic(auto, unfolding(crate::specs::SignedHead::signing_of, crate::specs::SignedHead::signing_with))]
 pub fn sign_head_kept(
     alloc: Global,

@@ -80,7 +80,15 @@ pub fn verify_kept(
 ) -> Result<Checked, NoMemory<()>>
     ensures { IfOk result (λ c. c ≡ checked credential.now scope.now now head.now) }
 {
-    verify_in(alloc, head, credential, scope, TimeSpan::at(now), keys, kept)
+    verify_in(
+        alloc,
+        head,
+        credential,
+        scope,
+        TimeSpan::at(now),
+        keys,
+        kept,
+    )
 }
 
 /// What `verify` answers by a clock that may be wrong by `tolerance`, either way: the link is `Early` only

@@ -14,7 +14,9 @@ use crate::link_target::{query_of, scheme_of};
 use http_uri::Uri;
 use sign_base::{Head, NoMemory, Timestamp};
 use sign_time::FormatMoment;
-use sigv4_core::{SigCredential, SigScope, SigningKey, authority_of, encode, is_before_year_0, path_of};
+use sigv4_core::{
+    SigCredential, SigScope, SigningKey, authority_of, encode, is_before_year_0, path_of,
+};
 use std::alloc::Global;
 
 /// The link that has a signature for this moment, under the signing key of the credential.

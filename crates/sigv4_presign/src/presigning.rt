@@ -71,8 +71,8 @@ pub fn presign_seeded(
     made
 }
 
-/// Answers what `presign_seeded` does, with the signing key that is kept, where it is that of the credential, the
-/// scope and the day. Where it is not, that one is derived, and kept from then on.
+/// Answers what `presign_seeded` does, with the signing key that is kept, where it is that of the credential,
+/// the scope and the day. Where it is not, that one is derived, and kept from then on.
 #[tactic(auto, unfolding(crate::specs::PresignedLink::presigning_of))]
 pub fn presign_kept(
     alloc: Global,

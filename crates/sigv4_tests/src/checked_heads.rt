@@ -94,7 +94,13 @@ fn is_found(
     let now = moment(rt, nanos);
     let tolerance = Duration::from_secs(300);
     let found = verify_head(
-        alloc, &head, &by.credential, &by.scope, &by.payload, now, tolerance,
+        alloc,
+        &head,
+        &by.credential,
+        &by.scope,
+        &by.payload,
+        now,
+        tolerance,
     );
     assert!(rt; found.ok() == Some(wanted), "{nanos}");
 }

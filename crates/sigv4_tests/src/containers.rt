@@ -16,16 +16,18 @@ use std::process::Abort;
 /// What is asked, in words: method, URI and headers; and the status and the body that answer it.
 type Route = (&'static str, u16, &'static str);
 
-/// Answers the requests that it knows, and all others with status 400.
+/// Answers the requests that its row of `CONTAINERS` knows, and all others with status 400.
 #[derive(Drop)]
-struct Routes(&'static [Route]);
+struct Routes {
+    row: usize,
+}
 
-/// An answer that is on its way, or here.
+/// An answer that is on its way, or here: which route it is of.
 #[derive(Clone, Copy)]
 struct Answer {
     is_here: bool,
-    status: u16,
-    body: &'static str,
+    row: usize,
+    route: usize,
 }
 
 impl HttpSend for Routes {
@@ -46,7 +48,11 @@ impl HttpSend for Routes {
             return Err(NoMemory { back: req });
         };
         drop(req);
-        Ok(answer_to(self.0, asked.as_str()))
+        Ok(Answer {
+            is_here: false,
+            row: self.row,
+            route: route_of(self.row, asked.as_str()),
+        })
     }
 
     fn poll_send(&self, alloc: Global, send: &mut Answer) -> Polled<Response<Bytes>> {
@@ -54,7 +60,8 @@ impl HttpSend for Routes {
             send.is_here = true;
             return Polled::Pending;
         }
-        response(alloc, send.status, send.body)
+        let (status, body) = answer_at(send.row, send.route);
+        response(alloc, status, body)
     }
 }
 
@@ -73,20 +80,29 @@ fn words_of(alloc: Global, req: &Request<Bytes>) -> Option<String> {
     Some(words)
 }
 
-fn answer_to(routes: &[Route], asked: &str) -> Answer {
-    for (words, status, body) in routes {
+/// The place of the route that a request takes, or one behind the last.
+fn route_of(row: usize, asked: &str) -> usize {
+    let Some((_, routes, _)) = CONTAINERS.get(row) else {
+        return 0;
+    };
+    let mut place = 0;
+    for (words, _, _) in *routes {
         if *words == asked {
-            return Answer {
-                is_here: false,
-                status: *status,
-                body: *body,
-            };
+            return place;
         }
+        place = place.saturating_add(1);
     }
-    Answer {
-        is_here: false,
-        status: 400,
-        body: "",
+    place
+}
+
+/// The status and the body of a route.
+fn answer_at(row: usize, place: usize) -> (u16, &'static str) {
+    match CONTAINERS.get(row) {
+        Some((_, routes, _)) => match routes.get(place) {
+            Some((_, status, body)) => (*status, *body),
+            None => (400, ""),
+        },
+        None => (400, ""),
     }
 }
 
@@ -104,14 +120,9 @@ fn response(alloc: Global, status: u16, body: &str) -> Polled<Response<Bytes>> {
 
 type Surroundings = Context<NoopFileRead, Routes, OsEnv, NoopCommandExecute>;
 
-fn surroundings(
-    rt: &impl Abort,
-    alloc: Global,
-    set: Variables,
-    routes: &'static [Route],
-) -> Surroundings {
+fn surroundings(rt: &impl Abort, alloc: Global, set: Variables, row: usize) -> Surroundings {
     let env = environment(rt, alloc, set);
-    Context::new().with_env(env).with_http_send(Routes(routes))
+    Context::new().with_env(env).with_http_send(Routes { row })
 }
 
 const DOCUMENT: &str =
@@ -234,13 +245,15 @@ const CONTAINERS: [Container; 15] = [
 
 #[test]
 fn containers_ask_their_endpoint(rt: HostRuntime) {
-    for (set, routes, wanted) in CONTAINERS {
-        is_text(&rt, asked(&rt, rt.alloc(), set, routes), wanted);
+    let mut row = 0usize;
+    for (set, _, wanted) in &CONTAINERS {
+        is_text(&rt, asked(&rt, rt.alloc(), *set, row), *wanted);
+        row = row.saturating_add(1);
     }
 }
 
 /// What the provider answers in the end, in words.
-fn asked(rt: &impl Abort, alloc: Global, set: Variables, routes: &'static [Route]) -> String {
-    let ctx = surroundings(rt, alloc, set, routes);
+fn asked(rt: &impl Abort, alloc: Global, set: Variables, row: usize) -> String {
+    let ctx = surroundings(rt, alloc, set, row);
     answered(rt, alloc, &ContainerProvider::new(), &ctx)
 }

@@ -94,7 +94,7 @@ pub(crate) fn key_and_token(rt: &impl Abort, alloc: Global, session: &SessionCre
 fn lasts_until(rt: &impl Abort, session: &SessionCredential, expires: Option<i128>) {
     match expires {
         Some(end) => {
-            assert!(rt; session.is_valid(moment(rt, end - 1)));
+            assert!(rt; session.is_valid(moment(rt, end.saturating_sub(1))));
             assert!(rt; !session.is_valid(moment(rt, end)));
         }
         None => assert!(rt; session.is_valid(moment(rt, 200_000_000_000_000_000_000))),

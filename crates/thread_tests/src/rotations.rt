@@ -100,7 +100,10 @@ fn each_journal_goes_on_where_the_one_before_ended(rt: HostRuntime) {
         replay(&rt, &mut replayed, rotated.journal.as_slice());
         signer = rotated.signer;
     }
-    let settled = signer.close(Vec::new(alloc)).ok().expect(&rt, "a closed signer");
+    let settled = signer
+        .close(Vec::new(alloc))
+        .ok()
+        .expect(&rt, "a closed signer");
     assert!(rt; settled.journal.is_empty() && settled.desk.cached(0) == Some(&Key { number: 7 }));
 }
 
