@@ -1,5 +1,5 @@
-//! A provider that asks the endpoint of a container, and a sender of requests that answers those that it knows.
-//! Each send is pending once.
+//! A provider that asks the endpoint of a container, and a sender of requests that answers those that it
+//! knows. Each send is pending once.
 ghost use Rattle.std.specs.Prelude.{⊤};
 
 use crate::processes::answered;

@@ -1,5 +1,5 @@
-//! Documents of credentials, good and bad, with what Python's `json` and `datetime` find in them. The first two
-//! are those of the pages of AWS on instance metadata and on roles of tasks.
+//! Documents of credentials, good and bad, with what Python's `json` and `datetime` find in them. The first
+//! two are those of the pages of AWS on instance metadata and on roles of tasks.
 use crate::suite::moment;
 use crate::told::{is_text, refusal, text_of};
 use aws_credentials::SessionCredential;

@@ -27,8 +27,8 @@ fn signer<R: Abort>(rt: &R, desk: KeyDesk, plan: KeyDesk) -> KeySigner {
     RotatingSigner::open(volume, plan)
 }
 
-/// The events of a call of the first handle that signs, in order. The second is answered `Sign` where the cache
-/// holds a key, and the third is then left out.
+/// The events of a call of the first handle that signs, in order. The second is answered `Sign` where the
+/// cache holds a key, and the third is then left out.
 fn event<R: Abort>(rt: &R, alloc: Global, number: u64, place: usize) -> Event<Key> {
     let call = CallId { handle: 0, number };
     let now = Timestamp::from_nanos(5).expect(rt, "a moment");
@@ -119,8 +119,8 @@ fn begun<R: Abort>(rt: &R, alloc: Global, number: u64) -> KeyDesk {
     desk
 }
 
-/// Why a volume that was opened at one desk is not closed under another as its plan. The desks are those where
-/// calls of these numbers were begun.
+/// Why a volume that was opened at one desk is not closed under another as its plan. The desks are those
+/// where calls of these numbers were begun.
 fn closed<R: Abort>(rt: &R, alloc: Global, desk: u64, plan: u64) -> Option<VolumeError> {
     let desk = begun(rt, alloc, desk);
     assert!(rt; desk.live() == 0);
