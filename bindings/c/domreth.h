@@ -2,7 +2,7 @@
  * bindings/lib/libdomreth.a, or with libdomreth.so beside it; `scripts/build-domreth` makes both.
  *
  * Who owns what. All that is handed to a call is the caller's, is lent to it until it returns, and is kept nowhere.
- * A call writes to `output` and `needed` alone, and holds nothing between calls.
+ * A call writes to `output` and `needed` alone, and holds nothing between calls: but a desk, which is below.
  *
  * Pointers. No pointer is null, also where its length is 0: it may be to anything there. `output` and `needed` lie
  * apart from all else that the call is handed. Bytes need not be UTF-8, and end by no zero.
@@ -14,6 +14,7 @@
 #ifndef DOMRETH_H
 #define DOMRETH_H
 
+#include <stdbool.h>
 #include <stddef.h>
 #include <stdint.h>
 
@@ -53,7 +54,16 @@ enum {
     DOMRETH_CREDENTIAL = 31, /* the link is for another access key, region, service or day */
     DOMRETH_EARLY = 32,      /* it is not good yet */
     DOMRETH_LATE = 33,       /* it is not good any more */
-    DOMRETH_SIGNATURE = 34   /* its signature is another one */
+    DOMRETH_SIGNATURE = 34,  /* its signature is another one */
+
+    /* A call on a desk. */
+    DOMRETH_CLOSED = 40,   /* the desk is closed */
+    DOMRETH_FULL = 41,     /* it has as many of these as it may have: 4,294,967,295 */
+    DOMRETH_BEGUN = 42,    /* a call was begun before, so that nothing is added any more */
+    DOMRETH_NO_CACHE = 43, /* there is no such cache */
+    DOMRETH_NO_RULE = 44,  /* there is no such rule */
+    DOMRETH_OPEN = 45,     /* the desk is open already */
+    DOMRETH_EMPTY = 46     /* the cache holds no credential */
 };
 
 struct domreth_bytes {
@@ -99,6 +109,111 @@ uint8_t domreth_verify(const struct domreth_head *head, const struct domreth_key
  * the program writes to standard output. */
 uint8_t domreth_run(const uint8_t *command, size_t command_len, const uint8_t *input, size_t input_len,
                     uint8_t *output, size_t output_len, size_t *needed);
+
+/* ---- A desk
+ *
+ * Many calls need a credential that expires. A desk says who asks a provider for one, who waits, and who is next: each
+ * event is told to it by a call, and it answers by a reply. It asks nobody, keeps no secret and no request, has no clock
+ * and starts no thread: its credentials are numbers of the caller's, with the moments until which they are good, and
+ * the caller keeps what stands behind them, asks the providers, signs, and polls the calls that a reply wakes.
+ *
+ * Who owns what. A `struct domreth_desk` is the caller's, and begins as {NULL}: closed. Once it is open it owns what is
+ * behind `at`, until it is closed. Nobody else reads or writes `at`, and it is not copied: a copy that is used is a
+ * double free, and a desk that is let go while it is open is a leak. Calls on one desk come one after another, in any
+ * thread that is ordered by a lock or a join; calls on two desks may run side by side.
+ *
+ * What stands at `reply`, `number` and `ticket` is any value of its type before, as {0}. It is written at DOMRETH_DONE
+ * alone. At every other status the desk is as it was, too. */
+struct domreth_desk {
+    void *at;
+};
+
+/* So many seconds after the start of 1970, and so many nanoseconds. One of the years from -9999 to 9999 in UTC. */
+struct domreth_moment {
+    int64_t second;
+    int32_t nanos;
+};
+
+/* A credential, by the number that the caller knows it by. It is handed out before the moment `fresh`, and it lasts to
+ * each moment before `lasts`. */
+struct domreth_ticket {
+    uint64_t number;
+    struct domreth_moment fresh, lasts;
+};
+
+/* The kinds of a reply. */
+enum {
+    DOMRETH_REPLY_BEGUN = 0,
+    DOMRETH_REPLY_PENDING = 1,       /* the call waits, and is polled again once it is woken */
+    DOMRETH_REPLY_NOT_NOW = 2,       /* the event has no place here, and changed nothing */
+    DOMRETH_REPLY_OUT_OF_MEMORY = 3, /* at a begin alone: the call is not begun */
+    DOMRETH_REPLY_ASK = 4,           /* ask `provider`, and tell what it has by found, missing or failed */
+    DOMRETH_REPLY_SIGN = 5,          /* sign with the credential `number`, and tell by accept or reject */
+    DOMRETH_REPLY_REFUSED = 6,       /* the call is over, for the cause `cause` */
+    DOMRETH_REPLY_DONE = 7,          /* the call is over */
+    DOMRETH_REPLY_CANCELLED = 8      /* the call is over */
+};
+
+/* Why a call is refused. */
+enum {
+    DOMRETH_CAUSE_MISSING = 1, /* no provider has a credential */
+    DOMRETH_CAUSE_SHORT = 2,   /* the credential does not last to `deadline` */
+    DOMRETH_CAUSE_RANGE = 3,   /* the deadline would be no moment */
+    DOMRETH_CAUSE_LOADER = 4,  /* the provider failed: `number` is the failure */
+    DOMRETH_CAUSE_SERVICE = 5  /* the service failed: `number` is the failure */
+};
+
+/* A reply. What its kind does not speak of is 0. Where it wakes a call, the caller polls that call. */
+struct domreth_reply {
+    uint8_t kind, cause;
+    bool wakes;
+    uint32_t provider, wake_handle;
+    uint64_t wake_number, number;
+    struct domreth_moment deadline;
+};
+
+/* Opens a desk that is closed: it has no caches, rules, handles or calls. */
+uint8_t domreth_desk_open(struct domreth_desk *desk);
+
+/* Adds a cache, a rule or a handle, and hands its number out: the first has 0, and each next one more. A cache has one
+ * provider where `providers` is 0, and else a chain of so many, asked from 0 on until one has a credential. By a rule a
+ * credential has to last so much longer than to the end of the operation (the nanoseconds are less than 10^9, or the
+ * status is DOMRETH_SECOND). Calls are made under a handle, which is a cache and a rule. */
+uint8_t domreth_desk_add_cache(struct domreth_desk *desk, uint32_t providers, uint32_t *number);
+uint8_t domreth_desk_add_rule(struct domreth_desk *desk, uint64_t margin_seconds, uint32_t margin_nanos,
+                              uint32_t *number);
+uint8_t domreth_desk_add_handle(struct domreth_desk *desk, uint32_t cache, uint32_t rule, uint32_t *number);
+
+/* Begins a call, whose operation takes so long where `lasts` says that it says so (nanoseconds as above). Under one handle
+ * the numbers of calls rise. */
+uint8_t domreth_desk_begin(struct domreth_desk *desk, uint32_t handle, uint64_t number, bool lasts, uint64_t seconds,
+                           uint32_t nanos, struct domreth_reply *reply);
+
+/* Asks for the next step of a call. DOMRETH_SECOND, here and below: a moment that is given is none. */
+uint8_t domreth_desk_poll(struct domreth_desk *desk, uint32_t handle, uint64_t number, const struct domreth_moment *now,
+                          struct domreth_reply *reply);
+
+/* What the provider that the call was told to ask has: a credential, none, or a failure by a number of the caller's. */
+uint8_t domreth_desk_found(struct domreth_desk *desk, uint32_t handle, uint64_t number, const struct domreth_moment *now,
+                           const struct domreth_ticket *ticket, struct domreth_reply *reply);
+uint8_t domreth_desk_missing(struct domreth_desk *desk, uint32_t handle, uint64_t number,
+                             const struct domreth_moment *now, struct domreth_reply *reply);
+uint8_t domreth_desk_failed(struct domreth_desk *desk, uint32_t handle, uint64_t number, const struct domreth_moment *now,
+                            uint64_t failure, struct domreth_reply *reply);
+
+/* The call that was told to sign is signed, or its service failed, by a number of the caller's. */
+uint8_t domreth_desk_accept(struct domreth_desk *desk, uint32_t handle, uint64_t number, struct domreth_reply *reply);
+uint8_t domreth_desk_reject(struct domreth_desk *desk, uint32_t handle, uint64_t number, uint64_t failure,
+                            struct domreth_reply *reply);
+
+/* The call is given up. */
+uint8_t domreth_desk_cancel(struct domreth_desk *desk, uint32_t handle, uint64_t number, struct domreth_reply *reply);
+
+/* Hands out the credential that a cache holds, fresh or not. */
+uint8_t domreth_desk_cached(struct domreth_desk *desk, uint32_t cache, struct domreth_ticket *ticket);
+
+/* Closes a desk and frees what it owns. A closed one stays closed. */
+void domreth_desk_close(struct domreth_desk *desk);
 
 #ifdef __cplusplus
 }

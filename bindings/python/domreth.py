@@ -9,6 +9,22 @@
 >>> link = presign("GET", url, keys, "us-east-1", "s3", expires=3600)
 >>> verify("GET", link, keys, "us-east-1", "s3")
 
+A `Desk` says who asks for a credential that expires, who waits, and who is next:
+
+>>> from domreth import Desk, Moment, Ticket
+>>> now = Moment(100)
+>>> with Desk() as desk:
+...     handle = desk.add_handle(desk.add_cache(), desk.add_rule())
+...     for number in 1, 2:
+...         reply = desk.begin(handle, number)
+...     asks = desk.poll(handle, 1, now)
+...     waits = desk.poll(handle, 2, now)
+...     signs = desk.found(handle, 1, now, Ticket(7, fresh=Moment(900), lasts=Moment(1000)))
+>>> asks.kind.name, asks.provider, waits.kind.name
+('ASK', 0, 'PENDING')
+>>> signs.kind.name, signs.number, signs.wakes
+('SIGN', 7, (0, 2))
+
 The library is libdomreth.so, which `scripts/build-domreth` makes: that of the environment's DOMRETH_SO, or the one in
 bindings/lib beside this module's folder.
 """
@@ -16,6 +32,7 @@ bindings/lib beside this module's folder.
 from __future__ import annotations
 
 import ctypes
+import dataclasses
 import enum
 import os
 import time
@@ -23,7 +40,10 @@ from collections.abc import Callable, Iterable, Mapping
 from typing import NamedTuple, Optional, Union
 from urllib.parse import quote, unquote
 
-__all__ = ["BadLine", "Credentials", "DomrethError", "SignError", "Status", "presign", "run", "sign", "verify"]
+__all__ = [
+    "BadLine", "Cause", "Credentials", "Desk", "DeskError", "DomrethError", "Kind", "Moment", "Reply", "SignError", "Status",
+    "Ticket", "presign", "run", "sign", "verify",
+]
 
 Headers = Union[Mapping[str, Union[str, bytes]], Iterable[tuple[str, Union[str, bytes]]]]
 
@@ -50,6 +70,25 @@ class _Key(ctypes.Structure):
     _fields_ = [("access", _Bytes), ("secret", _Bytes), ("region", _Bytes), ("service", _Bytes)]
 
 
+class _Moment(ctypes.Structure):
+    _fields_ = [("second", ctypes.c_int64), ("nanos", ctypes.c_int32)]
+
+
+class _Ticket(ctypes.Structure):
+    _fields_ = [("number", ctypes.c_uint64), ("fresh", _Moment), ("lasts", _Moment)]
+
+
+class _Reply(ctypes.Structure):
+    _fields_ = [
+        ("kind", ctypes.c_uint8), ("cause", ctypes.c_uint8), ("wakes", ctypes.c_bool), ("provider", ctypes.c_uint32),
+        ("wake_handle", ctypes.c_uint32), ("wake_number", ctypes.c_uint64), ("number", ctypes.c_uint64), ("deadline", _Moment),
+    ]
+
+
+class _Desk(ctypes.Structure):
+    _fields_ = [("at", ctypes.c_void_p)]
+
+
 _text = [ctypes.c_char_p, ctypes.c_size_t]
 _room = [ctypes.c_char_p, ctypes.c_size_t, ctypes.POINTER(ctypes.c_size_t)]
 _asked = [ctypes.POINTER(_Head), ctypes.POINTER(_Key)]
@@ -57,8 +96,29 @@ _lib.domreth_run.argtypes = [*_text, *_text, *_room]
 _lib.domreth_sign.argtypes = [*_asked, *_text, ctypes.c_int64, *_room]
 _lib.domreth_presign.argtypes = [*_asked, ctypes.c_uint32, ctypes.c_int64, *_room]
 _lib.domreth_verify.argtypes = [*_asked, ctypes.c_int64]
-for _call in _lib.domreth_run, _lib.domreth_sign, _lib.domreth_presign, _lib.domreth_verify:
-    _call.restype = ctypes.c_uint8
+_desk = ctypes.POINTER(_Desk)
+_call_of = [_desk, ctypes.c_uint32, ctypes.c_uint64]
+_moment, _reply, _number = ctypes.POINTER(_Moment), ctypes.POINTER(_Reply), ctypes.POINTER(ctypes.c_uint32)
+_lib.domreth_desk_open.argtypes = [_desk]
+_lib.domreth_desk_add_cache.argtypes = [_desk, ctypes.c_uint32, _number]
+_lib.domreth_desk_add_rule.argtypes = [_desk, ctypes.c_uint64, ctypes.c_uint32, _number]
+_lib.domreth_desk_add_handle.argtypes = [_desk, ctypes.c_uint32, ctypes.c_uint32, _number]
+_lib.domreth_desk_begin.argtypes = [*_call_of, ctypes.c_bool, ctypes.c_uint64, ctypes.c_uint32, _reply]
+_lib.domreth_desk_poll.argtypes = [*_call_of, _moment, _reply]
+_lib.domreth_desk_found.argtypes = [*_call_of, _moment, ctypes.POINTER(_Ticket), _reply]
+_lib.domreth_desk_missing.argtypes = [*_call_of, _moment, _reply]
+_lib.domreth_desk_failed.argtypes = [*_call_of, _moment, ctypes.c_uint64, _reply]
+_lib.domreth_desk_accept.argtypes = [*_call_of, _reply]
+_lib.domreth_desk_reject.argtypes = [*_call_of, ctypes.c_uint64, _reply]
+_lib.domreth_desk_cancel.argtypes = [*_call_of, _reply]
+_lib.domreth_desk_cached.argtypes = [_desk, ctypes.c_uint32, ctypes.POINTER(_Ticket)]
+_lib.domreth_desk_close.argtypes = [_desk]
+_lib.domreth_desk_close.restype = None
+for _name in (
+    "run", "sign", "presign", "verify", "desk_open", "desk_add_cache", "desk_add_rule", "desk_add_handle", "desk_begin", "desk_poll",
+    "desk_found", "desk_missing", "desk_failed", "desk_accept", "desk_reject", "desk_cancel", "desk_cached",
+):
+    getattr(_lib, f"domreth_{_name}").restype = ctypes.c_uint8
 
 
 class Status(enum.IntEnum):
@@ -86,6 +146,13 @@ class Status(enum.IntEnum):
     EARLY = 32
     LATE = 33
     SIGNATURE = 34
+    CLOSED = 40
+    FULL = 41
+    BEGUN = 42
+    NO_CACHE = 43
+    NO_RULE = 44
+    OPEN = 45
+    EMPTY = 46
 
 
 class DomrethError(ValueError):
@@ -110,6 +177,14 @@ class BadLine(ValueError):
     def __init__(self, text: bytes) -> None:
         super().__init__(text.decode("utf-8", "replace").splitlines()[-1])
         self.text = text
+
+
+class DeskError(ValueError):
+    """Why a call on a desk did nothing, as a `Status`."""
+
+    def __init__(self, status: int) -> None:
+        self.status = Status(status) if status in Status._value2member_map_ else status
+        super().__init__(self.status.name.lower() if isinstance(self.status, Status) else f"status {status}")
 
 
 class Credentials(NamedTuple):
@@ -215,6 +290,158 @@ def verify(
         _refuse(status)
 
 
+class Moment(NamedTuple):
+    """So many seconds after the start of 1970, and so many nanoseconds."""
+
+    second: int
+    nanos: int = 0
+
+
+class Ticket(NamedTuple):
+    """A credential, by the number that the caller knows it by: it is handed out before `fresh`, and lasts to each moment
+    before `lasts`."""
+
+    number: int
+    fresh: Moment
+    lasts: Moment
+
+
+class Kind(enum.IntEnum):
+    """What a reply says of the call."""
+
+    BEGUN = 0
+    PENDING = 1
+    NOT_NOW = 2
+    OUT_OF_MEMORY = 3
+    ASK = 4
+    SIGN = 5
+    REFUSED = 6
+    DONE = 7
+    CANCELLED = 8
+
+
+class Cause(enum.IntEnum):
+    """Why a call is refused."""
+
+    MISSING = 1
+    SHORT = 2
+    RANGE = 3
+    LOADER = 4
+    SERVICE = 5
+
+
+@dataclasses.dataclass(frozen=True)
+class Reply:
+    """A desk's reply. What its kind does not speak of is None."""
+
+    kind: Kind
+    provider: Optional[int] = None
+    """ASK: the provider to ask."""
+    number: Optional[int] = None
+    """SIGN: the credential to sign with. REFUSED for LOADER or SERVICE: the failure."""
+    cause: Optional[Cause] = None
+    """REFUSED: why."""
+    deadline: Optional[Moment] = None
+    """REFUSED for SHORT: the moment that the credential does not last to."""
+    wakes: Optional[tuple[int, int]] = None
+    """The handle and the number of the call that is to be polled."""
+
+
+class Desk:
+    """A desk: many calls, one load at a time at each cache, in the order in which they came.
+
+    It asks nobody and keeps no secret: each event is told to it, and it answers by a `Reply`. Whoever holds it asks the
+    providers, signs, and polls the calls that a reply wakes. Everything is added before the first `begin`, and the numbers of
+    the calls under one handle rise. It is used by one thread at a time. `with` closes it; so does `close`, twice too.
+
+    A call raises DeskError where it does nothing, and MemoryError where an allocation fails; then the desk is as it was.
+    """
+
+    def __init__(self) -> None:
+        self._at = _Desk(None)
+        _done(_lib.domreth_desk_open(self._at))
+
+    def __enter__(self) -> Desk:
+        return self
+
+    def __exit__(self, *_: object) -> None:
+        self.close()
+
+    def __del__(self) -> None:
+        self.close()
+
+    def close(self) -> None:
+        """Closes the desk, and frees what it owns."""
+        _lib.domreth_desk_close(self._at)
+
+    def add_cache(self, providers: int = 0) -> int:
+        """Adds a cache with one provider, or with a chain of so many that are asked in order; returns its number."""
+        return self._added(_lib.domreth_desk_add_cache, _within(providers, 32))
+
+    def add_rule(self, margin: int = 0) -> int:
+        """Adds a rule by which a credential lasts so many nanoseconds longer than to the end of the operation."""
+        return self._added(_lib.domreth_desk_add_rule, *_time(margin))
+
+    def add_handle(self, cache: int, rule: int) -> int:
+        """Adds a handle on this cache with this rule, under which calls are begun."""
+        return self._added(_lib.domreth_desk_add_handle, _within(cache, 32), _within(rule, 32))
+
+    def begin(self, handle: int, number: int, duration: Optional[int] = None) -> Reply:
+        """Begins a call, whose operation takes so many nanoseconds where it says so: BEGUN or NOT_NOW."""
+        reply = self._told(_lib.domreth_desk_begin, handle, number, duration is not None, *_time(duration or 0))
+        if reply.kind is Kind.OUT_OF_MEMORY:
+            raise MemoryError
+        return reply
+
+    def poll(self, handle: int, number: int, now: Moment) -> Reply:
+        """Asks for the next step of a call: PENDING, ASK, SIGN, REFUSED or NOT_NOW."""
+        return self._told(_lib.domreth_desk_poll, handle, number, _moment_to(now))
+
+    def found(self, handle: int, number: int, now: Moment, ticket: Ticket) -> Reply:
+        """The provider that the call was told to ask has this credential."""
+        given = _Ticket(_within(ticket.number, 64), _moment_to(ticket.fresh), _moment_to(ticket.lasts))
+        return self._told(_lib.domreth_desk_found, handle, number, _moment_to(now), given)
+
+    def missing(self, handle: int, number: int, now: Moment) -> Reply:
+        """The provider that the call was told to ask has no credential."""
+        return self._told(_lib.domreth_desk_missing, handle, number, _moment_to(now))
+
+    def failed(self, handle: int, number: int, now: Moment, failure: int) -> Reply:
+        """The provider that the call was told to ask failed, by the caller's number for it."""
+        return self._told(_lib.domreth_desk_failed, handle, number, _moment_to(now), _within(failure, 64))
+
+    def accept(self, handle: int, number: int) -> Reply:
+        """The call that was told to sign is signed: DONE or NOT_NOW."""
+        return self._told(_lib.domreth_desk_accept, handle, number)
+
+    def reject(self, handle: int, number: int, failure: int) -> Reply:
+        """The service failed, by the caller's number for it: REFUSED or NOT_NOW."""
+        return self._told(_lib.domreth_desk_reject, handle, number, _within(failure, 64))
+
+    def cancel(self, handle: int, number: int) -> Reply:
+        """The call is given up: CANCELLED or NOT_NOW."""
+        return self._told(_lib.domreth_desk_cancel, handle, number)
+
+    def cached(self, cache: int) -> Optional[Ticket]:
+        """The credential that the cache holds, fresh or not, or None."""
+        held = _Ticket()
+        status = _lib.domreth_desk_cached(self._at, _within(cache, 32), held)
+        if status == Status.EMPTY:
+            return None
+        _done(status)
+        return Ticket(held.number, _moment_of(held.fresh), _moment_of(held.lasts))
+
+    def _added(self, call: Callable[..., int], *given: object) -> int:
+        number = ctypes.c_uint32(0)
+        _done(call(self._at, *given, number))
+        return number.value
+
+    def _told(self, call: Callable[..., int], handle: int, number: int, *given: object) -> Reply:
+        reply = _Reply()
+        _done(call(self._at, _within(handle, 32), _within(number, 64), *given, reply))
+        return _reply_of(reply)
+
+
 def _answer(room: int, call: Callable[..., int]) -> tuple[int, bytes]:
     """The status of a call, and the text that it answers, if any. The room grows to what it needs."""
     needed = ctypes.c_size_t(0)
@@ -272,3 +499,46 @@ def _with_token(url: str, token: str) -> str:
         raise SignError(Status.ALREADY)
     pair = "X-Amz-Security-Token=" + quote(token, safe="-._~")
     return f"{before}?{query}&{pair}" if query else f"{before}?{pair}"
+
+
+def _done(status: int) -> None:
+    if status == Status.OUT_OF_MEMORY:
+        raise MemoryError
+    if status != Status.DONE:
+        raise DeskError(status)
+
+
+def _within(number: int, bits: int) -> int:
+    """The number, where it has so many bits: ctypes would cut it off."""
+    if not 0 <= number < 2**bits:
+        raise OverflowError(f"{number} is not in 0..2^{bits}")
+    return number
+
+
+def _time(nanos: int) -> tuple[int, int]:
+    seconds, nanos = divmod(nanos, 10**9)
+    return _within(seconds, 64), nanos
+
+
+def _moment_to(it: Moment) -> _Moment:
+    """The moment; one that does not fit is one that is none."""
+    fits = -(2**63) <= it.second < 2**63 and -(2**31) <= it.nanos < 2**31
+    return _Moment(it.second, it.nanos) if fits else _Moment(2**63 - 1, 0)
+
+
+def _moment_of(it: _Moment) -> Moment:
+    return Moment(it.second, it.nanos)
+
+
+def _reply_of(it: _Reply) -> Reply:
+    kind = Kind(it.kind)
+    cause = Cause(it.cause) if kind is Kind.REFUSED else None
+    has_number = kind is Kind.SIGN or cause in (Cause.LOADER, Cause.SERVICE)
+    return Reply(
+        kind,
+        provider=it.provider if kind is Kind.ASK else None,
+        number=it.number if has_number else None,
+        cause=cause,
+        deadline=_moment_of(it.deadline) if cause is Cause.SHORT else None,
+        wakes=(it.wake_handle, it.wake_number) if it.wakes else None,
+    )

@@ -8,7 +8,8 @@ import unittest
 
 import domreth
 import second_sigv4
-from domreth import BadLine, Credentials, DomrethError, SignError, Status, presign, run, sign, verify
+from domreth import BadLine, Cause, Credentials, Desk, DeskError, DomrethError, Kind, Moment, Reply, SignError, Status, Ticket
+from domreth import presign, run, sign, verify
 
 ABC = b"ba7816bf8f01cfea414140de5dae2223b00361a396177a9cb410ff61f20015ad\n"
 EMPTY = "e3b0c44298fc1c149afbf4c8996fb92427ae41e4649b934ca495991b7852b855"
@@ -113,6 +114,77 @@ class Signing(unittest.TestCase):
     def test_no_secret_is_shown(self):
         for text in repr(KEYS), str(KEYS), f"{KEYS}", repr([KEYS]):
             self.assertNotIn("EXAMPLE", text)
+
+
+NOW = Moment(100)
+TICKET = Ticket(7, fresh=Moment(900), lasts=Moment(1000, 5))
+
+
+def set_up(desk, providers=0, margin=0):
+    return desk.add_handle(desk.add_cache(providers), desk.add_rule(margin))
+
+
+class Waiting(unittest.TestCase):
+    """The replies are those of docs/FORMATS.md to the same events, and the rules of a desk."""
+
+    def test_one_load_serves_three(self):
+        with Desk() as desk:
+            handle = set_up(desk)
+            self.assertIsNone(desk.cached(0))
+            self.assertEqual([desk.begin(handle, call) for call in (1, 2, 3)], [Reply(Kind.BEGUN)] * 3)
+            self.assertEqual(desk.poll(handle, 1, NOW), Reply(Kind.ASK, provider=0))
+            self.assertEqual([desk.poll(handle, call, NOW) for call in (2, 3)], [Reply(Kind.PENDING)] * 2)
+            self.assertEqual(desk.found(handle, 1, NOW, TICKET), Reply(Kind.SIGN, number=7, wakes=(0, 2)))
+            self.assertEqual(desk.poll(handle, 2, NOW), Reply(Kind.SIGN, number=7, wakes=(0, 3)))
+            self.assertEqual(desk.poll(handle, 3, NOW), Reply(Kind.SIGN, number=7))
+            self.assertEqual(desk.accept(handle, 1), Reply(Kind.DONE))
+            self.assertEqual(desk.reject(handle, 2, 2**64 - 1), Reply(Kind.REFUSED, number=2**64 - 1, cause=Cause.SERVICE))
+            self.assertEqual(desk.cancel(handle, 3), Reply(Kind.CANCELLED))
+            self.assertEqual(desk.accept(handle, 3), Reply(Kind.NOT_NOW))
+            self.assertEqual(desk.cached(0), TICKET)
+
+    def test_cancel_and_refusals(self):
+        with Desk() as desk:
+            handle = set_up(desk, providers=2, margin=60 * 10**9 + 1)
+            for call in 1, 2:
+                desk.begin(handle, call, duration=900 * 10**9)
+            desk.poll(handle, 1, NOW), desk.poll(handle, 2, NOW)
+            self.assertEqual(desk.cancel(handle, 1), Reply(Kind.CANCELLED, wakes=(0, 2)))
+            self.assertEqual(desk.poll(handle, 2, NOW), Reply(Kind.ASK, provider=0))
+            self.assertEqual(desk.missing(handle, 2, NOW), Reply(Kind.ASK, provider=1))
+            short = Reply(Kind.REFUSED, cause=Cause.SHORT, deadline=Moment(1060, 1))
+            self.assertEqual(desk.found(handle, 2, NOW, TICKET), short)
+        for tell, reply in (
+            (lambda desk: desk.missing(0, 1, NOW), Reply(Kind.REFUSED, cause=Cause.MISSING)),
+            (lambda desk: desk.failed(0, 1, NOW, 5), Reply(Kind.REFUSED, number=5, cause=Cause.LOADER)),
+        ):
+            with Desk() as desk:
+                desk.begin(set_up(desk), 1), desk.poll(0, 1, NOW)
+                self.assertEqual(tell(desk), reply)
+
+    def test_what_changes_nothing(self):
+        none = Moment(2**70)
+        with Desk() as desk:
+            set_up(desk)
+            for status, call in (
+                (Status.NO_CACHE, lambda: desk.add_handle(1, 0)), (Status.NO_RULE, lambda: desk.add_handle(0, 1)),
+                (Status.NO_CACHE, lambda: desk.cached(1)), (Status.SECOND, lambda: desk.poll(0, 1, none)),
+                (Status.SECOND, lambda: desk.found(0, 1, NOW, TICKET._replace(lasts=none))),
+            ):
+                with self.assertRaises(DeskError) as refused:
+                    call()
+                self.assertIs(refused.exception.status, status)
+            desk.begin(0, 1)
+            with self.assertRaises(DeskError) as late:
+                desk.add_cache()
+            self.assertIs(late.exception.status, Status.BEGUN)
+            for call in (lambda: desk.begin(2**32, 1), lambda: desk.begin(0, 2**64), lambda: desk.begin(0, -1), lambda: desk.add_rule(-1)):
+                self.assertRaises(OverflowError, call)
+        desk.close()
+        for call in (lambda: desk.begin(0, 1), lambda: desk.cached(0), lambda: desk.poll(0, 1, none), desk.add_cache):
+            with self.assertRaises(DeskError) as closed:
+                call()
+            self.assertIs(closed.exception.status, Status.CLOSED)
 
 
 def load_tests(loader, tests, ignore):

@@ -1,8 +1,17 @@
-//! Requests signed for AWS, links made and checked ([`sigv4`]), and the commands of `signctl` over lines ([`run`]), in
-//! this process.
+//! Requests signed for AWS, links made and checked ([`sigv4`]); a signer whose credentials expire, for async callers
+//! ([`signer`]), over a desk that says when to load, who waits and who is next ([`desk`]); and the commands of
+//! `signctl` over lines ([`run`]). All in this process, with no dependency.
 //!
-//! The library below is proved (`docs/PROVED.md` of the repository). This crate is not: it declares the library's
-//! calls by hand, lends them what they read, and reads what they hand over.
+//! # What is proved
+//!
+//! The library below (`docs/PROVED.md` of the repository): each signature, link and check, each answer of a command,
+//! and each reply of a desk is what its definition says, whatever is handed in.
+//!
+//! This crate is not proved, and tested: it declares the library's calls by hand, lends them what they read, and reads
+//! what they hand over. On top of that [`signer`] asks the author's providers and services, keeps credentials and
+//! wakers, and tells the desk what happens.
+//!
+//! # A request, signed
 //!
 //! ```
 //! use domreth::sigv4::{Credential, Head, Payload, RequestSigner, Version};
@@ -24,10 +33,12 @@
 #![deny(unsafe_op_in_unsafe_fn, missing_docs)]
 
 mod command;
+pub mod desk;
 mod error;
 mod ffi;
 mod room;
 mod run;
+pub mod signer;
 pub mod sigv4;
 
 pub use command::Command;

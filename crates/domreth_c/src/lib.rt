@@ -8,6 +8,7 @@ ghost use Rattle.signctl_core.specs.Commands.{command_by_word};
 ghost use Rattle.domreth_sign.specs.Answers.{signed_lines, link_text, link_check};
 ghost use Rattle.domreth_c.specs.Call.{IsCall, IsTextCall, IsCheck};
 
+mod desk;
 mod refusal_status;
 mod room;
 

@@ -1,0 +1,3 @@
+pub mod TwoWords
+pub mod PartsOwned
+pub mod HandleOwned
