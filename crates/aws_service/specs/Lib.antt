@@ -2,6 +2,7 @@ pub mod LeftOut
 pub mod Content
 pub mod Refused
 pub mod ServiceView
+pub mod UriText
 pub mod SessionHead
 pub mod SessionLink
 pub mod Service

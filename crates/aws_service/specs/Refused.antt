@@ -8,7 +8,7 @@ use Rattle.sigv4_presign.specs.declared.presign_error.PresignError.{PresignError
 use Rattle.sigv4_presign.specs.declared.presign_error.PresignError.TheVariants as presign
 use Rattle.aws_service.specs.declared.aws_error.AwsError.{AwsError}
 use Rattle.aws_service.specs.declared.aws_error.AwsError.TheVariants.{Head, Authority, Path, Moment, Content}
-use Rattle.aws_service.specs.declared.aws_error.AwsError.TheVariants.{Token, Already, Expires, Link}
+use Rattle.aws_service.specs.declared.aws_error.AwsError.TheVariants.{Token, Already, Expires, Link, Plus, Host}
 use Rattle.aws_service.specs.declared.aws_error.AwsError.TheVariants.{OutOfMemory}
 
 -- a refusal of a head to be signed in its headers
@@ -41,4 +41,6 @@ error_of Token = new_error kind.RequestInvalid (codes "query has a session token
 error_of Already = new_error kind.RequestInvalid (codes "query is presigned already")
 error_of Expires = new_error kind.RequestInvalid (codes "expiry out of range")
 error_of Link = new_error kind.RequestInvalid (codes "link not accepted")
+error_of Plus = new_error kind.RequestInvalid (codes "plus sign in the query is ambiguous")
+error_of Host = new_error kind.RequestInvalid (codes "link is for another host than agents send")
 error_of OutOfMemory = new_error kind.OutOfMemory []

@@ -1,6 +1,6 @@
 -- A head signed in its headers with the credential of a session.
 use Rattle.std.specs.Prelude.{ℕ, ℤ, not, List, [], ◌∷◌, ◌++◌, filter, codes, Option, Some, None, Result}
-use Rattle.std.specs.Prelude.{Ok, Err}
+use Rattle.std.specs.Prelude.{Ok, Err, if◌then◌else◌}
 use Rattle.sign_base.specs.declared.head.Field.{Field}
 use Rattle.sign_base.specs.declared.head.Head.{Head}
 use Rattle.sigv4_core.specs.SignedHead.{field, is_named, signing_of}
@@ -10,7 +10,9 @@ use Rattle.aws_service.specs.Content.{word_to_sign, with_word}
 use Rattle.aws_service.specs.LeftOut.{left_out, kept, with_behind}
 use Rattle.aws_service.specs.Refused.{sign_refusal}
 use Rattle.aws_service.specs.ServiceView.{ServiceView}
+use Rattle.aws_service.specs.UriText.{has_plus}
 use Rattle.aws_service.specs.declared.aws_error.AwsError.{AwsError}
+use Rattle.aws_service.specs.declared.aws_error.AwsError.TheVariants as refusal
 
 abbrev pub token_name : List ℕ
 token_name = codes "x-amz-security-token"
@@ -51,8 +53,10 @@ abbrev pub put_back : List Field → Result Head AwsError → Result Head AwsErr
 put_back headers (Ok signed) = Ok (with_behind headers signed)
 put_back headers (Err why) = Err why
 
--- the head without the headers that are left out, signed, and these put back behind
+-- the head without the headers that are left out, signed, and these put back behind; none where its query can
+-- be read in two ways
 unfoldable pub head_signing : ServiceView → Session → ℤ → Head → Result Head AwsError
 head_signing service session now head =
-    put_back (left_out service.left_out head.headers)
+    if has_plus head.uri then Err refusal.Plus
+    else put_back (left_out service.left_out head.headers)
     (whole_signing service session now (record head { headers = kept service.left_out head.headers }))

@@ -1,5 +1,5 @@
 -- A presigned link with the token of a session.
-use Rattle.std.specs.Prelude.{ℕ, ℤ, Bool, ◌==◌, ◌/◌, List, ◌++◌, codes, bytes_eq, Option, Some, None}
+use Rattle.std.specs.Prelude.{ℕ, ℤ, Bool, ◌/◌, List, ◌++◌, codes, bytes_eq, Option, Some, None}
 use Rattle.std.specs.Prelude.{Result, Ok, Err, if◌then◌else◌}
 use Rattle.std.specs.List.{list_any, slice_split, before_first, after_first}
 use Rattle.percent_encoding.specs.Percent.{percent_decode}
@@ -11,23 +11,12 @@ use Rattle.sigv4_presign.specs.declared.presign_error.PresignError.{PresignError
 use Rattle.aws_credentials.specs.Session.{Session}
 use Rattle.aws_service.specs.Refused.{link_refusal}
 use Rattle.aws_service.specs.ServiceView.{ServiceView}
+use Rattle.aws_service.specs.UriText.{is_question_mark, without_fragment, has_plus, has_other_host}
 use Rattle.aws_service.specs.declared.aws_error.AwsError.{AwsError}
 use Rattle.aws_service.specs.declared.aws_error.AwsError.TheVariants as refusal
 
 abbrev pub token_key : List ℕ
 token_key = codes "X-Amz-Security-Token"
-
--- the byte is `#`
-abbrev pub is_hash : ℕ → Bool
-is_hash b = b == 35
-
--- the byte is `?`
-abbrev pub is_question_mark : ℕ → Bool
-is_question_mark b = b == 63
-
--- a URI without its fragment (RFC 3986, 3.5), which is never sent
-abbrev pub without_fragment : List ℕ → List ℕ
-without_fragment uri = before_first is_hash uri
 
 -- the piece of a query is a token's, its key decoded once
 abbrev pub is_token_piece : List ℕ → Bool
@@ -50,14 +39,16 @@ abbrev pub uri_with_token : Option (List ℕ) → List ℕ → List ℕ
 uri_with_token None uri = uri
 uri_with_token (Some token) uri = with_pair (token_key ++ (codes "=" ++ percent_encoded token)) uri
 
--- a link, or why there is none
+-- a link that agents ask for as it was signed, or why there is none
 abbrev pub linked_or_refused : Result Head PresignError → Result Head AwsError
-linked_or_refused (Ok link) = Ok link
+linked_or_refused (Ok link) = if has_other_host link.uri then Err refusal.Host else Ok link
 linked_or_refused (Err why) = Err (link_refusal why)
 
--- the head with a link that is good for these seconds; none where the query has a token already
+-- the head with a link that is good for these seconds; none where its query can be read in two ways, or has a
+-- token already
 unfoldable pub link_signing : ServiceView → Session → ℕ → ℤ → Head → Result Head AwsError
 link_signing service session seconds now head =
-    if has_token head.uri then Err refusal.Token
+    if has_plus head.uri then Err refusal.Plus
+    else (if has_token head.uri then Err refusal.Token
     else linked_or_refused (presigning_of session.key service.scope seconds now
-    (record head { uri = uri_with_token session.token head.uri }))
+    (record head { uri = uri_with_token session.token head.uri })))

@@ -29,6 +29,12 @@ pub enum AwsError {
     Expires,
     /// `http` does not accept the link.
     Link,
+    /// The query has a `+`: a signature has it as a plus sign, and servers that read a query as a form have a
+    /// space. Write `%2B` or `%20`.
+    Plus,
+    /// The link's authority has an upper-case letter, a user, or the port of its scheme, and agents send
+    /// `host` without.
+    Host,
     /// An allocation failed.
     OutOfMemory,
 }
@@ -52,6 +58,8 @@ impl AwsError {
             AwsError::Already => "query is presigned already",
             AwsError::Expires => "expiry out of range",
             AwsError::Link => "link not accepted",
+            AwsError::Plus => "plus sign in the query is ambiguous",
+            AwsError::Host => "link is for another host than agents send",
             AwsError::OutOfMemory => return Ok(Error::out_of_memory()),
         };
         match Error::request_invalid(alloc, message) {

@@ -12,6 +12,7 @@ mod service;
 mod session_head;
 mod session_link;
 mod token;
+mod uri_text;
 
 pub use aws_error::AwsError;
 pub use content_rule::ContentRule;

@@ -5,6 +5,7 @@ ghost use Rattle.aws_service.specs.SessionHead.{head_signing, whole_signing, hea
 
 use crate::content::{own_payload, says_no_other, state_content};
 use crate::token::replace_token;
+use crate::uri_text::has_plus;
 use crate::{AwsError, AwsService};
 use aws_credentials::SessionCredential;
 use sign_base::{Field, Fields, Head, NoMemory, Timestamp};
@@ -16,8 +17,9 @@ impl<X> AwsService<X> {
     /// for the head with the credential's token and its content's word, but for the headers that are left
     /// out of what is signed: these stand behind, as they were.
     ///
-    /// `Content` where the head says another word than the rule of the service has for it; else what
-    /// `sign_head` refuses. When the credential expires is not asked: ask `is_valid` first.
+    /// `Plus` where the query has a `+`; `Content` where the head says another word than the rule of the
+    /// service has for it; else what `sign_head` refuses. When the credential expires is not asked: ask
+    /// `is_valid` first.
     #[tactic(auto, unfolding(crate::specs::SessionHead::head_signing))]
     pub fn sign_head(
         &self,
@@ -30,6 +32,9 @@ impl<X> AwsService<X> {
         ensures err { IfErr result (λ why. (why ≡ AwsError.OutOfMemory)
             ⊎ (head_signing self.now session.now now head.now ≡ Err why)) }
     {
+        if has_plus(head.uri.as_slice()) {
+            return Err(AwsError::Plus);
+        }
         let behind = self.left_out.headers_of(alloc, &head.headers)?;
         let rest = self.without_left_out(alloc, head)?;
         let signed = self.sign_whole(alloc, rest, session, now)?;

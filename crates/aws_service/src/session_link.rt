@@ -6,11 +6,12 @@ ghost use Rattle.std.specs.List.{list_any, slice_split, before_first, after_firs
 ghost use Rattle.percent_encoding.specs.Percent.{percent_decode};
 ghost use Rattle.sign_request.specs.Query.{is_ampersand, is_equals_sign};
 ghost use Rattle.sigv4_canonical.specs.Encoding.{percent_encoded};
-ghost use Rattle.aws_service.specs.SessionLink.{has_token, is_token_piece, is_hash, is_question_mark};
-ghost use Rattle.aws_service.specs.SessionLink.{without_fragment, uri_with_token, token_key, with_pair};
-ghost use Rattle.aws_service.specs.SessionLink.{link_signing};
+ghost use Rattle.aws_service.specs.SessionLink.{has_token, is_token_piece, uri_with_token, token_key};
+ghost use Rattle.aws_service.specs.SessionLink.{with_pair, link_signing};
+ghost use Rattle.aws_service.specs.UriText.{is_hash, is_question_mark, without_fragment};
 
 use crate::cut::{after_first, before_first};
+use crate::uri_text::{has_other_host, has_plus};
 use crate::{AwsError, AwsService};
 use aws_credentials::SessionCredential;
 use percent_encoding::percent_decode;
@@ -25,7 +26,8 @@ impl<X> AwsService<X> {
     /// `sigv4_presign` answers it for the head whose query has the credential's token as its last pair. A
     /// fragment goes, where there is a token.
     ///
-    /// `Token` where the query has a session's token already; else what `presign` refuses. When the
+    /// `Plus` where the query has a `+`, `Token` where it has a session's token already; else what `presign`
+    /// refuses, and `Host` where agents send another host for the link than it was signed for. When the
     /// credential expires is not asked: ask `is_valid_at` for the link's end first.
     #[tactic(auto, unfolding(crate::specs::SessionLink::link_signing))]
     pub fn presign(
@@ -40,11 +42,14 @@ impl<X> AwsService<X> {
         ensures err { IfErr result (λ why. (why ≡ AwsError.OutOfMemory)
             ⊎ (link_signing self.now session.now expires now head.now ≡ Err why)) }
     {
+        if has_plus(head.uri.as_slice()) {
+            return Err(AwsError::Plus);
+        }
         if has_token(alloc, head.uri.as_slice())? {
             return Err(AwsError::Token);
         }
         let ready = head_with_token(alloc, head, session.token())?;
-        Ok(presign_seeded(
+        let link = presign_seeded(
             alloc,
             &ready,
             session.key(),
@@ -52,7 +57,11 @@ impl<X> AwsService<X> {
             expires,
             now,
             self.keys,
-        )?)
+        )?;
+        if has_other_host(link.uri.as_slice()) {
+            return Err(AwsError::Host);
+        }
+        Ok(link)
     }
 
     /// The same for the whole seconds of a duration.

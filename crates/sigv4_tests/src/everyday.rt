@@ -2,7 +2,7 @@
 //! methods, a content, a region, a session token of 2 KB, a link for an hour, a key that expires. The
 //! values are published where the line says so, and Python's `hmac` otherwise.
 use crate::links::last_of;
-use crate::signed_heads::told;
+use crate::signed_heads::last_values;
 use crate::suite::{
     Asked, NOW, OBJECT, PLAIN, PUBLISHED, Suite, moment, object, plain, request_of,
 };
@@ -99,11 +99,13 @@ fn with_token(rt: &impl Abort, alloc: Global, uri: &str, bytes: usize) -> String
     format!(in alloc; "{uri}?X-Amz-Security-Token={token}").expect(rt, "memory")
 }
 
-/// The signature in the head.
-fn signed(rt: &impl Abort, alloc: Global, by: &Suite) -> String {
+/// The signature in the head, or the cause why there is none.
+pub(crate) fn signed(rt: &impl Abort, alloc: Global, by: &Suite) -> String {
     let now = moment(rt, NOW);
-    let head = sign_head(alloc, &by.head, &by.credential, &by.scope, &by.payload, now);
-    last_of(rt, alloc, told(rt, alloc, head).as_bytes())
+    match sign_head(alloc, &by.head, &by.credential, &by.scope, &by.payload, now) {
+        Ok(head) => last_of(rt, alloc, last_values(rt, alloc, &head).as_bytes()),
+        Err(why) => word(rt, alloc, why),
+    }
 }
 
 /// Method, region, the bytes of a session token, seconds, and the link's signature with what its check finds.
@@ -182,7 +184,7 @@ fn everyday_links_are_made_and_found_valid(rt: HostRuntime) {
 }
 
 /// The signature of the link, and what its check finds.
-fn linked(rt: &impl Abort, alloc: Global, by: &Suite, expires: u32) -> String {
+pub(crate) fn linked(rt: &impl Abort, alloc: Global, by: &Suite, expires: u32) -> String {
     let now = moment(rt, PUBLISHED);
     match presign(alloc, &by.head, &by.credential, &by.scope, expires, now) {
         Ok(link) => {

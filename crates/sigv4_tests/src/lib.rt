@@ -25,9 +25,15 @@ mod list_users;
 #[cfg(test)]
 mod many_headers;
 #[cfg(test)]
+mod other_readings;
+#[cfg(test)]
 mod processes;
 #[cfg(test)]
 mod refusals;
+#[cfg(test)]
+mod refused_memory;
+#[cfg(test)]
+mod roles;
 #[cfg(test)]
 mod secrets;
 #[cfg(test)]

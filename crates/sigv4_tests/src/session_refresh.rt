@@ -9,7 +9,7 @@ use aws_service::{AwsService, ContentRule, LeftOut, sign_now};
 use credentials::{Polled, ProvideCredential, Providers};
 use fixtures::plain_head;
 use http::request::Parts;
-use sign_base::{Error, NoMemory, Timestamp};
+use sign_base::{Error, ErrorKind, NoMemory, Timestamp};
 use sign_request::parts_of;
 use signer::Signer;
 use sigv4_core::{Payload, SigCredential, SigScope};
@@ -19,7 +19,7 @@ use std::time::Duration;
 
 /// Finds a key of which the session begins at the moment of the load, and has that moment as its token.
 #[derive(Drop)]
-struct ShortSessions;
+pub(crate) struct ShortSessions;
 
 impl ProvideCredential for ShortSessions {
     type Credential = SessionCredential;
@@ -46,6 +46,7 @@ impl ProvideCredential for ShortSessions {
     ) -> Polled<Option<SessionCredential>> {
         match short_session(alloc, ctx.moment()) {
             Ok(session) => Polled::Ready(Some(session)),
+            Err(error) if error.kind() == ErrorKind::OutOfMemory => Polled::OutOfMemory,
             Err(error) => Polled::Failed(error),
         }
     }
@@ -60,22 +61,27 @@ fn short_session(alloc: Global, now: Timestamp) -> Result<SessionCredential, Err
     SessionCredential::with_token(alloc, key, token.as_bytes())
 }
 
-type ShortSigner = Signer<ShortSessions, AwsService<PollClock>>;
+pub(crate) type ShortSigner = Signer<ShortSessions, AwsService<PollClock>>;
 
-fn short_signer(rt: &impl Abort, alloc: Global, clock: &PollClock) -> ShortSigner {
-    let service = AwsService::new(
-        SigScope::new(alloc, b"us-east-1", b"service").expect(rt, "a scope"),
-        Payload::of(alloc, b"").expect(rt, "memory"),
+/// In a box it is one value to whoever proves where it is dropped.
+pub(crate) fn short_signer(alloc: Global, clock: &PollClock) -> Option<Box<ShortSigner>> {
+    let service = suite_service(alloc).ok()?;
+    let context = clock.share().ok()?;
+    let signer = Signer::new(alloc, context, Providers::Single(ShortSessions), service);
+    Box::new(alloc, signer.ok()?).ok()
+}
+
+fn suite_service(alloc: Global) -> Result<AwsService<PollClock>, Error> {
+    Ok(AwsService::new(
+        SigScope::new(alloc, b"us-east-1", b"service")?,
+        Payload::of(alloc, b"")?,
         ContentRule::Unstated,
         LeftOut::none(alloc),
-    );
-    let context = clock.share().expect(rt, "memory");
-    let signer = Signer::new(alloc, context, Providers::Single(ShortSessions), service);
-    signer.ok().expect(rt, "memory")
+    ))
 }
 
 /// The seconds from the suite's moment on, and the token and the signature of the request then.
-const CALLS: [(u8, &str); 7] = [
+pub(crate) const CALLS: [(u8, &str); 7] = [
     (
         0,
         "of1440938160000000000 3f7da11c21969b756f8442ac4331ea808860def8f9f36757edcdfcb463dbbcea",
@@ -109,7 +115,7 @@ const CALLS: [(u8, &str); 7] = [
 #[test]
 fn each_session_signs_with_its_own_token(rt: HostRuntime) {
     let clock = PollClock::new(rt.alloc(), moment(&rt, NOW)).expect(&rt, "memory");
-    let mut signer = short_signer(&rt, rt.alloc(), &clock);
+    let mut signer = short_signer(rt.alloc(), &clock).expect(&rt, "memory");
     let head = plain_head(rt.alloc(), "GET", PLAIN).expect(&rt, "memory");
     let mut req = parts_of(rt.alloc(), &head).expect(&rt, "a request");
     for (second, wanted) in CALLS {
