@@ -216,7 +216,8 @@ impl<S: Surroundings, R: Wait> JobServer<'_, S, R> {
         self.go_on(history, pass, job, &signed)
     }
 
-    /// Makes the next event of a live call. Where the reply is `Pending` other threads may run first.
+    /// Makes the next event of a live call. Where the reply is `Pending` the call sleeps until its turn, and
+    /// other threads may run first.
     fn go_on(
         &self,
         history: &mut S::History,
@@ -235,6 +236,7 @@ impl<S: Surroundings, R: Wait> JobServer<'_, S, R> {
         match self.around.step(history, pass, event) {
             Reply::OutOfMemory => self.stop(history, pass, job),
             Reply::Pending => {
+                self.around.sleep_behind(event);
                 thread::yield_now();
                 NextStep::Poll
             }

@@ -1,7 +1,8 @@
-//! A signer that threads share: a book behind one lock, and beside it the plan. Workers serve lists
-//! of jobs at it.
+//! A signer that threads share: a book or a volume behind one lock, and beside it the plan. Workers serve
+//! lists of jobs at it. A worker whose call is behind others sleeps until a step passes a turn on.
 #![tactic(auto)]
 
+mod batch;
 mod gate;
 mod job;
 mod job_server;
@@ -13,7 +14,9 @@ mod serve;
 mod shared;
 mod slots;
 mod surroundings;
+mod turn_lock;
 
+pub use batch::Batch;
 pub use gate::{Gate, GateLoad};
 pub use job::{Job, Served};
 pub use pool::{PoolRefused, Pooled, serve_all};

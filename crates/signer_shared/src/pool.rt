@@ -68,10 +68,10 @@ pub fn serve_all<
         × ServesLists (G.meaning gate.now) turns
         (map (λ l. l.items) work.now) close.passes.items served)) }
 {
-    let Ok(mut slots) = Slots::new(&shared, work.len()) else {
+    let Ok(mut slots) = Slots::new(shared.book.alloc(), work.len()) else {
         return Err(PoolRefused::OutOfMemory(shared));
     };
-    slots.serve(rt, &shared, work, gate, turns);
+    slots.serve(rt, &shared.book, work, gate, turns);
     let (passes, served) = slots.into_results();
     match shared.close(passes) {
         Ok(settled) => Ok(Pooled { settled, served }),

@@ -3,18 +3,19 @@ ghost use Rattle.std.specs.Prelude.{◌≡◌, ◌≢◌, ◌++◌, ◌∷◌, [
 ghost use Rattle.sequential_signer.specs.declared.event.Reply.TheVariants.{OutOfMemory};
 ghost use Rattle.sign_desk.specs.ReplyKinds.{is_reply_to};
 
+use crate::turn_lock::TurnLock;
 use sequential_signer::{DeadlineRule, Entry, Event, Reply, SigningCredential};
 use sign_base::{EqualByValue, NoMemory};
 use sign_desk::Desk;
 use signer_book::{NextVolume, Pass, RotateRefused, Settled, Volume, VolumeRefused};
 use std::marker::Model;
-use std::sync::{Mutex, Wait};
+use std::sync::Wait;
 
 /// A volume behind one lock, and beside it the plan: a desk like the one that the volume was opened at, which
 /// never changes. Contracts see the plan alone.
 #[derive(Drop)]
 pub struct RotatingSigner<K: SigningCredential, D: DeadlineRule<Credential = K>> {
-    volume: Mutex<Volume<K, D>>,
+    pub(crate) volume: TurnLock<Volume<K, D>>,
     plan: Desk<K, D>,
 }
 
@@ -41,7 +42,7 @@ impl<K: SigningCredential, D: DeadlineRule<Credential = K>> RotatingSigner<K, D>
         ensures { result ≡ plan }
     {
         RotatingSigner {
-            volume: Mutex::new(volume),
+            volume: TurnLock::new(volume, plan.alloc()),
             plan,
         }
     }
@@ -62,9 +63,7 @@ impl<K: SigningCredential, D: DeadlineRule<Credential = K>> RotatingSigner<K, D>
         ensures unchanged { result ≡ OutOfMemory → pass.new ≡ pass.old }
         ensures kind { IsTrue (is_reply_to event.now result) }
     {
-        let mut volume = self.volume.lock(rt);
-        let reply = volume.apply(pass, event);
-        reply
+        self.volume.step(rt, pass, event)
     }
 }
 

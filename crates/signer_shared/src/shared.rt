@@ -3,19 +3,19 @@ ghost use Rattle.std.specs.Prelude.{◌≡◌, ◌≢◌, ◌++◌, ◌∷◌, [
 ghost use Rattle.sequential_signer.specs.declared.event.Reply.TheVariants.{OutOfMemory};
 ghost use Rattle.sign_desk.specs.ReplyKinds.{is_reply_to};
 
+use crate::turn_lock::TurnLock;
 use sequential_signer::{DeadlineRule, Event, Reply, SigningCredential};
 use sign_base::{EqualByValue, NoMemory};
 use sign_desk::Desk;
 use signer_book::{Book, CloseRefused, Pass, Settled};
-use std::alloc::Global;
 use std::marker::Model;
-use std::sync::{Mutex, Wait};
+use std::sync::Wait;
 
 /// A book behind one lock, and beside it a second desk, which never changes: the plan. Contracts see the
 /// plan alone.
 #[derive(Drop)]
 pub struct SharedSigner<K: SigningCredential, D: DeadlineRule<Credential = K>> {
-    book: Mutex<Book<K, D>>,
+    pub(crate) book: TurnLock<Book<K, D>>,
     plan: Desk<K, D>,
 }
 
@@ -39,7 +39,7 @@ impl<K: SigningCredential, D: DeadlineRule<Credential = K>> SharedSigner<K, D> {
         ensures { result ≡ plan }
     {
         SharedSigner {
-            book: Mutex::new(book),
+            book: TurnLock::new(book, plan.alloc()),
             plan,
         }
     }
@@ -63,16 +63,7 @@ impl<K: SigningCredential, D: DeadlineRule<Credential = K>> SharedSigner<K, D> {
         ensures unchanged { result ≡ OutOfMemory → pass.new ≡ pass.old }
         ensures kind { IsTrue (is_reply_to event.now result) }
     {
-        let mut book = self.book.lock(rt);
-        let reply = book.apply(pass, event);
-        reply
-    }
-}
-
-impl<K: SigningCredential, D: DeadlineRule<Credential = K>> SharedSigner<K, D> {
-    /// Where the plan takes its memory.
-    pub(crate) fn alloc(&self) -> Global {
-        self.plan.alloc()
+        self.book.step(rt, pass, event)
     }
 }
 

@@ -8,11 +8,12 @@ ghost use Rattle.signer_shared.specs.Slots.{HasResultRoom, AreEmptySlots, Serves
 
 use crate::gate::Gate;
 use crate::job::{Job, Served};
-use crate::serve::serve_jobs;
-use crate::shared::SharedSigner;
-use sequential_signer::{DeadlineRule, SigningCredential};
+use crate::serve::serve_at;
+use crate::turn_lock::{Journaled, TurnLock};
+use sequential_signer::SigningCredential;
 use sign_base::NoMemory;
 use signer_book::Pass;
+use std::alloc::Global;
 use std::sync::Wait;
 use std::thread;
 use std::thread::Threads;
@@ -33,19 +34,15 @@ pub(crate) struct Slots<K> {
 }
 
 impl<K: SigningCredential> Slots<K> {
-    pub(crate) fn new<D: DeadlineRule<Credential = K>>(
-        shared: &SharedSigner<K, D>,
-        count: usize,
-    ) -> Result<Slots<K>, NoMemory<()>>
+    pub(crate) fn new(alloc: Global, count: usize) -> Result<Slots<K>, NoMemory<()>>
         ensures slots { IfOk result (λ s. AreEmptySlots count s.slots.items) }
         ensures room { IfOk result HasResultRoom }
     {
-        let alloc = shared.alloc();
         let passes = Vec::with_capacity(alloc, count)?;
         let served = Vec::with_capacity(alloc, count)?;
         let mut slots = Vec::with_capacity(alloc, count)?;
         for _slot in 0..count {
-            let pass = shared.pass()?;
+            let pass = Pass::new(alloc);
             slots.push_reserved(WorkerResult {
                 pass,
                 served: Served::new(),
@@ -79,11 +76,14 @@ impl<K: SigningCredential> Slots<K> {
 
 impl<K: SigningCredential + Send + Sync> Slots<K> {
     /// A worker for each list, which writes into its slot. All are joined.
-    pub(crate) fn serve<
-        D: DeadlineRule<Credential = K> + Send + Sync,
-        G: Gate<K> + Sync,
-        R: Threads + Wait + Sync,
-    >(&mut self, rt: &R, shared: &SharedSigner<K, D>, work: &[Vec<Job>], gate: &G, turns: u64)
+    pub(crate) fn serve<J: Journaled<K> + Send, G: Gate<K> + Sync, R: Threads + Wait + Sync>(
+        &mut self,
+        rt: &R,
+        signer: &TurnLock<J>,
+        work: &[Vec<Job>],
+        gate: &G,
+        turns: u64,
+    )
         requires count { length self.old.slots.items ≡ length work.now }
         requires room { HasResultRoom self.old }
         ensures each { ServesSlots (G.meaning gate.now) turns work.now
@@ -91,18 +91,18 @@ impl<K: SigningCredential + Send + Sync> Slots<K> {
         ensures count { length self.new.slots.items ≡ length work.now }
         ensures room { HasResultRoom self.new }
     {
-        serve_slots(rt, shared, work, gate, turns, self.slots.as_mut_slice());
+        serve_slots(rt, signer, work, gate, turns, self.slots.as_mut_slice());
     }
 }
 
 fn serve_slots<
     K: SigningCredential + Send + Sync,
-    D: DeadlineRule<Credential = K> + Send + Sync,
+    J: Journaled<K> + Send,
     G: Gate<K> + Sync,
     R: Threads + Wait + Sync,
 >(
     rt: &R,
-    shared: &SharedSigner<K, D>,
+    signer: &TurnLock<J>,
     work: &[Vec<Job>],
     gate: &G,
     turns: u64,
@@ -120,13 +120,13 @@ fn serve_slots<
         ensures { (e : Vec Job) → slot.old.pass ≡ []
             → IsServing (G.meaning gate.entry.now) turns (slice_index_or work.entry.now i e).items
             slot.new.pass slot.new.served }
-    { serve_slot(rt, shared, work, i, gate, turns, slot) };
+    { serve_slot(rt, signer, work, i, gate, turns, slot) };
     thread::for_each_mut(rt, slots, threads, &worker);
 }
 
-fn serve_slot<K: SigningCredential, D: DeadlineRule<Credential = K>, G: Gate<K>, R: Wait>(
+fn serve_slot<K: SigningCredential, J: Journaled<K>, G: Gate<K>, R: Wait>(
     rt: &R,
-    shared: &SharedSigner<K, D>,
+    signer: &TurnLock<J>,
     work: &[Vec<Job>],
     i: usize,
     gate: &G,
@@ -139,5 +139,5 @@ fn serve_slot<K: SigningCredential, D: DeadlineRule<Credential = K>, G: Gate<K>,
         slot.new.pass slot.new.served }
 {
     let jobs = work[i].as_slice();
-    slot.served = serve_jobs(rt, shared, &mut slot.pass, jobs, gate, turns);
+    slot.served = serve_at(rt, signer, &mut slot.pass, jobs, gate, turns);
 }

@@ -8,11 +8,12 @@ ghost use Rattle.signer_shared.specs.Gates.{IfAnswered};
 ghost use Rattle.signer_shared.specs.declared.gate.GateLoad.TheVariants.{NotYet};
 
 use crate::gate::{Gate, GateLoad};
-use crate::shared::SharedSigner;
-use sequential_signer::{DeadlineRule, Event, Reply, SigningCredential, Verdict};
+use crate::turn_lock::{Journaled, TurnLock};
+use sequential_signer::{Event, Reply, SigningCredential, Verdict};
 use sign_base::{CallId, Head, NoMemory, Timestamp};
 use signer_book::Pass;
 use std::alloc::Global;
+use std::marker::PhantomData;
 use std::sync::Wait;
 
 /// The signer and the gate of a worker. Each call is one more in the worker's history, and what it allows
@@ -79,18 +80,22 @@ pub(crate) trait Surroundings {
         ensures unchanged { result ≡ OutOfMemory → pass.new ≡ pass.old }
         ensures kind { IsTrue (is_reply_to event.now result) }
         ensures allows { IsAllowedBy event.now result (allows history.new) };
+
+    /// Sleeps until the poll would no longer find its call behind others.
+    fn sleep_behind(&self, poll: &Event<Self::Credential>);
 }
 
-/// A shared signer and a gate.
+/// What lies under the lock of a signer, and a gate.
 #[derive(Drop)]
-pub(crate) struct SignerAndGate<'a, K: SigningCredential, D: DeadlineRule<Credential = K>, G, R> {
+pub(crate) struct SignerAndGate<'a, K, J, G, R> {
     pub(crate) rt: &'a R,
-    pub(crate) shared: &'a SharedSigner<K, D>,
+    pub(crate) signer: &'a TurnLock<J>,
     pub(crate) gate: &'a G,
+    pub(crate) of: PhantomData<K>,
 }
 
-impl<K: SigningCredential, D: DeadlineRule<Credential = K>, G: Gate<K>, R: Wait> Surroundings
-    for SignerAndGate<'_, K, D, G, R> {
+impl<K: SigningCredential, J: Journaled<K>, G: Gate<K>, R: Wait> Surroundings
+    for SignerAndGate<'_, K, J, G, R> {
     type Credential = K;
 
     type History = ();
@@ -105,7 +110,7 @@ impl<K: SigningCredential, D: DeadlineRule<Credential = K>, G: Gate<K>, R: Wait>
     } };
 
     fn alloc(&self) -> Global {
-        self.shared.alloc()
+        self.signer.alloc()
     }
 
     fn load(&self, _history: &mut (), call: CallId, provider: u32, turn: u64) -> GateLoad<K> {
@@ -127,6 +132,10 @@ impl<K: SigningCredential, D: DeadlineRule<Credential = K>, G: Gate<K>, R: Wait>
     }
 
     fn step(&self, _history: &mut (), pass: &mut Pass<K>, event: &Event<K>) -> Reply<K> {
-        self.shared.step(self.rt, pass, event)
+        self.signer.step(self.rt, pass, event)
+    }
+
+    fn sleep_behind(&self, poll: &Event<K>) {
+        self.signer.sleep_behind(self.rt, poll);
     }
 }

@@ -23,6 +23,8 @@ pub enum Answers {
     LoadsMeet,
     /// So do the verdicts.
     VerdictsMeet,
+    /// A load is answered some time after so much was asked of the gate.
+    LoadsSlowly(u64),
 }
 
 /// A gate whose clock goes on by a nanosecond whenever anything is asked of it. One that waited in vain says
@@ -67,6 +69,15 @@ impl<K> TestGate<K> {
         (loads, self.verdicts.load(Ordering::SeqCst))
     }
 
+    /// Waits until so much was asked of it, and then so long that a thread has time to fall asleep.
+    pub fn lingers(&self, asks: u64) -> bool {
+        let asked = reach(&self.asks, asks);
+        for _ in 0..200_000u32 {
+            self.asks.load(Ordering::SeqCst);
+        }
+        asked
+    }
+
     /// Notes that this handle asked, and waits until the other does.
     fn meets(&self, handle: u32) -> bool {
         match handle {
@@ -77,12 +88,16 @@ impl<K> TestGate<K> {
     }
 }
 
-/// Notes that one was asked, and waits until the other is. It is looked at so often that a thread has time
-/// to start.
+/// Notes that one was asked, and waits until the other is.
 fn meet(mine: &AtomicU64, other: &AtomicU64) -> bool {
     mine.store(1, Ordering::SeqCst);
+    reach(other, 1)
+}
+
+/// Waits until a count has come so far. It is looked at so often that a thread has time to start.
+fn reach(count: &AtomicU64, least: u64) -> bool {
     for _ in 0..1_000_000_000u64 {
-        if other.load(Ordering::SeqCst) == 1 {
+        if count.load(Ordering::SeqCst) >= least {
             return true;
         }
     }
@@ -107,6 +122,7 @@ impl<K: SigningCredential> Gate<K> for TestGate<K> {
             Answers::ReadyFrom(first) if turn < first => GateLoad::NotYet,
             Answers::LoadsWithoutMemory => GateLoad::OutOfMemory,
             Answers::LoadsMeet if !self.meets(call.handle) => GateLoad::OutOfMemory,
+            Answers::LoadsSlowly(asks) if !self.lingers(asks) => GateLoad::OutOfMemory,
             _ => match self.credential.try_clone(self.alloc) {
                 Ok(credential) => GateLoad::Answer(Answer::Found(credential)),
                 Err(_) => GateLoad::OutOfMemory,

@@ -3,6 +3,8 @@
 #![tactic(auto)]
 
 #[cfg(test)]
+mod batches;
+#[cfg(test)]
 mod closing;
 #[cfg(test)]
 mod commands;
@@ -24,6 +26,8 @@ mod seats;
 mod serving;
 #[cfg(test)]
 mod signers;
+#[cfg(test)]
+mod sleepers;
 #[cfg(test)]
 mod stands;
 #[cfg(test)]

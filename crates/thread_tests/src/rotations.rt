@@ -1,8 +1,8 @@
 //! Signers whose history is written away volume by volume: each journal goes on where the one before ended.
 use crate::signers::{desk_of, head};
 use fixtures::{Key, UntilNow};
-use sequential_signer::{Answer, Entry, Event, Verdict};
-use sign_base::{CallId, Timestamp};
+use sequential_signer::{Answer, DeadlineRule, Entry, Event, SigningCredential, Verdict};
+use sign_base::{CallId, EqualByValue, Timestamp};
 use sign_desk::{Desk, same_reply};
 use signer_shared::{Pass, RotateError, Rotated, RotatingSigner, Volume, VolumeError};
 use std::alloc::Global;
@@ -20,7 +20,12 @@ fn desk<R: Abort>(rt: &R, alloc: Global) -> KeyDesk {
 }
 
 /// A signer that goes on from two desks that are alike and have no live call.
-fn signer<R: Abort>(rt: &R, desk: KeyDesk, plan: KeyDesk) -> KeySigner {
+pub fn signer<K, D, R>(rt: &R, desk: Desk<K, D>, plan: Desk<K, D>) -> RotatingSigner<K, D>
+where
+    K: SigningCredential + EqualByValue,
+    D: DeadlineRule<Credential = K> + EqualByValue,
+    R: Abort,
+{
     assert!(rt; desk.live() == 0);
     let volume = Volume::open(desk).ok().expect(rt, "memory");
     assert!(rt; volume.is_opened_at(&plan));
@@ -68,7 +73,12 @@ fn sign<R: Abort + Wait>(
 }
 
 /// Steps a desk by the events of a journal, and compares the replies.
-fn replay<R: Abort>(rt: &R, desk: &mut KeyDesk, journal: &[Entry<Key>]) {
+pub fn replay<K, D, R>(rt: &R, desk: &mut Desk<K, D>, journal: &[Entry<K>])
+where
+    K: SigningCredential + EqualByValue,
+    D: DeadlineRule<Credential = K>,
+    R: Abort,
+{
     for entry in journal {
         let reply = desk.step(&entry.event);
         assert!(rt; same_reply(&reply, &entry.reply));
