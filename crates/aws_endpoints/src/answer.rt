@@ -22,7 +22,7 @@ use std::alloc::Global;
 const MOST_BYTES: usize = 1_048_576;
 
 /// What is answered by a poll of a request whose response has the credential.
-pub(crate) fn session_polled(
+pub fn session_polled(
     alloc: Global,
     place: &str,
     polled: Polled<Response<Bytes>>,
@@ -66,7 +66,7 @@ fn session_in_answer(
 }
 
 /// The body of a response of status 200.
-fn body_in(alloc: Global, place: &str, response: Response<Bytes>) -> Result<Bytes, Error>
+pub fn body_in(alloc: Global, place: &str, response: Response<Bytes>) -> Result<Bytes, Error>
     ensures { IsReading (λ body. body) (body_in place.now response) result }
 {
     let (head, body) = response.into_parts();

@@ -17,7 +17,7 @@ use sign_request::parts_of;
 use std::alloc::Global;
 
 /// Begins to send a request of this head, with no body.
-pub(crate) fn begin<X: HasSender>(
+pub fn begin<X: HasSender>(
     alloc: Global,
     ctx: &X,
     place: &str,

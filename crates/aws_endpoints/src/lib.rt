@@ -1,12 +1,12 @@
 //! Providers of what the endpoints of containers hand out.
 #![tactic(auto)]
 
-mod answer;
-mod asking;
+pub mod answer;
+pub mod asking;
 mod container;
 mod container_request;
 mod has_sender;
-mod refused;
+pub mod refused;
 
 pub use container::{ContainerLoad, ContainerProvider};
 pub use has_sender::HasSender;

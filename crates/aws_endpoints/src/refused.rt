@@ -8,7 +8,7 @@ use sign_base::{Error, ErrorKind};
 use std::alloc::Global;
 
 /// The error with this cause and place, or that there is no memory for saying so.
-pub(crate) fn refused(alloc: Global, cause: &str, place: &str) -> Error
+pub fn refused(alloc: Global, cause: &str, place: &str) -> Error
     ensures { IsErrorOf CredentialInvalid (cause.now ++ place.now) result }
 {
     match format!(in alloc; "{cause}{place}") {
@@ -18,7 +18,7 @@ pub(crate) fn refused(alloc: Global, cause: &str, place: &str) -> Error
 }
 
 /// What a poll answers that met this error.
-pub(crate) fn failed<T>(error: Error) -> Polled<T>
+pub fn failed<T>(error: Error) -> Polled<T>
     ensures memory { error.kind ≡ OutOfMemory → result ≡ Polled.OutOfMemory }
     ensures other { error.kind ≢ OutOfMemory → result ≡ Polled.Failed error }
 {
