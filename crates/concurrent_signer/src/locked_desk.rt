@@ -77,7 +77,32 @@ impl<K: SigningCredential, D: DeadlineRule<Credential = K>, N: SetUp<D>> LockedD
         entry
     }
 
-    /// Begins a call under the handle, unless as many are live as there may be.
+    /// The same by an event that the desk keeps, beside an equal one for the entry: nothing is copied while
+    /// others wait for the lock.
+    pub(crate) fn step_owned<R: Wait>(
+        &mut self,
+        rt: &R,
+        counter: &Counter<Entry<K>, N>,
+        me: &mut History<K, D, N>,
+        event: Event<K>,
+        same: Event<K>,
+    ) -> Entry<K>
+        requires { same ≡ event }
+        ensures event { result.event ≡ event }
+        ensures kind { IsTrue (is_reply_to event result.reply) }
+        ensures seen { IsPrefix me.old self.old }
+        ensures added { self.new ≡ self.old ++ result ∷ [] }
+        ensures me { me.new ≡ self.new }
+    {
+        let reply = self.desk.step_owned(event);
+        let entry = Entry { event: same, reply };
+        self.history = self.history.with(rt, counter, me, &entry);
+        *me = self.history.again();
+        entry
+    }
+
+    /// Begins a call under the handle, unless as many are live as there may be. `same` is a copy of the head,
+    /// and the event with it is left in `spent`, to be dropped when the lock is free again.
     #[tactic(auto, using(crate::proofs::Adding::added_behind, crate::proofs::Adding::begun_behind))]
     pub(crate) fn begin<R: Wait>(
         &mut self,
@@ -87,8 +112,11 @@ impl<K: SigningCredential, D: DeadlineRule<Credential = K>, N: SetUp<D>> LockedD
         limit: usize,
         handle: u32,
         head: Head,
+        same: Head,
         expires_in: Option<Duration>,
+        spent: &mut Option<Event<K>>,
     ) -> Result<CallId, Refusal>
+        requires { same ≡ head }
         ensures ok { IfOk result (λ call. (call.handle ≡ handle)
             × IsBegun limit call head expires_in me.old me.new) }
         ensures err { IfErr result (IsUnbegun limit handle head expires_in me.old me.new) }
@@ -106,7 +134,13 @@ impl<K: SigningCredential, D: DeadlineRule<Credential = K>, N: SetUp<D>> LockedD
             head,
             expires_in,
         };
-        let Entry { reply, .. } = self.step(rt, counter, me, event);
+        let same = Event::Begin {
+            call,
+            head: same,
+            expires_in,
+        };
+        let Entry { event, reply } = self.step_owned(rt, counter, me, event, same);
+        *spent = Some(event);
         match reply {
             Reply::Begun => Ok(call),
             Reply::OutOfMemory => Err(Refusal::OutOfMemory),

@@ -96,6 +96,7 @@ where
     G: Gate<K>,
     N: SetUp<D>,
 {
+    ghost use Rattle.sequential_signer.specs.declared.event.Event.TheVariants.{Signed};
     ghost use Rattle.sequential_signer.specs.declared.event.Verdict.TheVariants.{Accepted, Failed};
     ghost use Rattle.sign_desk.specs.ReplyKinds.{is_reply_to};
     ghost use Rattle.signer_shared.specs.Gates.{IfAnswered};
@@ -130,7 +131,7 @@ where
         self.sign_with(rt, me, call, &credential, head)
     }
 
-    /// Begins a call with a copy of the head.
+    /// Begins a call with a copy of the head. What the event leaves is dropped when the lock is free again.
     fn begin<R: Wait>(
         &self,
         rt: &R,
@@ -146,10 +147,43 @@ where
         let Ok(copy) = head.try_clone(self.alloc) else {
             return Err(Refusal::OutOfMemory);
         };
+        let Ok(same) = head.try_clone(self.alloc) else {
+            drop(copy);
+            return Err(Refusal::OutOfMemory);
+        };
+        let mut spent = None;
+        let begun = self.begin_locked(rt, me, handle, copy, same, expires_in, &mut spent);
+        drop(spent);
+        begun
+    }
+
+    fn begin_locked<R: Wait>(
+        &self,
+        rt: &R,
+        me: &mut History<K, D, N>,
+        handle: u32,
+        head: Head,
+        same: Head,
+        expires_in: Option<Duration>,
+        spent: &mut Option<Event<K>>,
+    ) -> Result<CallId, Refusal>
+        requires { same ≡ head }
+        ensures ok { IfOk result (λ call. (call.handle ≡ handle)
+            × IsBegun self.now.limit call head expires_in me.old me.new) }
+        ensures err { IfErr result (IsUnbegun self.now.limit handle head expires_in me.old me.new) }
+    {
         let limit = self.settings.limit;
-        self.desk
-            .lock(rt)
-            .begin(rt, &self.counter, me, limit, handle, copy, expires_in)
+        self.desk.lock(rt).begin(
+            rt,
+            &self.counter,
+            me,
+            limit,
+            handle,
+            head,
+            same,
+            expires_in,
+            spent,
+        )
     }
 
     /// Goes on with a call until it has a credential.
@@ -309,8 +343,11 @@ where
         ensures err { IfErr result (IsEnded (G.meaning self.now.gate) call head.old me.old me.new) }
         ensures unchanged { OnErr result (head.new ≡ head.old) }
     {
-        let answer = Verdict::Accepted(candidate);
-        let Entry { event, reply } = self.step(rt, me, Event::Signed { call, answer });
+        let Ok(same) = candidate.try_clone(self.alloc) else {
+            drop(candidate);
+            return Err(self.give_up(rt, me, call, Refusal::OutOfMemory));
+        };
+        let Entry { event, reply } = self.step_accepted(rt, me, call, candidate, same);
         match reply {
             Reply::Done { .. } => {
                 if let Some(accepted) = accepted_in(event) {
@@ -390,6 +427,35 @@ where
         ensures added { IsAdded me.old result me.new }
     {
         let entry = self.step_locked(rt, me, event);
+        if names_next(&entry.reply) {
+            self.turned.notify_all();
+        }
+        entry
+    }
+
+    /// The event of a head that the service accepted, which the desk keeps. `same` is a copy for the entry.
+    #[tactic(auto, using(crate::proofs::Adding::added_behind))]
+    fn step_accepted<R: Wait>(
+        &self,
+        rt: &R,
+        me: &mut History<K, D, N>,
+        call: CallId,
+        head: Head,
+        same: Head,
+    ) -> Entry<K>
+        requires { same ≡ head }
+        ensures event { result.event ≡ Signed call (Accepted head) }
+        ensures kind { IsTrue (is_reply_to result.event result.reply) }
+        ensures added { IsAdded me.old result me.new }
+    {
+        let answer = Verdict::Accepted(head);
+        let event = Event::Signed { call, answer };
+        let answer = Verdict::Accepted(same);
+        let same = Event::Signed { call, answer };
+        let entry = self
+            .desk
+            .lock(rt)
+            .step_owned(rt, &self.counter, me, event, same);
         if names_next(&entry.reply) {
             self.turned.notify_all();
         }
