@@ -25,15 +25,20 @@ first_piece tag xml = find (λ piece. starts_with nat_eq piece tag) (slice_split
 abbrev pub unless_reference : List ℕ → Option (List ℕ)
 unless_reference text = if list_any is_ampersand text then None else Some text
 
--- what stands behind the first tag of this name, up to the next tag
+-- what stands behind the first tag that this one closes, up to the next tag
+abbrev pub text_closed_by : List ℕ → List ℕ → Option (List ℕ)
+text_closed_by closing xml =
+    option_and_then (λ piece. unless_reference (drop (length (drop 1 closing)) piece))
+    (first_piece (drop 1 closing) xml)
+
+-- the text of the element with this closing tag, as `/Name>`: none in a text that is cut off before it
 unfoldable pub element_text : List ℕ → List ℕ → Option (List ℕ)
-element_text tag xml =
-    option_map utf8_lossy
-    (option_and_then (λ piece. unless_reference (drop (length tag) piece)) (first_piece tag xml))
+element_text closing xml =
+    if is_some (first_piece closing xml) then option_map utf8_lossy (text_closed_by closing xml) else None
 
 -- the moment at which a session ends
 abbrev pub expiry_in : List ℕ → Option ℤ
-expiry_in xml = option_and_then read_moment (element_text (codes "Expiration>") xml)
+expiry_in xml = option_and_then read_moment (element_text (codes "/Expiration>") xml)
 
 -- the place that messages name
 abbrev pub sts_answer : List ℕ
@@ -42,8 +47,8 @@ sts_answer = codes "the answer of STS"
 -- the key and the token of a session that ends then
 unfoldable pub found_until : ℤ → List ℕ → Found
 found_until end xml =
-    found_in sts_answer (Some end) (element_text (codes "AccessKeyId>") xml)
-    (element_text (codes "SecretAccessKey>") xml) (element_text (codes "SessionToken>") xml)
+    found_in sts_answer (Some end) (element_text (codes "/AccessKeyId>") xml)
+    (element_text (codes "/SecretAccessKey>") xml) (element_text (codes "/SessionToken>") xml)
 
 -- the answer names no credential of a session, for this reason
 abbrev pub not_granted : List ℕ → Result Session ErrorParts

@@ -59,7 +59,7 @@ fn granted_in_xml(alloc: Global, xml: &[u8]) -> Result<SessionCredential, Error>
 fn expiry_in(alloc: Global, xml: &[u8]) -> Result<Option<Timestamp>, NoMemory<()>>
     ensures { IfOk result (λ end. end ≡ expiry_in xml.now) }
 {
-    match element_text(alloc, xml, b"Expiration>")? {
+    match element_text(alloc, xml, b"/Expiration>")? {
         Some(text) => Ok(Timestamp::parse(alloc, text.as_str()).ok()),
         None => Ok(None),
     }
@@ -74,9 +74,9 @@ fn found_until(
     ensures { IsFound (found_until end xml.now) result }
 {
     let texts = KeyTexts {
-        access: element_text(alloc, xml, b"AccessKeyId>")?,
-        secret: element_text(alloc, xml, b"SecretAccessKey>")?,
-        token: element_text(alloc, xml, b"SessionToken>")?,
+        access: element_text(alloc, xml, b"/AccessKeyId>")?,
+        secret: element_text(alloc, xml, b"/SecretAccessKey>")?,
+        token: element_text(alloc, xml, b"/SessionToken>")?,
     };
     session_in(alloc, PLACE, texts, Some(end))
 }

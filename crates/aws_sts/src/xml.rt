@@ -7,20 +7,24 @@ ghost use Rattle.aws_sts.specs.RoleAnswer.{first_piece, element_text};
 use sign_base::NoMemory;
 use std::alloc::Global;
 
-/// What stands behind the first tag of this name, as `Name>`, up to the next tag, decoded lossily. None where
-/// there is no such tag, or where the text has a reference.
+/// The text of the first element with this closing tag, as `/Name>`, up to the next tag, decoded lossily.
+/// None where one of its tags is not there, as in a text that is cut off, or where the text has a reference.
 #[tactic(auto, unfolding(crate::specs::RoleAnswer::element_text))]
 pub(crate) fn element_text(
     alloc: Global,
     xml: &[u8],
-    tag: &[u8],
+    closing: &[u8],
 ) -> Result<Option<String>, NoMemory<()>>
-    ensures { IfOk result (λ text. option_map string_bytes text ≡ element_text tag.now xml.now) }
+    ensures { IfOk result (λ text. option_map string_bytes text ≡ element_text closing.now xml.now) }
 {
-    let Some(piece) = first_piece(xml, tag) else {
+    if first_piece(xml, closing).is_none() {
+        return Ok(None);
+    }
+    let opening = behind(closing, 1);
+    let Some(piece) = first_piece(xml, opening) else {
         return Ok(None);
     };
-    let text = behind(piece, tag.len());
+    let text = behind(piece, opening.len());
     if has_reference(text) {
         return Ok(None);
     }

@@ -16,7 +16,7 @@ use Rattle.sequential_signer.specs.Transcript.{call_of, committed_entries}
 use Rattle.sequential_signer.specs.LiveCall.{live_calls}
 use Rattle.concurrent_signer.specs.Calls.{IsBegun, begin_entry, IsAsked, IsFrom, IsReplied, IsEnded, IsCancelled, is_unfit, cancel_entry}
 use Rattle.concurrent_signer.specs.declared.refusal.Refusal.{Refusal}
-use Rattle.concurrent_signer.specs.declared.refusal.Refusal.TheVariants.{Refused, Busy, GivenUp, NotNow, OutOfMemory}
+use Rattle.concurrent_signer.specs.declared.refusal.Refusal.TheVariants.{Refused, Busy, GivenUp, NotNow, OutOfMemory, Stopped}
 
 module _ {E : Type 0} where
   -- an entry behind all of a history that begins with what was seen
@@ -109,6 +109,8 @@ module _ {K : Type 0} (gate : GateMeaning K) (call : CallId) (head : Head) where
   ended_later (Refused why) start before after begins ended =
       (ended.0, replied_later start before after (reply.Refused why ended.0) begins ended.1)
   ended_later GivenUp start before after begins ended =
+      (ended.0, added_later start before after (cancel_entry call ended.0) begins ended.1)
+  ended_later Stopped start before after begins ended =
       (ended.0, added_later start before after (cancel_entry call ended.0) begins ended.1)
   ended_later OutOfMemory start before after begins ended =
       (ended.0, added_later start before after (cancel_entry call ended.0) begins ended.1)

@@ -18,7 +18,7 @@ use Rattle.signer_shared.specs.Gates.{GateMeaning}
 use Rattle.concurrent_signer.specs.Entries.{IsAdded}
 use Rattle.concurrent_signer.specs.declared.refusal.Refusal.{Refusal}
 use Rattle.concurrent_signer.specs.declared.refusal.Refusal.TheVariants.{Refused, Busy, GivenUp, NotNow}
-use Rattle.concurrent_signer.specs.declared.refusal.Refusal.TheVariants.{OutOfMemory}
+use Rattle.concurrent_signer.specs.declared.refusal.Refusal.TheVariants.{OutOfMemory, Stopped}
 
 module _ {K : Type 0} where
   -- the begin of a call, with this reply
@@ -53,7 +53,8 @@ module _ {K : Type 0} where
   is_unfit (reply.Cancelled wake) = true
   is_unfit _ = false
 
-  -- Why nothing was begun. Busy: as many calls as the limit or more are live before the last entry.
+  -- Why nothing was begun. Busy: as many calls as the limit or more are live before the last entry. Stopped:
+  -- the history was not looked at.
   abbrev pub IsUnbegun : ℕ → ℕ → Head → Option Duration → List (Entry K) → List (Entry K) → Refusal → Type 0
   IsUnbegun limit handle head expires_in before after Busy =
       (seen : List (Entry K)) × (last : Entry K) × IsPrefix before seen
@@ -65,6 +66,7 @@ module _ {K : Type 0} where
   IsUnbegun limit handle head expires_in before after NotNow =
       (call : CallId) × (call.handle ≡ handle)
       × IsAdded before (begin_entry call head expires_in reply.NotNow) after
+  IsUnbegun limit handle head expires_in before after Stopped = after ≡ before
   IsUnbegun limit handle head expires_in before after _ = ⊥
 
   -- the last entry is the call's, and asks this provider
@@ -103,11 +105,12 @@ module _ {K : Type 0} where
         × (signed ≡ record head { uri = candidate.uri; headers = candidate.headers })
         × IsAdded before (record { event = Signed call (Accepted candidate); reply = reply.Done done }) after
 
-    -- Why a call that was begun has no signed head. A call that is given up is cancelled.
+    -- Why a call that was begun has no signed head. A call that is given up or stopped is cancelled.
     abbrev pub IsEnded : List (Entry K) → List (Entry K) → Refusal → Type 0
     IsEnded before after (Refused why) =
         (wake : Option CallId) × IsReplied before (reply.Refused why wake) after
     IsEnded before after GivenUp = IsCancelled call before after
+    IsEnded before after Stopped = IsCancelled call before after
     IsEnded before after OutOfMemory = IsCancelled call before after
     IsEnded before after NotNow =
         (answer : Reply K) × (mid : List (Entry K)) × IsTrue (is_unfit answer)

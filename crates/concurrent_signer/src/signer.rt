@@ -14,6 +14,7 @@ use sign_desk::Desk;
 use signer_shared::{Gate, GateLoad};
 use std::alloc::Global;
 use std::marker::Model;
+use std::sync::atomic::{AtomicBool, Ordering};
 use std::sync::{Condvar, Mutex, Wait};
 use std::thread;
 use std::time::{Clock, Duration};
@@ -28,6 +29,7 @@ where
 {
     desk: Mutex<LockedDesk<K, D, N>>,
     turned: Condvar,
+    stopped: AtomicBool,
     counter: Counter<Entry<K>, N>,
     settings: Settings<G>,
     alloc: Global,
@@ -74,6 +76,7 @@ where
         let signer = ConcurrentSigner {
             desk: Mutex::new(locked),
             turned: Condvar::new(),
+            stopped: AtomicBool::new(false),
             counter,
             settings,
             alloc,
@@ -86,6 +89,20 @@ where
         ensures { result.now ≡ self.now }
     {
         &self.settings
+    }
+
+    /// Stops it for good: calls that wait for their turn, or between two questions to a provider, are
+    /// cancelled, and further ones are refused at once, both as `Stopped`. A call that has its credential is
+    /// signed. A gate that waits by itself is stopped by its owner, after this call.
+    pub fn stop<R: Wait>(&self, rt: &R) {
+        self.stopped.store(true, Ordering::SeqCst);
+        // A sleeper that looked before this store sleeps by the time that the lock is free.
+        drop(self.desk.lock(rt));
+        self.turned.notify_all();
+    }
+
+    fn is_stopped(&self) -> bool {
+        self.stopped.load(Ordering::SeqCst)
     }
 }
 
@@ -144,6 +161,9 @@ where
             × IsBegun self.now.limit call head.now expires_in me.old me.new) }
         ensures err { IfErr result (IsUnbegun self.now.limit handle head.now expires_in me.old me.new) }
     {
+        if self.is_stopped() {
+            return Err(Refusal::Stopped);
+        }
         let Ok(copy) = head.try_clone(self.alloc) else {
             return Err(Refusal::OutOfMemory);
         };
@@ -244,13 +264,13 @@ where
         ensures err { IfErr result (IsEnded (G.meaning self.now.gate) call head.now me.old me.new) }
     {
         if !self.comes_to_turn(rt, call) {
-            return Err(self.give_up(rt, me, call, Refusal::GivenUp));
+            return Err(self.end_waiting(rt, me, call, head));
         }
         Ok(self.poll(rt, me, call, head))
     }
 
-    /// Sleeps until a poll of the call would go on, and whether it would in time. Each step that passes a
-    /// turn on wakes the sleepers.
+    /// Sleeps until a poll of the call would go on, and whether it would in time and before a stop. Each step
+    /// that passes a turn on wakes the sleepers.
     fn comes_to_turn<R: Wait + Clock>(&self, rt: &R, call: CallId) -> bool {
         let now = self.settings.gate.now();
         let longest = self.settings.patience.turn;
@@ -258,10 +278,10 @@ where
             rt,
             self.desk.lock(rt),
             longest,
-            |desk| desk.must_wait(call, now),
+            |desk| !self.is_stopped() && desk.must_wait(call, now),
         );
         drop(desk);
-        !waited.timed_out()
+        !waited.timed_out() && !self.is_stopped()
     }
 
     /// Waits for the provider's answer, and hands it in. A call whose provider does not answer in time is
@@ -285,7 +305,7 @@ where
                 let event = Event::Provided { call, now, answer };
                 Ok(self.report(rt, me, call, head, event))
             }
-            GateLoad::NotYet => Err(self.give_up(rt, me, call, Refusal::GivenUp)),
+            GateLoad::NotYet => Err(self.end_waiting(rt, me, call, head)),
             GateLoad::OutOfMemory => Err(self.give_up(rt, me, call, Refusal::OutOfMemory)),
         }
     }
@@ -296,6 +316,9 @@ where
     {
         let patience = self.settings.patience;
         for turn in 0..patience.asks {
+            if self.is_stopped() {
+                return GateLoad::NotYet;
+            }
             match self.settings.gate.load(call, provider, turn) {
                 GateLoad::NotYet => thread::sleep(rt, patience.pause),
                 answered => return answered,
@@ -384,6 +407,23 @@ where
             }
             _ => self.give_up(rt, me, call, Refusal::OutOfMemory),
         }
+    }
+
+    /// Cancels a call whose wait is over, or was ended by a stop.
+    fn end_waiting<R: Wait>(
+        &self,
+        rt: &R,
+        me: &mut History<K, D, N>,
+        call: CallId,
+        head: &Head,
+    ) -> Refusal
+        ensures { IsEnded (G.meaning self.now.gate) call head.now me.old me.new result }
+    {
+        let _ = head;
+        if self.is_stopped() {
+            return self.give_up(rt, me, call, Refusal::Stopped);
+        }
+        self.give_up(rt, me, call, Refusal::GivenUp)
     }
 
     /// Cancels a call that goes on no further, and says why.

@@ -80,7 +80,8 @@ fn place_of(end: &Result<(), Refusal>) -> usize
         Ok(()) => 0,
         Err(Refusal::Refused(_)) => 1,
         Err(Refusal::Busy) => 2,
-        Err(Refusal::GivenUp) => 3,
+        // (none of these signers is stopped)
+        Err(Refusal::GivenUp) | Err(Refusal::Stopped) => 3,
         Err(Refusal::NotNow) => 4,
         Err(Refusal::OutOfMemory) => 5,
     }

@@ -11,7 +11,7 @@ use Rattle.aws_sts.proofs.granted.expiry_in.Goals as goal
 pub returns-in-Some : goal.returns-in-Some
 returns-in-Some c =
     c.ok.ensures.value
-    ∙ read_of_text c.as_str.result.now (element_text (codes "Expiration>") c.args.xml.now) c.parse.result
+    ∙ read_of_text c.as_str.result.now (element_text (codes "/Expiration>") c.args.xml.now) c.parse.result
     (ap (λ (bytes : List ℕ). Some bytes) c.as_str.ensures.value
     ∙ (sym (ap (λ (text : Option (String Global)). option_map string_bytes text) c.in-Some.is) ∙ c.in_ok-text.ensures {u = tt}))
     c.parse.ensures.ok c.parse.ensures.value
