@@ -40,4 +40,5 @@ word_in_body asked response = body_in (word_place asked) response >>= word_in (w
 -- the same, where an instance has no role if it is not found
 abbrev pub word_in_answer : AskedWord → Response (List ℕ) → Reading (Option (List ℕ))
 word_in_answer Token response = word_in_body Token response
-word_in_answer Role response = if (head_of response).status == 404 then Ok None else word_in_body Role response
+word_in_answer Role response =
+    if (head_of response).status == 404 then Ok None else word_in_body Role response

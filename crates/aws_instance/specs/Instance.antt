@@ -1,5 +1,5 @@
--- The metadata service of an instance: what a load gives that asks it for a token, then for the role, and then
--- for the credential of that role.
+-- The metadata service of an instance: what a load gives that asks it for a token, then for the role, and
+-- then for the credential of that role.
 use Rattle.std.specs.Prelude.{◌≡◌, ◌⊎◌, ⊤, ℕ, false, List, codes, Option, Some, Result, Ok}
 use Rattle.http.specs.declared.request.Request.{Request}
 use Rattle.http.specs.declared.response.Response.{Response}
@@ -31,16 +31,16 @@ module _ (Answers : Request (List ℕ) → Polled (Response (List ℕ)) → Type
   -- what it gives that asks for the role, and with its name goes on
   abbrev pub GivesRole : List ℕ → Polled (Option Session) → Type 0
   GivesRole token answer =
-      GivesAsked Answers (role_head root token) (word_place Role) (word_in_answer Role) (GivesCredential token)
-      answer
+      GivesAsked Answers (role_head root token) (word_place Role) (word_in_answer Role)
+      (GivesCredential token) answer
 
   -- what it gives that asks for a token, and with that goes on
   abbrev pub GivesToken : Polled (Option Session) → Type 0
   GivesToken answer =
       GivesAsked Answers (token_head root) (word_place Token) (word_in_answer Token) GivesRole answer
 
--- what a load gives by the variables of an environment, and by what requests may be answered; or an allocation
--- failed
+-- what a load gives by the variables of an environment, and by what requests may be answered; or an
+-- allocation failed
 unfoldable pub InstanceGives : (List ℕ → Option (List ℕ))
     → (Request (List ℕ) → Polled (Response (List ℕ)) → Type 0) → Polled (Option Session) → Type 0
 InstanceGives variables Answers answer =
@@ -67,11 +67,13 @@ abbrev pub EndsAt : (Response (List ℕ) → Reading (Option (List ℕ))) → Po
 EndsAt read polled answer = GivesPolled read (λ word other. ⊥) polled answer ⊎ (answer ≡ OutOfMemory)
 
 module _ {S : Type 0} (Begun : Request (List ℕ) → S → Type 0)
-    (Answers : Request (List ℕ) → Polled (Response (List ℕ)) → Type 0) (variables : List ℕ → Option (List ℕ)) where
+    (Answers : Request (List ℕ) → Polled (Response (List ℕ)) → Type 0)
+    (variables : List ℕ → Option (List ℕ)) where
   -- a token was asked for, and what may be given from there on is given
   unfoldable pub TokenAsked : List ℕ → S → Type 0
   TokenAsked root send =
-      IsSendOf Begun (token_head root) send × LeadsTo (GivesToken Answers root) (InstanceGives variables Answers)
+      IsSendOf Begun (token_head root) send
+      × LeadsTo (GivesToken Answers root) (InstanceGives variables Answers)
 
   -- so with the name of the role
   unfoldable pub RoleAsked : List ℕ → List ℕ → S → Type 0
@@ -82,7 +84,8 @@ module _ {S : Type 0} (Begun : Request (List ℕ) → S → Type 0)
   -- so with the credential, of some role
   unfoldable pub CredentialAsked : S → Type 0
   CredentialAsked send =
-      (root : List ℕ) × (token : List ℕ) × (role : List ℕ) × IsSendOf Begun (credential_head root token role) send
+      (root : List ℕ) × (token : List ℕ) × (role : List ℕ)
+      × IsSendOf Begun (credential_head root token role) send
       × LeadsTo (GivesCredential Answers root token role) (InstanceGives variables Answers)
 
   -- a load was begun: nothing was sent yet, or what it waits for was asked for

@@ -19,10 +19,11 @@ use std::mem;
 /// `AWS_EC2_METADATA_SERVICE_ENDPOINT` names. There is no credential where `AWS_EC2_METADATA_DISABLED` is
 /// `true`, in any case of letters, and where the role is not found (status 404).
 ///
-/// `CredentialInvalid` where that address does not begin with `http://` or `https://`; where no request can be
-/// made of what is answered; where another status than 200 comes, or a body of more than 1 MiB; where the token
-/// or the role is not one word of visible bytes; and what `session_of_json` refuses. What the context answers
-/// to a send that fails is answered as it is. The first version of the service, without tokens, is not asked.
+/// `CredentialInvalid` where that address does not begin with `http://` or `https://`; where no request can
+/// be made of what is answered; where another status than 200 comes, or a body of more than 1 MiB; where
+/// the token or the role is not one word of visible bytes; and what `session_of_json` refuses. What the
+/// context answers to a send that fails is answered as it is. The first version of the service, without
+/// tokens, is not asked.
 ///
 /// Where an allocation failed, the next poll asks from the token on anew.
 #[derive(Drop)]

@@ -112,11 +112,13 @@ fn begin_role<X: HasVariables + HasSender>(
     token: Octets,
 ) -> Polled<Option<SessionCredential>>
     ensures kept { InstanceStarted (X.begun ctx.now) (X.answers ctx.now) (X.variables ctx.now) load.old
-        → LeadsTo (GivesRole (X.answers ctx.now) root token) (InstanceGives (X.variables ctx.now) (X.answers ctx.now))
+        → LeadsTo (GivesRole (X.answers ctx.now) root token)
+        (InstanceGives (X.variables ctx.now) (X.answers ctx.now))
         → InstanceStarted (X.begun ctx.now) (X.answers ctx.now) (X.variables ctx.now) load.new }
     ensures ready { ((req : Request (List ℕ)) (send : X.Send) → X.begun ctx.now req send
         → X.send_ready ctx.now send) → result ≢ Polled.Pending }
-    ensures gives { LeadsTo (GivesRole (X.answers ctx.now) root token) (InstanceGives (X.variables ctx.now) (X.answers ctx.now))
+    ensures gives { LeadsTo (GivesRole (X.answers ctx.now) root token)
+        (InstanceGives (X.variables ctx.now) (X.answers ctx.now))
         → InstanceGives (X.variables ctx.now) (X.answers ctx.now) result }
 {
     match send_for_role(alloc, ctx, &root, &token) {

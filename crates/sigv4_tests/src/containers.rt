@@ -1,7 +1,8 @@
 //! A provider that asks the endpoint of a container, and a sender of requests that answers those that it
-//! knows. Each send is pending once.
+//! knows. Each send is pending once, where it is told to wait.
 ghost use Rattle.std.specs.Prelude.{⊤};
 
+use crate::instances::INSTANCES;
 use crate::processes::answered;
 use crate::session_signer::{Variables, environment};
 use crate::told::is_text;
@@ -14,18 +15,28 @@ use std::alloc::Global;
 use std::process::Abort;
 
 /// What is asked, in words: method, URI and headers; and the status and the body that answer it.
-type Route = (&'static str, u16, &'static str);
+pub(crate) type Route = (&'static str, u16, &'static str);
 
-/// Answers the requests that its row of `CONTAINERS` knows, and all others with status 400.
+/// The tables whose rows have routes.
+#[derive(Clone, Copy)]
+pub(crate) enum Table {
+    Containers,
+    Instances,
+}
+
+/// Answers the requests that its row of the table knows, and all others with status 400.
 #[derive(Drop)]
-struct Routes {
-    row: usize,
+pub(crate) struct Routes {
+    pub(crate) table: Table,
+    pub(crate) row: usize,
+    pub(crate) waits: bool,
 }
 
 /// An answer that is on its way, or here: which route it is of.
 #[derive(Clone, Copy)]
-struct Answer {
+pub(crate) struct Answer {
     is_here: bool,
+    table: Table,
     row: usize,
     route: usize,
 }
@@ -49,9 +60,10 @@ impl HttpSend for Routes {
         };
         drop(req);
         Ok(Answer {
-            is_here: false,
+            is_here: !self.waits,
+            table: self.table,
             row: self.row,
-            route: route_of(self.row, asked.as_str()),
+            route: route_of(routes_at(self.table, self.row), asked.as_str()),
         })
     }
 
@@ -60,7 +72,7 @@ impl HttpSend for Routes {
             send.is_here = true;
             return Polled::Pending;
         }
-        let (status, body) = answer_at(send.row, send.route);
+        let (status, body) = answer_at(routes_at(send.table, send.row), send.route);
         response(alloc, status, body)
     }
 }
@@ -80,13 +92,19 @@ fn words_of(alloc: Global, req: &Request<Bytes>) -> Option<String> {
     Some(words)
 }
 
-/// The place of the route that a request takes, or one behind the last.
-fn route_of(row: usize, asked: &str) -> usize {
-    let Some((_, routes, _)) = CONTAINERS.get(row) else {
-        return 0;
+/// The routes of a row.
+fn routes_at(table: Table, row: usize) -> &'static [Route] {
+    let routes = match table {
+        Table::Containers => CONTAINERS.get(row).map(|it| it.1),
+        Table::Instances => INSTANCES.get(row).map(|it| it.1),
     };
+    routes.unwrap_or(&[])
+}
+
+/// The place of the route that a request takes, or one behind the last.
+fn route_of(routes: &[Route], asked: &str) -> usize {
     let mut place = 0;
-    for (words, _, _) in *routes {
+    for (words, _, _) in routes {
         if *words == asked {
             return place;
         }
@@ -96,12 +114,9 @@ fn route_of(row: usize, asked: &str) -> usize {
 }
 
 /// The status and the body of a route.
-fn answer_at(row: usize, place: usize) -> (u16, &'static str) {
-    match CONTAINERS.get(row) {
-        Some((_, routes, _)) => match routes.get(place) {
-            Some((_, status, body)) => (*status, *body),
-            None => (400, ""),
-        },
+fn answer_at(routes: &'static [Route], place: usize) -> (u16, &'static str) {
+    match routes.get(place) {
+        Some((_, status, body)) => (*status, *body),
         None => (400, ""),
     }
 }
@@ -122,7 +137,11 @@ type Surroundings = Context<NoopFileRead, Routes, OsEnv, NoopCommandExecute>;
 
 fn surroundings(rt: &impl Abort, alloc: Global, set: Variables, row: usize) -> Surroundings {
     let env = environment(rt, alloc, set);
-    Context::new().with_env(env).with_http_send(Routes { row })
+    Context::new().with_env(env).with_http_send(Routes {
+        table: Table::Containers,
+        row,
+        waits: true,
+    })
 }
 
 const DOCUMENT: &str =

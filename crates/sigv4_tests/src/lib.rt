@@ -19,6 +19,8 @@ mod everyday;
 #[cfg(test)]
 mod gateway;
 #[cfg(test)]
+mod instances;
+#[cfg(test)]
 mod links;
 #[cfg(test)]
 mod list_users;
