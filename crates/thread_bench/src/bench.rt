@@ -1,4 +1,6 @@
 //! A task, done by a signer of its own.
+ghost use Rattle.std.specs.Prelude.{◌<◌};
+
 use crate::desk::{UntilNow, desk_of};
 use crate::gate::{Answers, BenchGate, LATE};
 use crate::run::signed_by_threads;
@@ -20,12 +22,15 @@ pub struct Done {
     pub loads: u64,
 }
 
-/// Does a task. `None` is an allocation that failed.
+/// Does a task. `None` is an allocation that failed, or a task without threads.
 pub fn run_task<R: Threads + Wait + Clock + Sync>(
     rt: &R,
     alloc: Global,
     task: Task,
 ) -> Option<Done> {
+    if task.threads == 0 {
+        return None;
+    }
     let answers = Answers::new(alloc)?;
     let signed = signed_with(rt, alloc, &answers, task)?;
     Some(Done {
@@ -40,7 +45,9 @@ fn signed_with<R: Threads + Wait + Clock + Sync>(
     alloc: Global,
     answers: &Answers,
     task: Task,
-) -> Option<u64> {
+) -> Option<u64>
+    requires { 0 < task.threads }
+{
     let desk = desk_of(alloc, UntilNow { place: 0 }, task.caches)?;
     let settings = Settings {
         gate: BenchGate {

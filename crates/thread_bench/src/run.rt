@@ -1,5 +1,5 @@
 //! The threads of a task.
-ghost use Rattle.std.specs.Prelude.{◌≡◌, []};
+ghost use Rattle.std.specs.Prelude.{◌≡◌, ◌<◌, []};
 ghost use Rattle.sequential_signer.specs.Policy.{policy_of};
 ghost use Rattle.desk_parts.specs.Tables.{setup_of};
 ghost use Rattle.sign_desk.specs.DeskState.{Represents};
@@ -41,6 +41,7 @@ where
     G: Gate<K> + Drop + Send + Sync,
     N: SetUp<D> + Send + Sync,
     R: Threads + Wait + Clock + Sync,
+    requires some { 0 < task.threads }
     requires book { opened.seen.book ≡ N.book }
     requires fresh { Represents (policy_of K.valid K.valid_at D.deadline) desk [] }
     requires setup { setup_of desk ≡ N.setup }
