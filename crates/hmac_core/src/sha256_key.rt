@@ -44,6 +44,13 @@ impl Sha256Key {
         Sha256Key { key, inner, outer }
     }
 
+    /// The bytes of the key.
+    pub fn as_slice(&self) -> &[u8]
+        ensures { result.now ≡ self.now }
+    {
+        self.key.as_slice()
+    }
+
     /// HMAC-SHA256 under this key, in lower-case hexadecimal.
     pub fn hex_hmac(&self, alloc: Global, text: &[u8]) -> Result<String, NoMemory<()>>
         ensures { IfOk result (λ hex. string_bytes hex ≡ encode_lower (hmac_of sha256 self.now text.now)) }

@@ -1,9 +1,11 @@
 //! A derived signing key as a value: who signs many requests derives it once a day.
 ghost use Rattle.std.specs.Prelude.{◌≡◌, ℤ, IfOk, IsTrue, Some, bytes_eq};
 ghost use Rattle.std.specs.Fmt.{DisplaysOnOk, WritesStyledOnOk};
+ghost use Rattle.std.specs.String.{string_bytes};
 ghost use Rattle.sign_time.specs.Calendar.{IsFourDigitYear, civil_of};
 ghost use Rattle.sign_time.specs.MomentText.{iso8601_text};
-ghost use Rattle.sigv4_core.specs.Signature.{derived_key, date_of, scope_text, signature_under, key_stars};
+ghost use Rattle.sigv4_core.specs.Signature.{derived_key, key_of_day, date_of, scope_text};
+ghost use Rattle.sigv4_core.specs.Signature.{signature_under, key_stars};
 
 use crate::moment::day_of;
 use crate::request_signature::{scope_text, signing_key, text_to_sign};
@@ -54,12 +56,48 @@ impl SigningKey {
         ensures { IfOk result (λ key. key ≡ derived_key credential.now scope.now now) }
     {
         let date = now.format_date(alloc)?;
+        let key = signing_key(alloc, credential.secret(), scope, date.as_bytes())?;
+        SigningKey::of_date(alloc, credential.access(), scope, now, date, key)
+    }
+
+    /// The key for the day of this moment, by its bytes and the access key that it was derived for. Neither is
+    /// judged: a signed head names the access key, so check its form before.
+    ///
+    /// Requires a year of four digits.
+    pub fn from_bytes(
+        alloc: Global,
+        access: &[u8],
+        scope: &SigScope,
+        now: Timestamp,
+        key: &[u8],
+    ) -> Result<SigningKey, NoMemory<()>>
+        requires { IsFourDigitYear now }
+        ensures { IfOk result (λ k. k ≡ key_of_day access.now scope.now now key.now) }
+    {
+        let date = now.format_date(alloc)?;
+        let key = Vec::from_slice(alloc, key)?;
+        SigningKey::of_date(alloc, access, scope, now, date, key)
+    }
+
+    /// The key for the day of this moment, which has this date.
+    fn of_date(
+        alloc: Global,
+        access: &[u8],
+        scope: &SigScope,
+        now: Timestamp,
+        date: String,
+        key: Vec<u8>,
+    ) -> Result<SigningKey, NoMemory<()>>
+        requires year { IsFourDigitYear now }
+        requires date { string_bytes date ≡ date_of now }
+        ensures { IfOk result (λ k. k ≡ key_of_day access.now scope.now now key.items) }
+    {
         Ok(SigningKey {
-            access: Octets::from_slice(alloc, credential.access())?,
+            access: Octets::from_slice(alloc, access)?,
             scope: scope.try_clone(alloc)?,
             day: day_of(now),
             credential_scope: scope_text(alloc, scope, now)?,
-            key: Sha256Key::new(signing_key(alloc, credential.secret(), scope, date.as_bytes())?),
+            key: Sha256Key::new(key),
             date: Octets::from_vec(date.into_bytes()),
         })
     }
@@ -141,6 +179,13 @@ impl SigningKey {
         ensures { result.now ≡ self.now.access }
     {
         self.access.as_slice()
+    }
+
+    /// The bytes of the key: who has them can sign as who has the value.
+    pub fn as_slice(&self) -> &[u8]
+        ensures { result.now ≡ self.now.key }
+    {
+        self.key.as_slice()
     }
 
     pub fn scope(&self) -> &SigScope
