@@ -53,7 +53,7 @@ const UNSIGNED: Header = ("X-Amz-Content-Sha256", b"UNSIGNED-PAYLOAD");
 const SECOND: i128 = 1_000_000_000;
 
 /// Headers, a moment, and what is found with five minutes of tolerance.
-const FOUND: [(&[Header], i128, CheckedHead); 17] = [
+static FOUND: [(&[Header], i128, CheckedHead); 17] = [
     (&[HOST, DATE, SIGNED], NOW, Valid),
     (&[HOST, DATE, SIGNED], NOW + 300 * SECOND, Valid),
     (&[HOST, DATE, SIGNED], NOW + 300 * SECOND + 1, Late),
@@ -76,8 +76,8 @@ const FOUND: [(&[Header], i128, CheckedHead); 17] = [
 #[test]
 fn signed_heads_are_checked(rt: HostRuntime) {
     let by = request_to(&rt, rt.alloc(), PLAIN);
-    for (headers, nanos, wanted) in FOUND {
-        is_found(&rt, rt.alloc(), &by, headers, nanos, wanted);
+    for (headers, nanos, wanted) in &FOUND {
+        is_found(&rt, rt.alloc(), &by, *headers, *nanos, *wanted);
     }
 }
 

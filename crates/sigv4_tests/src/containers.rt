@@ -78,18 +78,20 @@ impl HttpSend for Routes {
 }
 
 /// The method, the URI and the headers, in words.
-fn words_of(alloc: Global, req: &Request<Bytes>) -> Option<String> {
+pub(crate) fn words_of(alloc: Global, req: &Request<Bytes>) -> Option<String> {
     let (method, uri) = (req.method().as_str(), req.uri());
     let mut words = format!(in alloc; "{method} {uri}").ok()?;
     for (name, value) in req.headers().iter() {
-        let value = str::from_utf8(value.as_bytes()).ok()?;
-        let name = name.as_str();
-        words.push_str(" ").ok()?;
-        words.push_str(name).ok()?;
-        words.push_str(":").ok()?;
-        words.push_str(value).ok()?;
+        push_word(&mut words, name.as_str(), value.as_bytes())?;
     }
     Some(words)
+}
+
+pub(crate) fn push_word(words: &mut String, name: &str, value: &[u8]) -> Option<()> {
+    words.push_str(" ").ok()?;
+    words.push_str(name).ok()?;
+    words.push_str(":").ok()?;
+    words.push_str(str::from_utf8(value).ok()?).ok()
 }
 
 /// The routes of a row.
@@ -121,7 +123,7 @@ fn answer_at(routes: &'static [Route], place: usize) -> (u16, &'static str) {
     }
 }
 
-fn response(alloc: Global, status: u16, body: &str) -> Polled<Response<Bytes>> {
+pub(crate) fn response(alloc: Global, status: u16, body: &str) -> Polled<Response<Bytes>> {
     let (Ok(status), Ok(body)) = (
         StatusCode::from_u16(status),
         Bytes::copy_from_slice(alloc, body.as_bytes()),
@@ -133,12 +135,20 @@ fn response(alloc: Global, status: u16, body: &str) -> Polled<Response<Bytes>> {
     Polled::Ready(response)
 }
 
-type Surroundings = Context<NoopFileRead, Routes, OsEnv, NoopCommandExecute>;
+/// An environment, and who answers requests.
+pub(crate) type Asking = Context<NoopFileRead, Routes, OsEnv, NoopCommandExecute>;
 
-fn surroundings(rt: &impl Abort, alloc: Global, set: Variables, row: usize) -> Surroundings {
+/// What a provider works in, where these variables are set and the row's routes are known.
+pub(crate) fn asking(
+    rt: &impl Abort,
+    alloc: Global,
+    set: Variables,
+    table: Table,
+    row: usize,
+) -> Asking {
     let env = environment(rt, alloc, set);
     Context::new().with_env(env).with_http_send(Routes {
-        table: Table::Containers,
+        table,
         row,
         waits: true,
     })
@@ -164,7 +174,7 @@ const EKS: (&str, &str) = (
 
 const TOKEN: (&str, &str) = ("AWS_CONTAINER_AUTHORIZATION_TOKEN", "Basic dG9rZW4=");
 
-const CONTAINERS: [Container; 15] = [
+static CONTAINERS: [Container; 15] = [
     (&[], &[], "none"),
     (&[("AWS_CONTAINER_CREDENTIALS_FULL_URI", "")], &[], "none"),
     (
@@ -273,6 +283,6 @@ fn containers_ask_their_endpoint(rt: HostRuntime) {
 
 /// What the provider answers in the end, in words.
 fn asked(rt: &impl Abort, alloc: Global, set: Variables, row: usize) -> String {
-    let ctx = surroundings(rt, alloc, set, row);
+    let ctx = asking(rt, alloc, set, Table::Containers, row);
     answered(rt, alloc, &ContainerProvider::new(), &ctx)
 }

@@ -16,7 +16,15 @@ use std::alloc::Global;
 use std::process::Abort;
 
 /// Method, region, the bytes of a session token in the query, content, and the signature in the head.
-const SIGNED: [(&str, &[u8], usize, &[u8], &str); 8] = [
+type Signed = (
+    &'static str,
+    &'static [u8],
+    usize,
+    &'static [u8],
+    &'static str,
+);
+
+static SIGNED: [Signed; 8] = [
     // Published, as is that of POST.
     (
         "GET",
@@ -78,17 +86,21 @@ const SIGNED: [(&str, &[u8], usize, &[u8], &str); 8] = [
 
 #[test]
 fn everyday_requests_are_signed(rt: HostRuntime) {
-    for (method, region, token, content, wanted) in SIGNED {
-        let uri = with_token(&rt, rt.alloc(), PLAIN, token);
-        let asked = Asked {
-            method,
-            region,
-            content,
-            ..plain(uri.as_str())
-        };
-        let by = request_of(&rt, rt.alloc(), &asked);
-        is_text(&rt, signed(&rt, rt.alloc(), &by), wanted);
+    for row in &SIGNED {
+        is_text(&rt, signed_row(&rt, rt.alloc(), row), row.4);
     }
+}
+
+fn signed_row(rt: &impl Abort, alloc: Global, row: &Signed) -> String {
+    let uri = with_token(rt, alloc, PLAIN, row.2);
+    let asked = Asked {
+        method: row.0,
+        region: row.1,
+        content: row.3,
+        ..plain(uri.as_str())
+    };
+    let by = request_of(rt, alloc, &asked);
+    signed(rt, alloc, &by)
 }
 
 fn with_token(rt: &impl Abort, alloc: Global, uri: &str, bytes: usize) -> String {
@@ -109,7 +121,9 @@ pub(crate) fn signed(rt: &impl Abort, alloc: Global, by: &Suite) -> String {
 }
 
 /// Method, region, the bytes of a session token, seconds, and the link's signature with what its check finds.
-const LINKS: [(&str, &[u8], usize, u32, &str); 8] = [
+type Linked = (&'static str, &'static [u8], usize, u32, &'static str);
+
+static LINKS: [Linked; 8] = [
     // Published.
     (
         "GET",
@@ -171,16 +185,20 @@ const LINKS: [(&str, &[u8], usize, u32, &str); 8] = [
 
 #[test]
 fn everyday_links_are_made_and_found_valid(rt: HostRuntime) {
-    for (method, region, token, expires, wanted) in LINKS {
-        let uri = with_token(&rt, rt.alloc(), OBJECT, token);
-        let asked = Asked {
-            method,
-            region,
-            ..object(uri.as_str())
-        };
-        let by = request_of(&rt, rt.alloc(), &asked);
-        is_text(&rt, linked(&rt, rt.alloc(), &by, expires), wanted);
+    for row in &LINKS {
+        is_text(&rt, linked_row(&rt, rt.alloc(), row), row.4);
     }
+}
+
+fn linked_row(rt: &impl Abort, alloc: Global, row: &Linked) -> String {
+    let uri = with_token(rt, alloc, OBJECT, row.2);
+    let asked = Asked {
+        method: row.0,
+        region: row.1,
+        ..object(uri.as_str())
+    };
+    let by = request_of(rt, alloc, &asked);
+    linked(rt, alloc, &by, row.3)
 }
 
 /// The signature of the link, and what its check finds.
@@ -197,30 +215,31 @@ pub(crate) fn linked(rt: &impl Abort, alloc: Global, by: &Suite, expires: u32) -
 }
 
 /// Moments, and whether a key that expires then is good.
-const LASTS: [(i128, bool); 3] = [(NOW - 1, true), (NOW, false), (NOW + 1, false)];
+static LASTS: [(i128, bool); 3] = [(NOW - 1, true), (NOW, false), (NOW + 1, false)];
 
 #[test]
 fn a_key_lasts_until_it_expires(rt: HostRuntime) {
     let end = Some(moment(&rt, NOW));
     let key = SigCredential::new(rt.alloc(), b"AKIDEXAMPLE", b"secret", end).expect(&rt, "a key");
     let key = key.try_clone(rt.alloc()).expect(&rt, "memory");
-    for (nanos, wanted) in LASTS {
-        let at = moment(&rt, nanos);
-        assert!(rt; key.is_valid(at) == wanted, "{nanos}");
-        assert!(rt;
-            key.is_valid_at(at, moment(&rt, NOW - 1)) == wanted,
-            "{nanos}"
-        );
+    for (nanos, wanted) in &LASTS {
+        lasts(&rt, &key, *nanos, *wanted);
     }
+}
+
+fn lasts(rt: &impl Abort, key: &SigCredential, nanos: i128, wanted: bool) {
+    let at = moment(rt, nanos);
+    let before = moment(rt, NOW - 1);
+    assert!(rt; key.is_valid(at) == wanted, "{nanos}");
+    assert!(rt; key.is_valid_at(at, before) == wanted, "{nanos}");
 }
 
 /// The digest that AWS publishes for this content.
 #[test]
 fn a_content_has_its_digest(rt: HostRuntime) {
-    let payload = Payload::of(rt.alloc(), b"Welcome to Amazon S3.").expect(&rt, "memory");
     is_text(
         &rt,
-        text_of(&rt, rt.alloc(), payload.hash_or_unsigned()),
+        digest_of(&rt, rt.alloc(), b"Welcome to Amazon S3."),
         "44ce7dd67c959e0d3524ffac1771dfbba87d2b6b4b4e99e42034a8b803f8b072",
     );
 }
@@ -240,32 +259,39 @@ const LINK_SIGNED: &str =
 
 #[test]
 fn published_canonical_requests_are_made_and_signed(rt: HostRuntime) {
+    is_text(&rt, list_users(&rt, rt.alloc()), LIST_USERS_SIGNED);
+    is_text(&rt, link(&rt, rt.alloc()), LINK_SIGNED);
+}
+
+static LIST_USERS_HEADERS: [(&[u8], &[u8]); 3] = [
+    (
+        b"content-type",
+        b"application/x-www-form-urlencoded; charset=utf-8",
+    ),
+    (b"host", b"iam.amazonaws.com"),
+    (b"x-amz-date", b"20150830T123600Z"),
+];
+
+fn list_users(rt: &impl Abort, alloc: Global) -> String {
     let asked = Asked {
         service: b"iam",
         ..plain("https://iam.amazonaws.com/")
     };
-    let mut by = request_of(&rt, rt.alloc(), &asked);
-    let form = b"application/x-www-form-urlencoded; charset=utf-8";
-    push(&rt, rt.alloc(), &mut by, b"content-type", form);
-    push(&rt, rt.alloc(), &mut by, b"host", b"iam.amazonaws.com");
-    push(&rt, rt.alloc(), &mut by, b"x-amz-date", b"20150830T123600Z");
+    let mut by = request_of(rt, alloc, &asked);
+    for (name, value) in &LIST_USERS_HEADERS {
+        push_header(alloc, &mut by.head, *name, *value).expect(rt, "memory");
+    }
     let word = by.payload.hash_or_unsigned();
-    let text = digest_and_signature(&rt, rt.alloc(), &by, (b"/", LIST_USERS, word), NOW);
-    is_text(&rt, text, LIST_USERS_SIGNED);
-    let mut by = request_of(&rt, rt.alloc(), &object(OBJECT));
-    let host = b"examplebucket.s3.amazonaws.com";
-    push(&rt, rt.alloc(), &mut by, b"host", host);
-    let parts = (
-        b"/test.txt".as_slice(),
-        LINK,
-        b"UNSIGNED-PAYLOAD".as_slice(),
-    );
-    let text = digest_and_signature(&rt, rt.alloc(), &by, parts, PUBLISHED);
-    is_text(&rt, text, LINK_SIGNED);
+    digest_and_signature(rt, alloc, &by, (b"/", LIST_USERS, word), NOW)
 }
 
-fn push(rt: &impl Abort, alloc: Global, by: &mut Suite, name: &[u8], value: &[u8]) {
-    push_header(alloc, &mut by.head, name, value).expect(rt, "memory");
+fn link(rt: &impl Abort, alloc: Global) -> String {
+    let mut by = request_of(rt, alloc, &object(OBJECT));
+    let host = b"examplebucket.s3.amazonaws.com";
+    push_header(alloc, &mut by.head, b"host", host).expect(rt, "memory");
+    let path = b"/test.txt".as_slice();
+    let word = b"UNSIGNED-PAYLOAD".as_slice();
+    digest_and_signature(rt, alloc, &by, (path, LINK, word), PUBLISHED)
 }
 
 /// The digest of the canonical request of this path, query and payload's word, and its signature.
@@ -282,7 +308,11 @@ fn digest_and_signature(
     let request = request.expect(rt, "memory");
     let text = signature(alloc, &by.credential, &by.scope, now, request.as_slice());
     let text = text_of(rt, alloc, text.expect(rt, "memory").as_slice());
-    let digest = Payload::of(alloc, request.as_slice()).expect(rt, "memory");
-    let digest = text_of(rt, alloc, digest.hash_or_unsigned());
+    let digest = digest_of(rt, alloc, request.as_slice());
     format!(in alloc; "{digest} {text}").expect(rt, "memory")
+}
+
+fn digest_of(rt: &impl Abort, alloc: Global, content: &[u8]) -> String {
+    let payload = Payload::of(alloc, content).expect(rt, "memory");
+    text_of(rt, alloc, payload.hash_or_unsigned())
 }

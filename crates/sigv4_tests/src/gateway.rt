@@ -30,7 +30,7 @@ fn admit(
 const SECOND: i128 = 1_000_000_000;
 
 /// Moments, and what the gateway answers then to a link for ten minutes from the published moment on.
-const ANSWERS: [(i128, u16); 5] = [
+static ANSWERS: [(i128, u16); 5] = [
     (PUBLISHED - SECOND, 403),
     (PUBLISHED, 200),
     (PUBLISHED + 300 * SECOND, 200),
@@ -44,8 +44,8 @@ fn a_gateway_lets_in_who_holds_a_link(rt: HostRuntime) {
     let now = moment(&rt, PUBLISHED);
     let link = presign(rt.alloc(), &by.head, &by.credential, &by.scope, 600, now);
     let link = link.expect(&rt, "a link");
-    for (nanos, wanted) in ANSWERS {
-        is_answered(&rt, rt.alloc(), &by, &link, nanos, wanted);
+    for (nanos, wanted) in &ANSWERS {
+        is_answered(&rt, rt.alloc(), &by, &link, *nanos, *wanted);
     }
     is_answered(&rt, rt.alloc(), &by, &by.head, PUBLISHED, 400);
 }
@@ -66,7 +66,7 @@ fn is_answered(
 }
 
 /// What is found of a link for ten minutes at these moments, by who only has its method and its URI.
-const FOUND: [(i128, Checked); 4] = [
+static FOUND: [(i128, Checked); 4] = [
     (PUBLISHED - SECOND, Checked::Early),
     (PUBLISHED, Checked::Valid),
     (PUBLISHED + 599 * SECOND, Checked::Valid),
@@ -77,17 +77,22 @@ const FOUND: [(i128, Checked); 4] = [
 fn a_link_that_is_made_and_comes_back_is_valid_for_its_time(rt: HostRuntime) {
     let by = published(&rt, rt.alloc());
     let made = moment(&rt, PUBLISHED);
-    for (nanos, wanted) in FOUND {
-        let arrived = moment(&rt, nanos);
-        let found = made_and_checked(
-            rt.alloc(),
-            &by.head,
-            &by.credential,
-            &by.scope,
-            600,
-            made,
-            arrived,
-        );
-        assert!(rt; found.ok() == Some(wanted), "{nanos}");
+    for (nanos, wanted) in &FOUND {
+        let arrived = moment(&rt, *nanos);
+        let found = found_at(rt.alloc(), &by, made, arrived);
+        assert!(rt; found == Some(*wanted), "{nanos}");
     }
+}
+
+fn found_at(alloc: Global, by: &Suite, made: Timestamp, arrived: Timestamp) -> Option<Checked> {
+    made_and_checked(
+        alloc,
+        &by.head,
+        &by.credential,
+        &by.scope,
+        600,
+        made,
+        arrived,
+    )
+    .ok()
 }

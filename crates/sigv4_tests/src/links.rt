@@ -16,7 +16,7 @@ const LAST_OF_1969: &str = "f45c3ca301c67d5d3912d9804fb4e22266b8f3b6f2da42bbe981
 const BEFORE_YEAR_0: i128 = -62_167_219_200_000_000_001;
 
 /// Moments, and the signature of the link that is made then, or why there is none.
-const MADE: [(i128, &str); 5] = [
+static MADE: [(i128, &str); 5] = [
     (PUBLISHED, SIGNED),
     (PUBLISHED + 999_999_999, SIGNED),
     (-1, LAST_OF_1969),
@@ -27,8 +27,8 @@ const MADE: [(i128, &str); 5] = [
 #[test]
 fn a_link_is_made_for_the_whole_second_before(rt: HostRuntime) {
     let by = published(&rt, rt.alloc());
-    for (nanos, wanted) in MADE {
-        is_text(&rt, made_at(&rt, rt.alloc(), &by, nanos), wanted);
+    for (nanos, wanted) in &MADE {
+        is_text(&rt, made_at(&rt, rt.alloc(), &by, *nanos), *wanted);
     }
 }
 

@@ -1,13 +1,12 @@
 //! The request to IAM that AWS publishes, signed by a signer with the key of the environment.
 use crate::environment_key::{EnvironmentKey, Surroundings};
+use crate::session_signer::{Variables, environment};
 use crate::suite::{NOW, moment};
-use crate::told::{is_text, text_of};
+use crate::told::{header_of, is_text, request};
 use credentials::{OsEnv, Providers};
-use fixtures::head_with_headers;
 use http::request::Parts;
 use sequential_signer::SigningCredential;
 use sign_base::{Error, Timestamp};
-use sign_request::parts_of;
 use signer::{Refusal, SignAnswer, SignPoll, Signer};
 use sigv4_core::{Payload, SigCredential, SigScope, SigService};
 use std::alloc::Global;
@@ -41,7 +40,7 @@ fn sign(
     let sign = signer.sign(0, req, None).expect(rt, "a call");
     let SignPoll { answer, .. } = signer.poll(sign, req, now);
     match answer {
-        SignAnswer::Done => authorization(rt, alloc, req),
+        SignAnswer::Done => header_of(rt, alloc, req, "authorization"),
         SignAnswer::Refused(why) => error_text(rt, alloc, why),
         goes_on => {
             drop(goes_on);
@@ -50,46 +49,17 @@ fn sign(
     }
 }
 
-fn authorization(rt: &impl Abort, alloc: Global, req: &Parts) -> String {
-    let value = req.headers.get("authorization").expect(rt, "a header");
-    text_of(rt, alloc, value.as_bytes())
-}
-
 fn error_text(rt: &impl Abort, alloc: Global, why: Refusal) -> String {
     let error = why.into_error(alloc, SigCredential::NAME);
     let error = error.expect(rt, "memory");
     format!(in alloc; "{error}").expect(rt, "memory")
 }
 
-/// The published request, to this URI.
-fn request(rt: &impl Abort, alloc: Global, uri: &str) -> Parts {
-    let headers = [(
-        "content-type",
-        b"application/x-www-form-urlencoded; charset=utf-8".as_slice(),
-    )];
-    let head = head_with_headers(alloc, "GET", uri, headers.as_slice());
-    let head = head.expect(rt, "memory");
-    parts_of(alloc, &head).expect(rt, "a request")
-}
-
-/// Names and values of variables.
-type Variables = &'static [(&'static str, &'static str)];
-
-/// An environment in which these variables are set.
-fn environment(rt: &impl Abort, alloc: Global, set: Variables) -> OsEnv {
-    let mut list = Vec::new(alloc);
-    for (name, value) in set {
-        let name = text_of(rt, alloc, name.as_bytes());
-        list.push((name, text_of(rt, alloc, value.as_bytes())))
-            .expect(rt, "memory");
-    }
-    OsEnv::from_list(None, list).expect(rt, "memory")
-}
-
-/// What a signer in this environment makes of the request to this URI, at 2015-08-30T12:36:00Z.
+/// What a signer in this environment makes of the published request, to this URI, at 2015-08-30T12:36:00Z.
 fn signed_in(rt: &impl Abort, alloc: Global, set: Variables, uri: &str) -> String {
     let now = moment(rt, NOW);
-    let mut req = request(rt, alloc, uri);
+    let form = b"application/x-www-form-urlencoded; charset=utf-8".as_slice();
+    let mut req = request(rt, alloc, uri, &[("content-type", form)]);
     let mut signer = aws_signer(alloc, environment(rt, alloc, set), now).expect(rt, "memory");
     let told = sign(rt, alloc, &mut signer, &mut req, now);
     drop(signer);
@@ -111,7 +81,7 @@ const SIGNED: &str =
     "AWS4-HMAC-SHA256 Credential=AKIDEXAMPLE/20150830/us-east-1/iam/aws4_request, SignedHeaders=content-type;host;x-amz-date, Signature=5d672d79c15b13162d9279b0855cfba6789a8edb4c82c400e06b5924a6f2b5d7";
 
 /// Variables, and what becomes of the request.
-const ENVIRONMENTS: [(Variables, &str); 4] = [
+static ENVIRONMENTS: [(Variables, &str); 4] = [
     (&[ACCESS, SECRET], SIGNED),
     (&[ACCESS], "failed to load signing credential"),
     (&[SECRET], "failed to load signing credential"),
@@ -120,13 +90,13 @@ const ENVIRONMENTS: [(Variables, &str); 4] = [
 
 #[test]
 fn a_signer_signs_with_the_key_of_the_environment(rt: HostRuntime) {
-    for (set, wanted) in ENVIRONMENTS {
-        is_text(&rt, signed_in(&rt, rt.alloc(), set, LIST_USERS), wanted);
+    for (set, wanted) in &ENVIRONMENTS {
+        is_text(&rt, signed_in(&rt, rt.alloc(), *set, LIST_USERS), *wanted);
     }
 }
 
 /// URIs that the service does not sign, and the message of the call's error.
-const REFUSED: [(&str, &str); 2] = [
+static REFUSED: [(&str, &str); 2] = [
     ("/", "request without authority is invalid for signing"),
     (
         "https://iam.amazonaws.com/%20",
@@ -136,11 +106,8 @@ const REFUSED: [(&str, &str); 2] = [
 
 #[test]
 fn a_refusal_of_the_service_ends_the_call(rt: HostRuntime) {
-    for (uri, wanted) in REFUSED {
-        is_text(
-            &rt,
-            signed_in(&rt, rt.alloc(), &[ACCESS, SECRET], uri),
-            wanted,
-        );
+    for (uri, wanted) in &REFUSED {
+        let told = signed_in(&rt, rt.alloc(), &[ACCESS, SECRET], *uri);
+        is_text(&rt, told, *wanted);
     }
 }

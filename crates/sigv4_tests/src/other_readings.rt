@@ -8,7 +8,7 @@ use std::process::Abort;
 
 /// URI, service, the signature in the head or the cause why there is none, and botocore's signature, or that
 /// it is alike.
-const HEADS: [(&str, &[u8], &str, &str); 13] = [
+static HEADS: [(&str, &[u8], &str, &str); 13] = [
     // A `+`, which botocore leaves in the query as it is.
     (
         "https://example.amazonaws.com/?a=b+c",
@@ -96,18 +96,18 @@ const HEADS: [(&str, &[u8], &str, &str); 13] = [
 
 #[test]
 fn heads_are_read_otherwise_or_alike(rt: HostRuntime) {
-    for (uri, service, wanted, botocore) in HEADS {
+    for (uri, service, wanted, botocore) in &HEADS {
         let asked = Asked {
-            service,
-            ..plain(uri)
+            service: *service,
+            ..plain(*uri)
         };
         let by = request_of(&rt, rt.alloc(), &asked);
-        is_other(&rt, signed(&rt, rt.alloc(), &by), wanted, botocore);
+        is_other(&rt, signed(&rt, rt.alloc(), &by), *wanted, *botocore);
     }
 }
 
 /// URI, the link's signature with what its check finds, and botocore's signature, or that it is alike.
-const LINKS: [(&str, &str, &str); 7] = [
+static LINKS: [(&str, &str, &str); 7] = [
     // The host of a link is signed as it is spelled, and botocore's as agents send it.
     (
         "https://examplebucket.s3.amazonaws.com:443/test.txt",
@@ -149,9 +149,10 @@ const LINKS: [(&str, &str, &str); 7] = [
 
 #[test]
 fn links_are_read_otherwise_or_alike(rt: HostRuntime) {
-    for (uri, wanted, botocore) in LINKS {
-        let by = request_of(&rt, rt.alloc(), &object(uri));
-        is_other(&rt, linked(&rt, rt.alloc(), &by, 86_400), wanted, botocore);
+    for (uri, wanted, botocore) in &LINKS {
+        let by = request_of(&rt, rt.alloc(), &object(*uri));
+        let told = linked(&rt, rt.alloc(), &by, 86_400);
+        is_other(&rt, told, *wanted, *botocore);
     }
 }
 

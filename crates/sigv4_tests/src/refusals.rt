@@ -6,7 +6,7 @@ use sigv4_presign::PresignError;
 const INVALID_KEY: &str = "CredentialInvalid: invalid key";
 
 /// Access key, secret, and the answer.
-const KEYS: [(&[u8], &[u8], &str); 7] = [
+static KEYS: [(&[u8], &[u8], &str); 7] = [
     (b"", b"secret", INVALID_KEY),
     (b"two words", b"secret", INVALID_KEY),
     (b"tab\t", b"secret", INVALID_KEY),
@@ -18,16 +18,16 @@ const KEYS: [(&[u8], &[u8], &str); 7] = [
 
 #[test]
 fn keys_are_visible(rt: HostRuntime) {
-    for (access, secret, wanted) in KEYS {
-        let made = SigCredential::new(rt.alloc(), access, secret, None);
-        is_text(&rt, refusal(&rt, rt.alloc(), made.err()), wanted);
+    for (access, secret, wanted) in &KEYS {
+        let made = SigCredential::new(rt.alloc(), *access, *secret, None);
+        is_text(&rt, refusal(&rt, rt.alloc(), made.err()), *wanted);
     }
 }
 
 const INVALID_SCOPE: &str = "ConfigInvalid: invalid scope";
 
 /// Region, service, and the answer.
-const SCOPES: [(&[u8], &[u8], &str); 7] = [
+static SCOPES: [(&[u8], &[u8], &str); 7] = [
     (b"", b"s3", INVALID_SCOPE),
     (b"US-EAST-1", b"s3", INVALID_SCOPE),
     (b"us_east_1", b"s3", INVALID_SCOPE),
@@ -39,16 +39,16 @@ const SCOPES: [(&[u8], &[u8], &str); 7] = [
 
 #[test]
 fn scopes_are_in_lower_case(rt: HostRuntime) {
-    for (region, service, wanted) in SCOPES {
-        let made = SigScope::new(rt.alloc(), region, service);
-        is_text(&rt, refusal(&rt, rt.alloc(), made.err()), wanted);
+    for (region, service, wanted) in &SCOPES {
+        let made = SigScope::new(rt.alloc(), *region, *service);
+        is_text(&rt, refusal(&rt, rt.alloc(), made.err()), *wanted);
     }
 }
 
 const INVALID_DIGEST: &str = "RequestInvalid: invalid payload digest";
 
 /// Digests, and the answer.
-const DIGESTS: [(&[u8], &str); 6] = [
+static DIGESTS: [(&[u8], &str); 6] = [
     (b"UNSIGNED-PAYLOAD", INVALID_DIGEST),
     (
         b"e3b0c44298fc1c149afbf4c8996fb92427ae41e4649b934ca495991b7852b85",
@@ -74,14 +74,14 @@ const DIGESTS: [(&[u8], &str); 6] = [
 
 #[test]
 fn digests_have_64_lower_case_digits(rt: HostRuntime) {
-    for (digest, wanted) in DIGESTS {
-        let made = Payload::digest(rt.alloc(), digest);
-        is_text(&rt, refusal(&rt, rt.alloc(), made.err()), wanted);
+    for (digest, wanted) in &DIGESTS {
+        let made = Payload::digest(rt.alloc(), *digest);
+        is_text(&rt, refusal(&rt, rt.alloc(), made.err()), *wanted);
     }
 }
 
 /// Refusals as errors.
-const ERRORS: [(SigError, &str); 5] = [
+static ERRORS: [(SigError, &str); 5] = [
     (SigError::Head, "RequestInvalid: head not accepted"),
     (
         SigError::Authority,
@@ -97,14 +97,14 @@ const ERRORS: [(SigError, &str); 5] = [
 
 #[test]
 fn refusals_of_heads_become_errors(rt: HostRuntime) {
-    for (why, wanted) in ERRORS {
+    for (why, wanted) in &ERRORS {
         let error = why.into_error(rt.alloc()).expect(&rt, "memory");
-        is_text(&rt, refusal(&rt, rt.alloc(), Some(error)), wanted);
+        is_text(&rt, refusal(&rt, rt.alloc(), Some(error)), *wanted);
     }
 }
 
 /// Refusals of links as errors.
-const LINK_ERRORS: [(PresignError, &str); 8] = [
+static LINK_ERRORS: [(PresignError, &str); 8] = [
     (PresignError::Head, "RequestInvalid: head not accepted"),
     (
         PresignError::Authority,
@@ -126,8 +126,8 @@ const LINK_ERRORS: [(PresignError, &str); 8] = [
 
 #[test]
 fn refusals_of_links_become_errors(rt: HostRuntime) {
-    for (why, wanted) in LINK_ERRORS {
+    for (why, wanted) in &LINK_ERRORS {
         let error = why.into_error(rt.alloc()).expect(&rt, "memory");
-        is_text(&rt, refusal(&rt, rt.alloc(), Some(error)), wanted);
+        is_text(&rt, refusal(&rt, rt.alloc(), Some(error)), *wanted);
     }
 }

@@ -124,13 +124,13 @@ where
     S: SignRequest<Credential = P::Credential, Ctx = P::Ctx>,
 {
     let mut before = None;
-    for (second, wanted) in CALLS {
-        let now = Timestamp::from_nanos(NOW + i128::from(second) * 1_000_000_000)?;
+    for (second, wanted) in &CALLS {
+        let now = Timestamp::from_nanos(NOW + i128::from(*second) * 1_000_000_000)?;
         clock.set(now);
-        if !signs(signer, req, now, before) || !is_signed_so(req, Some(wanted)) {
+        if !signs(signer, req, now, before) || !is_signed_so(req, Some(*wanted)) {
             return Some(false);
         }
-        before = Some(wanted);
+        before = Some(*wanted);
     }
     Some(true)
 }

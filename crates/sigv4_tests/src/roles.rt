@@ -6,6 +6,7 @@ ghost use Rattle.std.specs.Prelude.{⊤, IfSome};
 ghost use Rattle.granter.specs.GranterObjects.{meanings_of};
 ghost use Rattle.granter.specs.IssuedBy.{IsGrantIssuedBy};
 
+use crate::containers::{push_word, response, words_of};
 use crate::documents::key_and_token;
 use crate::session_signer::{Variables, environment};
 use crate::suite::moment;
@@ -18,7 +19,7 @@ use credentials::{
     ProvideCredential, Providers,
 };
 use granter::{Grant, GrantPoll, Granter};
-use http::{Request, Response, StatusCode};
+use http::{Request, Response};
 use sequential_signer::SigningCredential;
 use sign_base::{NoMemory, Octets};
 use sigv4_core::SigScope;
@@ -54,7 +55,7 @@ impl HttpSend for Sts {
         alloc: Global,
         req: Request<Bytes>,
     ) -> Result<Reply, NoMemory<Request<Bytes>>> {
-        let Some(words) = words_of(alloc, &req) else {
+        let Some(words) = words_with_body(alloc, &req) else {
             return Err(NoMemory { back: req });
         };
         drop(req);
@@ -88,21 +89,10 @@ impl Sts {
 }
 
 /// The method, the URI, the headers and the body, in words.
-fn words_of(alloc: Global, req: &Request<Bytes>) -> Option<String> {
-    let (method, uri) = (req.method().as_str(), req.uri());
-    let mut words = format!(in alloc; "{method} {uri}").ok()?;
-    for (name, value) in req.headers().iter() {
-        push_word(&mut words, name.as_str(), value.as_bytes())?;
-    }
+fn words_with_body(alloc: Global, req: &Request<Bytes>) -> Option<String> {
+    let mut words = words_of(alloc, req)?;
     push_word(&mut words, "body", req.body().as_slice())?;
     Some(words)
-}
-
-fn push_word(words: &mut String, name: &str, value: &[u8]) -> Option<()> {
-    words.push_str(" ").ok()?;
-    words.push_str(name).ok()?;
-    words.push_str(":").ok()?;
-    words.push_str(str::from_utf8(value).ok()?).ok()
 }
 
 /// The status, the spaces and the text of a row.
@@ -121,18 +111,6 @@ fn text_with(alloc: Global, spaces: usize, text: &str) -> Option<String> {
     let (before, behind) = text.split_once('@').unwrap_or(("", text));
     let gap = " ".repeat(alloc, spaces).ok()?;
     format!(in alloc; "{before}{gap}{behind}").ok()
-}
-
-fn response(alloc: Global, status: u16, body: &str) -> Polled<Response<Bytes>> {
-    let (Ok(status), Ok(body)) = (
-        StatusCode::from_u16(status),
-        Bytes::copy_from_slice(alloc, body.as_bytes()),
-    ) else {
-        return Polled::OutOfMemory;
-    };
-    let mut response = Response::new(alloc, body);
-    *response.status_mut() = status;
-    Polled::Ready(response)
 }
 
 type Surroundings = ClockedContext<NoopFileRead, Sts, OsEnv, NoopCommandExecute, PollClock>;
@@ -267,7 +245,7 @@ const SECRET: (&str, &str) = (
 
 const TOKEN: (&str, &str) = ("AWS_SESSION_TOKEN", "let/me=in");
 
-const ASKED: [Asked; 2] = [
+static ASKED: [Asked; 2] = [
     (
         &[ACCESS, SECRET],
         Some(3600),
@@ -319,7 +297,7 @@ const MUCH: usize = 1_048_577;
 
 /// The status, the spaces that stand in place of an `@`, the text, and what a call comes to. No message shows
 /// what an answer has.
-const ANSWERS: [(u16, usize, &str, &str); 18] = [
+static ANSWERS: [(u16, usize, &str, &str); 18] = [
     (200, 0, PUBLISHED, GIVEN),
     (200, MUCH, PUBLISHED, GIVEN),
     (

@@ -8,7 +8,7 @@ use std::process::Abort;
 
 /// Parts of the secrets, and of the key that Python's `hmac` derives of the suite's: its start in
 /// hexadecimal and as numbers, and a byte of each as a number.
-const HIDDEN: [&str; 6] = ["wJal", "EKEY", "119", "938127b5", "147", "0x93"];
+static HIDDEN: [&str; 6] = ["wJal", "EKEY", "119", "938127b5", "147", "0x93"];
 
 #[test]
 fn debug_forms_show_no_secret(rt: HostRuntime) {
@@ -31,8 +31,8 @@ fn forms<T: fmt::Debug>(rt: &impl Abort, alloc: Global, value: &T) -> String {
 }
 
 fn hides(rt: &impl Abort, text: String) {
-    for hidden in HIDDEN {
-        assert!(rt; !text.as_str().contains(hidden), "{text}");
+    for hidden in &HIDDEN {
+        assert!(rt; !text.as_str().contains(*hidden), "{text}");
     }
 }
 

@@ -9,7 +9,7 @@ use std::process::Abort;
 use std::time::Duration;
 
 /// URIs, nanoseconds since 1970, and what is told of the poll.
-const POLLS: [(&str, i128, &str); 5] = [
+static POLLS: [(&str, i128, &str); 5] = [
     (PLAIN, NOW, SIGNED),
     ("e.x/a", NOW, "RequestInvalid: head not accepted"),
     (
@@ -27,9 +27,9 @@ const POLLS: [(&str, i128, &str); 5] = [
 
 #[test]
 fn a_service_signs_or_names_the_cause(rt: HostRuntime) {
-    for (uri, nanos, wanted) in POLLS {
-        let mut by = request_to(&rt, rt.alloc(), uri);
-        is_text(&rt, polled(&rt, rt.alloc(), &mut by, nanos), wanted);
+    for (uri, nanos, wanted) in &POLLS {
+        let mut by = request_to(&rt, rt.alloc(), *uri);
+        is_text(&rt, polled(&rt, rt.alloc(), &mut by, *nanos), *wanted);
     }
 }
 

@@ -50,7 +50,7 @@ const OLD_TOKEN: Headers = &[
     ("Expect", b"100-continue"),
 ];
 
-const ROWS: [Row; 17] = [
+static ROWS: [Row; 17] = [
     (
         Key::Suite(ContentRule::Unstated),
         "POST",
@@ -193,8 +193,8 @@ const ROWS: [Row; 17] = [
 
 #[test]
 fn requests_of_sessions_are_signed_or_refused(rt: HostRuntime) {
-    for row in ROWS {
-        is_text(&rt, told(&rt, rt.alloc(), &row), row.5);
+    for row in &ROWS {
+        is_text(&rt, told(&rt, rt.alloc(), row), row.5);
     }
 }
 

@@ -3,14 +3,12 @@
 ghost use Rattle.std.specs.Prelude.{⊤};
 
 use crate::suite::{NOW, PLAIN, moment};
-use crate::told::{is_text, text_of};
+use crate::told::{header_of, is_text, request};
 use aws_credentials::{PollClock, SessionCredential, SigningClock};
 use aws_service::{AwsService, ContentRule, LeftOut, sign_now};
 use credentials::{Polled, ProvideCredential, Providers};
-use fixtures::plain_head;
 use http::request::Parts;
 use sign_base::{Error, ErrorKind, NoMemory, Timestamp};
-use sign_request::parts_of;
 use signer::Signer;
 use sigv4_core::{Payload, SigCredential, SigScope};
 use std::alloc::Global;
@@ -81,7 +79,7 @@ fn suite_service(alloc: Global) -> Result<AwsService<PollClock>, Error> {
 }
 
 /// The seconds from the suite's moment on, and the token and the signature of the request then.
-pub(crate) const CALLS: [(u8, &str); 7] = [
+pub(crate) static CALLS: [(u8, &str); 7] = [
     (
         0,
         "of1440938160000000000 3f7da11c21969b756f8442ac4331ea808860def8f9f36757edcdfcb463dbbcea",
@@ -116,16 +114,12 @@ pub(crate) const CALLS: [(u8, &str); 7] = [
 fn each_session_signs_with_its_own_token(rt: HostRuntime) {
     let clock = PollClock::new(rt.alloc(), moment(&rt, NOW)).expect(&rt, "memory");
     let mut signer = short_signer(rt.alloc(), &clock).expect(&rt, "memory");
-    let head = plain_head(rt.alloc(), "GET", PLAIN).expect(&rt, "memory");
-    let mut req = parts_of(rt.alloc(), &head).expect(&rt, "a request");
-    for (second, wanted) in CALLS {
-        let now = moment(&rt, NOW + i128::from(second) * 1_000_000_000);
+    let mut req = request(&rt, rt.alloc(), PLAIN, &[]);
+    for (second, wanted) in &CALLS {
+        let now = moment(&rt, NOW + i128::from(*second) * 1_000_000_000);
         clock.set(now);
-        is_text(
-            &rt,
-            signed(&rt, rt.alloc(), &mut signer, &mut req, now),
-            wanted,
-        );
+        let told = signed(&rt, rt.alloc(), &mut signer, &mut req, now);
+        is_text(&rt, told, *wanted);
     }
 }
 
@@ -144,16 +138,11 @@ fn signed(
 
 /// The token and the signature of a request.
 fn told(rt: &impl Abort, alloc: Global, req: &Parts) -> String {
-    let token = header(rt, alloc, req, "x-amz-security-token");
-    let authorization = header(rt, alloc, req, "authorization");
+    let token = header_of(rt, alloc, req, "x-amz-security-token");
+    let authorization = header_of(rt, alloc, req, "authorization");
     let (_, signature) = authorization
         .as_str()
         .split_once("Signature=")
         .expect(rt, "a signature");
     format!(in alloc; "{token} {signature}").expect(rt, "memory")
-}
-
-fn header(rt: &impl Abort, alloc: Global, req: &Parts, name: &str) -> String {
-    let value = req.headers.get(name).expect(rt, "a header");
-    text_of(rt, alloc, value.as_bytes())
 }

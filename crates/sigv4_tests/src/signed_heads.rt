@@ -30,7 +30,7 @@ pub(crate) const BEFORE_YEAR_0: i128 = -62_167_219_200_000_000_001;
 
 /// URIs, nanoseconds since 1970, and what is told of the request that is signed then. The moment is its
 /// last cause.
-const MOMENTS: [(&str, i128, &str); 10] = [
+static MOMENTS: [(&str, i128, &str); 10] = [
     (PLAIN, NOW, SIGNED),
     (PLAIN, NOW + 999_999_999, SIGNED),
     (PLAIN, -1, LAST_OF_1969),
@@ -45,8 +45,8 @@ const MOMENTS: [(&str, i128, &str); 10] = [
 
 #[test]
 fn fractions_of_a_second_go_down(rt: HostRuntime) {
-    for (uri, nanos, wanted) in MOMENTS {
-        is_text(&rt, signed_at(&rt, rt.alloc(), uri, nanos), wanted);
+    for (uri, nanos, wanted) in &MOMENTS {
+        is_text(&rt, signed_at(&rt, rt.alloc(), *uri, *nanos), *wanted);
     }
 }
 
@@ -86,7 +86,7 @@ const LAST: &str =
     "20150830T235959Z AWS4-HMAC-SHA256 Credential=AKIDEXAMPLE/20150830/us-east-1/service/aws4_request, SignedHeaders=host;x-amz-date, Signature=f1e56d41656220792b3e2fff083515f2c4b7550ef6f82dfbfb6179174236566e";
 
 /// Moments of the day, and what is told of the request that is signed then with its key.
-const DAY: [(i128, &str); 3] = [
+static DAY: [(i128, &str); 3] = [
     (1_440_892_800_000_000_000, FIRST),
     (NOW, SIGNED),
     (1_440_979_199_999_999_999, LAST),
@@ -96,8 +96,9 @@ const DAY: [(i128, &str); 3] = [
 fn a_key_is_derived_once_a_day(rt: HostRuntime) {
     let by = request_to(&rt, rt.alloc(), PLAIN);
     let key = derived(&rt, rt.alloc(), &by);
-    for (nanos, wanted) in DAY {
-        is_text(&rt, signed_with(&rt, rt.alloc(), &by, &key, nanos), wanted);
+    for (nanos, wanted) in &DAY {
+        let told = signed_with(&rt, rt.alloc(), &by, &key, *nanos);
+        is_text(&rt, told, *wanted);
     }
 }
 
