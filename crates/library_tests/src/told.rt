@@ -20,7 +20,7 @@ pub(crate) fn shown<T: fmt::Debug>(alloc: Global, value: &T) -> Option<String> {
 }
 
 /// What no debug text of a test's value may have: words, their first byte as a number, and numbers.
-const SECRETS: [&str; 4] = ["sesame", "115", "5551234", "736573"];
+static SECRETS: [&str; 4] = ["sesame", "115", "5551234", "736573"];
 
 /// A writer that takes so many texts, and then fails.
 #[derive(Drop)]

@@ -19,7 +19,7 @@ type Row = (
     Result<usize, CloseError>,
 );
 
-const ROWS: [Row; 12] = [
+static ROWS: [Row; 12] = [
     (&[], &[], Ok(0)),
     (&[(0, 0, 1)], &[1, 0], Ok(1)),
     (&[(0, 0, 1), (0, 1, 2)], &[0, 0], Ok(2)),

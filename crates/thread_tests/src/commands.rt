@@ -21,7 +21,7 @@ use std::thread::Threads;
 /// The words, the bytes that the sink has room for; what is written, and how it ends.
 type Row = (&'static str, usize, &'static str, Status);
 
-const ROWS: [Row; 34] = [
+static ROWS: [Row; 34] = [
     ("pool 4 8", 99, "calls 8 signed 8 loads 1 settled\n", Done),
     ("pool 1 0", 99, "calls 0 signed 0 loads 0 settled\n", Done),
     ("pool 3 1", 99, "calls 1 signed 1 loads 1 settled\n", Done),
@@ -123,7 +123,7 @@ fn commands_end_as_their_words_say(rt: HostRuntime) {
     }
 }
 
-const GATE_ROWS: [(Answers, Row); 8] = [
+static GATE_ROWS: [(Answers, Row); 8] = [
     (
         VerdictsMeet,
         ("pool 2 2", 99, "calls 2 signed 2 loads 1 settled\n", Done),

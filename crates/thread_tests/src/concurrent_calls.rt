@@ -32,7 +32,7 @@ type Ends = [u64; 6];
 /// thread makes; how the calls end; how often the gate is asked for a load, and for a verdict.
 type Row = (Answers, usize, u64, u64, Ends, (u64, u64));
 
-const ROWS: [Row; 11] = [
+static ROWS: [Row; 11] = [
     (Signs, 8, 1, 500, [4000, 0, 0, 0, 0, 0], (2, 4000)),
     // Each cache is loaded once, by the fourth question.
     (ReadyFrom(3), 8, 5, 500, [4000, 0, 0, 0, 0, 0], (8, 4000)),

@@ -15,7 +15,7 @@ use std::sync::Wait;
 /// the gate takes a nanosecond: a clock, a provider, or a service.
 type Row = (Answers, &'static [(u32, u64)], u64, &'static [i128]);
 
-const ROWS: [Row; 5] = [
+static ROWS: [Row; 5] = [
     // A poll at 0, a provider's answer at 1, which is handed over at 2, a service's at 3; then a poll at 4.
     (Signs, &[(0, 1), (0, 2)], 1, &[0, 2, 4]),
     (Signs, &[(0, 1), (1, 1)], 1, &[0, 2, 4, 6]),

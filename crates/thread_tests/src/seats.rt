@@ -4,7 +4,7 @@ use sign_pool::WorkerRefused;
 use sign_pool::WorkerRefused::{HandleTaken, NoHandle};
 
 /// A handle, and why it has no worker. The rows are asked of one pool, in turn; it has two handles.
-const ROWS: [(u32, Option<WorkerRefused>); 7] = [
+static ROWS: [(u32, Option<WorkerRefused>); 7] = [
     (2, Some(NoHandle(2))),
     (1, None),
     (1, Some(HandleTaken(1))),

@@ -25,7 +25,7 @@ type Row = (
     (u64, u64),
 );
 
-const ROWS: [Row; 19] = [
+static ROWS: [Row; 19] = [
     (Signs, &[], 1, [0, 0, 0, 0], false, (0, 0)),
     (Signs, &[(0, 1), (0, 2)], 1, [2, 0, 0, 0], false, (1, 2)),
     (Signs, &[(0, 1), (1, 1)], 1, [2, 0, 0, 0], false, (2, 2)),

@@ -49,7 +49,7 @@ const TWO_JOBS: [(Step, Told); 5] = [
     (Step::Work(0), Told::Empty),
 ];
 
-const ROWS: [Row; 13] = [
+static ROWS: [Row; 13] = [
     // No jobs.
     (Signs, 1, &[], &[], &[]),
     (

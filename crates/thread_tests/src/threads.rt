@@ -141,7 +141,7 @@ fn served<R: Threads + Wait + Sync + Abort>(
 
 /// How the gate answers, how many jobs the queue holds, how many each thread submits; whether a thread meets
 /// a full queue.
-const ROWS: [(Answers, usize, u64, bool); 4] = [
+static ROWS: [(Answers, usize, u64, bool); 4] = [
     (Answers::Signs, 1, 100, true),
     (Answers::Signs, 2, 100, true),
     (Answers::Signs, 16, 100, true),

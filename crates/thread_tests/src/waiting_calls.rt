@@ -11,7 +11,7 @@ use std::process::Abort;
 
 /// The events of the script, each with the reply that `signctl script` prints. They follow `cache single` and
 /// `handle 0 now`.
-const LINES: [(&str, &str); 9] = [
+static LINES: [(&str, &str); 9] = [
     ("begin 0 1 - GET https://e.x/ 1.1", "begun"),
     ("begin 0 2 - GET https://e.x/ 1.1", "begun"),
     ("begin 0 3 - GET https://e.x/ 1.1", "begun"),

@@ -41,7 +41,7 @@ fn answers(rt: &impl Abort, alloc: Global, chain: &Chain, polls: &[&str]) {
 
 /// What the providers say, and what each poll answers. A chain answers what is found first, asks no provider
 /// behind that, waits for a provider that is pending, and goes on from there.
-const ANSWERS: [(&[Says], &[&str]); 6] = [
+static ANSWERS: [(&[Says], &[&str]); 6] = [
     (
         &[Says::Failed, Says::Missing, Says::Found(1), Says::Found(2)],
         &["Ready(Some(1)), asked 3"],

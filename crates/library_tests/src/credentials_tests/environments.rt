@@ -23,7 +23,7 @@ fn listed(alloc: Global) -> Option<OsEnv> {
     OsEnv::from_list(Some(home), variables).ok()
 }
 
-const LISTED: [&str; 4] = [
+static LISTED: [&str; 4] = [
     r#"Ok(Some("/h"))"#,
     r#"Ok(Some("5551234"))"#,
     r#"Ok({"k": "5551234"})"#,
@@ -48,7 +48,7 @@ fn written_down(alloc: Global) -> Option<StaticEnv> {
     })
 }
 
-const WRITTEN: [&str; 4] = [
+static WRITTEN: [&str; 4] = [
     "Ok(None)",
     r#"Ok(Some("5551234"))"#,
     r#"Ok({"k": "5551234"})"#,
