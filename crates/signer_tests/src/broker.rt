@@ -76,16 +76,19 @@ fn given(alloc: Global, broker: &mut Broker, number: u64, second: i64, until: i6
     }
 }
 
+/// Calls, their seconds and until when their keys are to serve; the key, and how often the source was asked.
+static GIVEN: [(u64, i64, i64, u64, u64); 3] = [
+    (1, 0, 600, 101, 1),
+    (2, 300, 600, 101, 1),
+    (3, 600, 900, 102, 2),
+];
+
 #[test]
 fn a_source_is_loaded_once_while_it_is_fresh(rt: HostRuntime) {
     let mut broker = Broker::new(rt.alloc()).expect(&rt, "memory");
-    for (number, second, until, want, asked) in [
-        (1, 0, 600, 101, 1),
-        (2, 300, 600, 101, 1),
-        (3, 600, 900, 102, 2),
-    ] {
-        let key = given(rt.alloc(), &mut broker, number, second, until);
-        assert!(rt; key == Some(want) && broker.asked == asked);
+    for (number, second, until, want, asked) in &GIVEN {
+        let key = given(rt.alloc(), &mut broker, *number, *second, *until);
+        assert!(rt; (key == Some(*want)) & (broker.asked == *asked));
     }
     assert!(rt; broker.desk.live() == 0);
     drop(broker);

@@ -170,22 +170,25 @@ fn end_so_at_last(alloc: Global, row: Row) -> bool {
     }
 }
 
+/// Sources, the call that is given up, and the keys of the first and of the others.
+static ROWS: [(Source, Option<usize>, &[u8], &[u8]); 5] = [
+    (Source::FindsLater, None, FIRST, FIRST),
+    (Source::FindsLater, Some(2), FIRST, FIRST),
+    (Source::FindsLater, Some(0), SECOND, SECOND),
+    (Source::FailsOnce, None, REFUSED, SECOND),
+    (Source::FailsLater, Some(3), REFUSED, REFUSED),
+];
+
 /// Eight calls on an empty cache sign with one load. A call that is given up wakes the next where it was
 /// its turn; a load that fails refuses its own call alone.
 #[test]
 fn eight_calls_sign_with_one_load(rt: HostRuntime) {
-    for (source, given_up, first, others) in [
-        (Source::FindsLater, None, FIRST, FIRST),
-        (Source::FindsLater, Some(2), FIRST, FIRST),
-        (Source::FindsLater, Some(0), SECOND, SECOND),
-        (Source::FailsOnce, None, REFUSED, SECOND),
-        (Source::FailsLater, Some(3), REFUSED, REFUSED),
-    ] {
+    for (source, given_up, first, others) in &ROWS {
         let row = Row {
-            source,
-            given_up,
-            first,
-            others,
+            source: *source,
+            given_up: *given_up,
+            first: *first,
+            others: *others,
         };
         assert!(rt; end_so_at_last(rt.alloc(), row), "{given_up:?}");
     }

@@ -100,79 +100,74 @@ fn told_by(alloc: Global, sources: &[Source], issuer: Issuer, second: i64) -> Op
     Some(told)
 }
 
+/// Sources, what the granting service answers, the second, and what is told of the call.
+type Row = (&'static [Source], Issuer, i64, &'static str);
+
+static ROWS: [Row; 10] = [
+    (&[Source::Finds], Issuer::Makes, 5, "given 5551101"),
+    (
+        &[Source::FindsLater],
+        Issuer::Makes,
+        5,
+        "pending, given 5551101",
+    ),
+    (
+        &[Source::FindsLater],
+        Issuer::MakesLater,
+        5,
+        "pending, pending, given 5551101",
+    ),
+    (
+        &[Source::FindsWithoutMemory],
+        Issuer::MakesWithoutMemory,
+        5,
+        "out of memory, out of memory, given 5551101",
+    ),
+    (
+        &[Source::Fails, Source::FindsNone, Source::FindsLater],
+        Issuer::Makes,
+        5,
+        "pending, given 5551103",
+    ),
+    (
+        &[Source::FindsNone],
+        Issuer::Makes,
+        5,
+        "CredentialInvalid failed to load source credential [\"credential_type: Key\"]",
+    ),
+    (
+        &[Source::Finds],
+        Issuer::Makes,
+        60,
+        "CredentialInvalid refreshed source credential expires before the granting deadline \
+            [\"credential_type: Key\", \"required_valid_until: 60\"]",
+    ),
+    (
+        &[Source::Finds],
+        Issuer::MakesShort,
+        5,
+        "CredentialInvalid granted credential is not currently usable \
+            [\"credential_type: Key\", \"validated_at: 5\"]",
+    ),
+    (
+        &[Source::Fails],
+        Issuer::Makes,
+        5,
+        "RateLimited no source []",
+    ),
+    (
+        &[Source::Finds],
+        Issuer::Fails,
+        5,
+        "RateLimited no grant []",
+    ),
+];
+
 /// What is made is given, and each refusal becomes an error.
 #[test]
 fn calls_are_given_a_key_or_refused(rt: HostRuntime) {
-    for (sources, issuer, second, wanted) in [
-        (
-            &[Source::Finds] as &[Source],
-            Issuer::Makes,
-            5,
-            "given 5551101",
-        ),
-        (
-            &[Source::FindsLater],
-            Issuer::Makes,
-            5,
-            "pending, given 5551101",
-        ),
-        (
-            &[Source::FindsLater],
-            Issuer::MakesLater,
-            5,
-            "pending, pending, given 5551101",
-        ),
-        (
-            &[Source::FindsWithoutMemory],
-            Issuer::MakesWithoutMemory,
-            5,
-            "out of memory, out of memory, given 5551101",
-        ),
-        (
-            &[Source::Fails, Source::FindsNone, Source::FindsLater],
-            Issuer::Makes,
-            5,
-            "pending, given 5551103",
-        ),
-        (
-            &[Source::FindsNone],
-            Issuer::Makes,
-            5,
-            "CredentialInvalid failed to load source credential [\"credential_type: Key\"]",
-        ),
-        (
-            &[Source::Finds],
-            Issuer::Makes,
-            60,
-            "CredentialInvalid refreshed source credential expires before the granting deadline \
-                [\"credential_type: Key\", \"required_valid_until: 60\"]",
-        ),
-        (
-            &[Source::Finds],
-            Issuer::MakesShort,
-            5,
-            "CredentialInvalid granted credential is not currently usable \
-                [\"credential_type: Key\", \"validated_at: 5\"]",
-        ),
-        (
-            &[Source::Fails],
-            Issuer::Makes,
-            5,
-            "RateLimited no source []",
-        ),
-        (
-            &[Source::Finds],
-            Issuer::Fails,
-            5,
-            "RateLimited no grant []",
-        ),
-    ] {
-        is_told(
-            &rt,
-            told_by(rt.alloc(), sources, issuer, second),
-            wanted,
-            "",
-        );
+    for row in &ROWS {
+        is_told(&rt, told_by(rt.alloc(), row.0, row.1, row.2), row.3, "");
     }
 }
 

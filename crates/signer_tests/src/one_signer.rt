@@ -168,18 +168,21 @@ fn first_header(alloc: Global, reply: &Reply<Key>) -> Option<Octets> {
     }
 }
 
+/// Calls and their seconds, how often a key was asked for by then, and the header.
+static SIGNED: [(u64, i64, u64, &str); 4] = [
+    (1, 0, 1, "key 1"),
+    (2, 300, 1, "key 1"),
+    (3, 539, 1, "key 1"),
+    (4, 540, 2, "key 2"),
+];
+
 /// A key serves as long as it lasts to the end of the operation, and then the next is asked for.
 #[test]
 fn a_key_is_asked_for_once_while_it_lasts(rt: HostRuntime) {
     let mut signer = key_signer(rt.alloc()).expect(&rt, "memory");
-    for (number, second, asked, header) in [
-        (1, 0, 1, "key 1"),
-        (2, 300, 1, "key 1"),
-        (3, 539, 1, "key 1"),
-        (4, 540, 2, "key 2"),
-    ] {
-        let value = signed(&mut signer, number, second).expect(&rt, "the call is signed");
-        assert!(rt; value.as_slice() == header.as_bytes() && signer.keys.asked == asked);
+    for (number, second, asked, header) in &SIGNED {
+        let value = signed(&mut signer, *number, *second).expect(&rt, "the call is signed");
+        assert!(rt; (value.as_slice() == header.as_bytes()) & (signer.keys.asked == *asked));
     }
     assert!(rt; signer.desk.live() == 0);
     drop(signer);

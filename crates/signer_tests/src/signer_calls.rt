@@ -39,103 +39,97 @@ fn told_by(alloc: Global, sources: &[Source], stamp: Stamp, second: i64) -> Opti
     told
 }
 
+/// Sources, what the service does, the second, and what is told of the call and of its request.
+type Row = (&'static [Source], Stamp, i64, &'static str, &'static str);
+
+static ROWS: [Row; 12] = [
+    (&[Source::Finds], Stamp::Header, 5, "done", SIGNED),
+    (
+        &[Source::FindsLater],
+        Stamp::HeaderLater,
+        5,
+        "pending, pending, done",
+        SIGNED,
+    ),
+    (
+        &[Source::FindsWithoutMemory],
+        Stamp::HeaderWithoutMemory,
+        5,
+        "out of memory, out of memory, done",
+        SIGNED,
+    ),
+    (
+        &[Source::Finds],
+        Stamp::MethodAndVersion,
+        5,
+        "done",
+        UNCHANGED,
+    ),
+    (
+        &[Source::Finds],
+        Stamp::Uri("https://e.x/b?c"),
+        5,
+        "done",
+        r#", GET https://e.x/b?c HTTP/1.1 {"pin": "5551234"}"#,
+    ),
+    (
+        &[Source::Finds],
+        Stamp::Uri(": "),
+        5,
+        "RequestInvalid invalid uri character []",
+        UNCHANGED,
+    ),
+    (
+        &[Source::Finds],
+        Stamp::Uri("https://e.x/ 5551234"),
+        5,
+        "RequestInvalid invalid uri character []",
+        UNCHANGED,
+    ),
+    (
+        &[Source::Finds],
+        Stamp::Value("5551234\n"),
+        5,
+        "RequestInvalid failed to parse header value []",
+        UNCHANGED,
+    ),
+    (
+        &[Source::Finds],
+        Stamp::Fails,
+        5,
+        "RateLimited no stamp []",
+        UNCHANGED,
+    ),
+    (
+        &[Source::Fails],
+        Stamp::Header,
+        5,
+        "RateLimited no source []",
+        UNCHANGED,
+    ),
+    (
+        &[Source::Fails, Source::FindsNone],
+        Stamp::Header,
+        5,
+        "CredentialInvalid failed to load signing credential [\"credential_type: Key\"]",
+        UNCHANGED,
+    ),
+    (
+        &[Source::Finds],
+        Stamp::Header,
+        60,
+        "CredentialInvalid refreshed signing credential expires before the requested operation deadline \
+            [\"credential_type: Key\", \"required_valid_until: 60\"]",
+        UNCHANGED,
+    ),
+];
+
 /// What there was no memory for is kept: the load is begun once, and so is the work. A service changes
 /// the URI and the headers alone, and both or neither.
 #[test]
 fn a_call_is_signed_or_changes_nothing(rt: HostRuntime) {
-    for (sources, stamp, second, wanted, request) in [
-        (
-            &[Source::Finds] as &[Source],
-            Stamp::Header,
-            5,
-            "done",
-            SIGNED,
-        ),
-        (
-            &[Source::FindsLater],
-            Stamp::HeaderLater,
-            5,
-            "pending, pending, done",
-            SIGNED,
-        ),
-        (
-            &[Source::FindsWithoutMemory],
-            Stamp::HeaderWithoutMemory,
-            5,
-            "out of memory, out of memory, done",
-            SIGNED,
-        ),
-        (
-            &[Source::Finds],
-            Stamp::MethodAndVersion,
-            5,
-            "done",
-            UNCHANGED,
-        ),
-        (
-            &[Source::Finds],
-            Stamp::Uri("https://e.x/b?c"),
-            5,
-            "done",
-            r#", GET https://e.x/b?c HTTP/1.1 {"pin": "5551234"}"#,
-        ),
-        (
-            &[Source::Finds],
-            Stamp::Uri(": "),
-            5,
-            "RequestInvalid invalid uri character []",
-            UNCHANGED,
-        ),
-        (
-            &[Source::Finds],
-            Stamp::Uri("https://e.x/ 5551234"),
-            5,
-            "RequestInvalid invalid uri character []",
-            UNCHANGED,
-        ),
-        (
-            &[Source::Finds],
-            Stamp::Value("5551234\n"),
-            5,
-            "RequestInvalid failed to parse header value []",
-            UNCHANGED,
-        ),
-        (
-            &[Source::Finds],
-            Stamp::Fails,
-            5,
-            "RateLimited no stamp []",
-            UNCHANGED,
-        ),
-        (
-            &[Source::Fails],
-            Stamp::Header,
-            5,
-            "RateLimited no source []",
-            UNCHANGED,
-        ),
-        (
-            &[Source::Fails, Source::FindsNone],
-            Stamp::Header,
-            5,
-            "CredentialInvalid failed to load signing credential [\"credential_type: Key\"]",
-            UNCHANGED,
-        ),
-        (
-            &[Source::Finds],
-            Stamp::Header,
-            60,
-            "CredentialInvalid refreshed signing credential expires before the requested operation deadline \
-                [\"credential_type: Key\", \"required_valid_until: 60\"]",
-            UNCHANGED,
-        ),
-    ] {
-        is_told(
-            &rt,
-            told_by(rt.alloc(), sources, stamp, second),
-            wanted,
-            request,
-        );
+    for row in &ROWS {
+        is_told(&rt, told_by(rt.alloc(), row.0, row.1, row.2), row.3, row.4);
     }
 }
 

@@ -421,25 +421,28 @@ fn told_by(alloc: Global, path: &'static str) -> Option<Told> {
     told
 }
 
+/// Paths of files, and what is told of a call: its text, and its end.
+static TOLD: [(&str, &str, &str); 2] = [
+    (
+        "/keys",
+        "pending, done, GET https://example.com/a%2Fb?y=2&x=1 HTTP/1.1 {\"pin\": \"5551234\", \
+            \"authorization\": \"HMAC me:",
+        "e359a741623dc63f085e2aa8af69a333a750346530903cdce9ff1a89a0f82f94\"}",
+    ),
+    (
+        "/no/keys",
+        "pending, CredentialInvalid failed to load signing credential [\"credential_type: AccessKey\"], \
+            GET https://example.com/a%2Fb?y=2&x=1 HTTP/1.1 ",
+        r#"{"pin": "5551234"}"#,
+    ),
+];
+
 /// The environment has no key, so the chain goes on to the file, which answers at its second poll. The
 /// header is the one that another implementation of HMAC-SHA256 makes. Where no provider has a key, the call
 /// is refused, and the refusal becomes an error.
 #[test]
 fn a_call_is_signed_with_the_key_of_a_file(rt: HostRuntime) {
-    for (path, wanted, headers) in [
-        (
-            "/keys",
-            "pending, done, GET https://example.com/a%2Fb?y=2&x=1 HTTP/1.1 {\"pin\": \"5551234\", \
-                \"authorization\": \"HMAC me:",
-            "e359a741623dc63f085e2aa8af69a333a750346530903cdce9ff1a89a0f82f94\"}",
-        ),
-        (
-            "/no/keys",
-            "pending, CredentialInvalid failed to load signing credential [\"credential_type: AccessKey\"], \
-                GET https://example.com/a%2Fb?y=2&x=1 HTTP/1.1 ",
-            r#"{"pin": "5551234"}"#,
-        ),
-    ] {
-        is_told(&rt, told_by(rt.alloc(), path), wanted, headers);
+    for (path, wanted, headers) in &TOLD {
+        is_told(&rt, told_by(rt.alloc(), *path), *wanted, *headers);
     }
 }
