@@ -1,2 +1,3 @@
 pub mod Process
+pub mod Words
 pub use Rattle.credentials.specs.Polled

@@ -4,7 +4,7 @@ ghost use Rattle.std.specs.Prelude.{⊤};
 use crate::documents::key_and_token;
 use crate::told::{is_text, text_of};
 use aws_credentials::SessionCredential;
-use aws_process::ProcessProvider;
+use aws_process::{ProcessProvider, SplitFault, split_words};
 use credentials::{
     CommandExecute, CommandOutput, Context, NoopEnv, NoopFileRead, NoopHttpSend, Polled,
     ProvideCredential,
@@ -152,4 +152,66 @@ fn words_of(rt: &impl Abort, alloc: Global, answer: Polled<Option<SessionCredent
         Polled::Pending => text_of(rt, alloc, b"pending"),
         Polled::OutOfMemory => text_of(rt, alloc, b"out of memory"),
     }
+}
+
+/// Lines, and their words as Python 3.11's `shlex.split` has them, each between `<` and `>`, or the fault that
+/// it names: "No closing quotation" or "No escaped character".
+const LINES: [(&str, &str); 32] = [
+    ("/opt/bin/login \"a b\" --x", "</opt/bin/login><a b><--x>"),
+    ("", ""),
+    (" \t\r\n ", ""),
+    ("a\tb  c\r\nd", "<a><b><c><d>"),
+    ("a\u{b}b\u{c}c\u{a0}d", "<a\u{b}b\u{c}c\u{a0}d>"),
+    ("# a#b 'c d'", "<#><a#b><c d>"),
+    ("$HOME *.txt ~", "<$HOME><*.txt><~>"),
+    ("caf\u{e9} \"na\u{ef}ve x\"", "<caf\u{e9}><na\u{ef}ve x>"),
+    ("a\"b\"c", "<abc>"),
+    ("a''b", "<ab>"),
+    ("''", "<>"),
+    ("\"\"", "<>"),
+    ("'' \"\" a", "<><><a>"),
+    ("x\"y'z\"", "<xy'z>"),
+    ("'it'\"'\"'s'", "<it's>"),
+    ("'a' 'b'", "<a><b>"),
+    ("'a\\'", "<a\\>"),
+    ("a\\ b", "<a b>"),
+    ("a\\\\b", "<a\\b>"),
+    ("a\\\nb", "<a\nb>"),
+    ("\\'a\\\"", "<'a\">"),
+    ("C:\\bin\\x", "<C:binx>"),
+    ("\"C:\\new folder\\x\"", "<C:\\new folder\\x>"),
+    ("\"\\a\"", "<\\a>"),
+    ("\"\\\\\"", "<\\>"),
+    ("\"\\\"\"", "<\">"),
+    ("\"a\\\nb\"", "<a\\\nb>"),
+    ("a \"b", "No closing quotation"),
+    ("a 'b", "No closing quotation"),
+    ("'\\", "No closing quotation"),
+    ("a\\", "No escaped character"),
+    ("\"a\\", "No escaped character"),
+];
+
+#[test]
+fn a_line_has_the_words_that_shlex_splits(rt: HostRuntime) {
+    for (line, wanted) in LINES {
+        is_text(&rt, words_told(&rt, rt.alloc(), line), wanted);
+    }
+}
+
+fn words_told(rt: &impl Abort, alloc: Global, line: &str) -> String {
+    match split_words(alloc, line.as_bytes()) {
+        Ok(words) => between_marks(rt, alloc, words.as_slice()),
+        Err(SplitFault::Quote) => text_of(rt, alloc, b"No closing quotation"),
+        Err(SplitFault::Escape) => text_of(rt, alloc, b"No escaped character"),
+        Err(SplitFault::OutOfMemory) => text_of(rt, alloc, b"out of memory"),
+    }
+}
+
+fn between_marks(rt: &impl Abort, alloc: Global, words: &[Vec<u8>]) -> String {
+    let mut told = String::new(alloc);
+    for word in words {
+        let word = text_of(rt, alloc, word.as_slice());
+        told = format!(in alloc; "{told}<{word}>").expect(rt, "memory");
+    }
+    told
 }
