@@ -1,4 +1,7 @@
 pub mod LinesSaid
+pub mod HeadNames
+pub mod Views
+pub mod LentPairs
 pub mod BytesWords
 pub mod HexDigits
 pub mod HmacForms

@@ -5,6 +5,9 @@ pub mod HmacReading
 pub mod HmacAnswers
 pub mod ViewGrammar
 pub mod ViewAnswers
+pub mod HeadNames
+pub mod LentPairs
+pub mod ViewTarget
 pub mod Sigv4Grammar
 pub mod Sigv4Reading
 pub mod Sigv4Answers

@@ -24,6 +24,10 @@ pub mod sigv4_item;
 pub mod sigv4_laws;
 mod view_answer;
 pub mod view_command;
+mod view_names;
+mod view_pairs;
+mod view_query;
+mod view_target;
 
 pub use each_line::EachLine;
 pub use hmac_command::HmacCommand;

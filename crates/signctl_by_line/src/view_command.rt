@@ -10,8 +10,9 @@ use sign_base::{Head, NoMemory};
 use sign_request::HeaderSeeds;
 use std::alloc::Global;
 
-/// The command `view`. The names of headers come from outside, so the maps that are made of them have these
-/// keys; no answer depends on them.
+/// The command `view`. The names of headers come from outside, so it has these keys, for the map that a head
+/// is tested by which has more headers than one may have names. No line has so many, and no answer depends on
+/// the keys.
 #[derive(Clone, Copy, Debug)]
 pub struct ViewCommand {
     pub keys: HeaderSeeds,
