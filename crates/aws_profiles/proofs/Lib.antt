@@ -2,3 +2,4 @@ pub mod TextLemmas
 pub mod LineLemmas
 pub mod FileLemmas
 pub mod ProfileLemmas
+pub mod ReadLemmas

@@ -1,5 +1,8 @@
 -- The profiles of AWS's shared files: which is asked for, where the files stand, and the credential there.
-use Rattle.std.specs.Prelude.{ℕ, List, codes, Option, Some, None, Result, Ok, Err, unwrap_or, ◌++◌}
+use Rattle.std.specs.Prelude.{◌≡◌, ◌⊎◌, ℕ, List, [], ◌++◌, codes, Option, Some, None, unwrap_or}
+use Rattle.std.specs.Prelude.{Result, Ok, Err}
+use Rattle.sign_base.specs.Error.{ErrorParts, new_error}
+use Rattle.sign_base.specs.declared.error_kind.ErrorKind.TheVariants as kind
 use Rattle.credentials.specs.Home.{expanded_path}
 use Rattle.aws_credentials.specs.Found.{Found, found_in, unless_empty}
 use Rattle.aws_profiles.specs.Settings.{SettingTexts, settings_of}
@@ -22,6 +25,23 @@ found_in_read file profile (Err message) = Err (message ++ place_of file)
 -- the credential that the profile has in the bytes of a file, or the message why there is none
 unfoldable pub found_in_file : SharedFile → List ℕ → List ℕ → Found
 found_in_file file profile bytes = found_in_read file profile (settings_of bytes)
+
+-- the value of the profile's `credential_process` in what was read, where it has one
+abbrev pub process_in_read : SharedFile → List ℕ → Result (List SettingTexts) (List ℕ)
+    → Result (Option (List ℕ)) (List ℕ)
+process_in_read file profile (Ok settings) = Ok (value_of file profile (codes "credential_process") settings)
+process_in_read file profile (Err message) = Err (message ++ place_of file)
+
+-- the value of `credential_process` that the profile has in the bytes of a file, where it has one, or the
+-- message why the file cannot be read
+unfoldable pub process_in_file : SharedFile → List ℕ → List ℕ → Result (Option (List ℕ)) (List ℕ)
+process_in_file file profile bytes = process_in_read file profile (settings_of bytes)
+
+-- why something was not read: with this message, or an allocation failed
+abbrev pub IsRefusalOf : {A : Type 0} → Result A (List ℕ) → ErrorParts → Type 0
+IsRefusalOf read e =
+    (e ≡ new_error kind.OutOfMemory [])
+    ⊎ ((message : List ℕ) × (read ≡ Err message) × (e ≡ new_error kind.CredentialInvalid message))
 
 -- the profile: the one that was chosen, else that of `AWS_PROFILE`, else `default`
 abbrev pub profile_of : Option (List ℕ) → (List ℕ → Option (List ℕ)) → List ℕ

@@ -1,12 +1,22 @@
 -- What a provider answers that reads the shared files.
 use Rattle.std.specs.Prelude.{◌≡◌, ◌⊎◌, ℕ, Bool, true, false, List, Option, Some, None, IfSome}
+use Rattle.std.specs.Prelude.{Result, Ok, Err}
+use Rattle.sign_base.specs.Error.{new_error}
+use Rattle.sign_base.specs.declared.error_kind.ErrorKind.TheVariants as kind
 use Rattle.credentials.specs.declared.polled.Polled.{Polled}
 use Rattle.credentials.specs.declared.polled.Polled.TheVariants.{Pending, Ready, Failed, OutOfMemory}
 use Rattle.aws_credentials.specs.Found.{Found, GivesFound}
 use Rattle.aws_credentials.specs.Session.{Session}
-use Rattle.aws_profiles.specs.Profiles.{path_of, profile_of, found_in_file}
+use Rattle.aws_profiles.specs.Profiles.{path_of, profile_of, found_in_file, process_in_file}
 use Rattle.aws_profiles.specs.declared.shared_file.SharedFile.{SharedFile}
 use Rattle.aws_profiles.specs.declared.shared_file.SharedFile.TheVariants.{Credentials, Config}
+
+-- what is answered at a path: by a read there, or out of memory; nothing where the path is not known
+abbrev pub FileAnswers : (List ℕ → Polled (List ℕ) → Type 0) → Option (List ℕ) → Option (Polled (List ℕ))
+    → Type 0
+FileAnswers Gives path None = path ≡ None
+FileAnswers Gives path (Some read) =
+    (read ≡ OutOfMemory) ⊎ ((p : List ℕ) × (path ≡ Some p) × Gives p read)
 
 -- what is answered by a read of a file: what its bytes have, and that there is no credential where it cannot
 -- be read
@@ -42,6 +52,29 @@ module _ (variables : List ℕ → Option (List ℕ)) (home : Option (List ℕ))
   -- file
   abbrev pub ProfileGives : Polled (Option Session) → Type 0
   ProfileGives answer = FirstOf (ProfileFileGives Credentials) (ProfileFileGives Config) answer
+
+-- what a poll answers that has a profile's line, or none, or the message why the file cannot be read
+abbrev pub line_polled : Result (Option (List ℕ)) (List ℕ) → Polled (Option (List ℕ))
+line_polled (Ok line) = Ready line
+line_polled (Err message) = Failed (new_error kind.CredentialInvalid message)
+
+-- what is said of the profile's line by what is answered at the path of the file: that there is none where
+-- the path is not known, or the file cannot be read
+abbrev pub line_said : SharedFile → List ℕ → Option (Polled (List ℕ)) → Polled (Option (List ℕ))
+line_said file profile None = Ready None
+line_said file profile (Some (Ready bytes)) = line_polled (process_in_file file profile bytes)
+line_said file profile (Some (Failed error)) = Ready None
+line_said file profile (Some Pending) = Pending
+line_said file profile (Some OutOfMemory) = OutOfMemory
+
+-- what one file says of a profile's line, by the variables, the home folder, and what reads may answer; or
+-- out of memory
+abbrev pub LineGives : (List ℕ → Option (List ℕ)) → Option (List ℕ) → (List ℕ → Polled (List ℕ) → Type 0)
+    → Option (List ℕ) → SharedFile → Polled (Option (List ℕ)) → Type 0
+LineGives variables home Gives chosen file answer =
+    (answer ≡ OutOfMemory)
+    ⊎ ((read : Option (Polled (List ℕ))) × FileAnswers Gives (path_of file variables home) read
+    × (answer ≡ line_said file (profile_of chosen variables) read))
 
 -- a read was begun at the path of a file, by the variables, the home folder, and what begins a read
 abbrev pub Begun : {R : Type 0} → (List ℕ → Option (List ℕ)) → Option (List ℕ) → (List ℕ → R → Type 0)

@@ -75,8 +75,8 @@ impl<X: HasVariables + HasFiles> ProvideCredential for AwsProvider<X> {
 /// The providers in the order of AWS's tools: the environment, and then the shared files, of the profile that
 /// `AWS_PROFILE` names, else `default`. The next is asked where one finds nothing or fails.
 ///
-/// Between and behind these AWS's tools ask for web identities, processes, and the endpoints of containers
-/// and instances; whoever has providers of these makes an enum of more cases.
+/// Behind these AWS's tools ask for processes and for the endpoints of containers and instances:
+/// `aws_chain::default_chain` does. Web identities, for which they ask between these, are in neither.
 pub fn aws_chain<X>(alloc: Global) -> Result<Providers<AwsProvider<X>>, NoMemory<()>>
     ensures { IfOk result IsDefaultOrder }
 {

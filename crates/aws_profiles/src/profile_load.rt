@@ -1,12 +1,13 @@
 //! A load of a profile: which file is read, and how far.
-ghost use Rattle.std.specs.Prelude.{◌≡◌, ◌≢◌, ℕ, List, IfOk, IfSome, MatchOption, None, option_map};
+ghost use Rattle.std.specs.Prelude.{◌≡◌, ◌≢◌, ℕ, List, IfOk, IfSome, MatchOption, option_map};
 ghost use Rattle.std.specs.Prelude.{string_bytes};
 ghost use Rattle.credentials.specs.declared.polled.Polled.{Polled};
-ghost use Rattle.credentials.specs.Polled.{CanBePolledAgain, polled_map};
+ghost use Rattle.credentials.specs.Polled.{polled_map};
 ghost use Rattle.aws_credentials.specs.Found.{IsFound};
-ghost use Rattle.aws_profiles.specs.Profiles.{path_of, profile_of, found_in_file};
+ghost use Rattle.aws_profiles.specs.Profiles.{profile_of, found_in_file};
 ghost use Rattle.aws_profiles.specs.Reads.{AnswersRead, Begun, ProfileFileGives};
 
+use crate::file_poll::poll_shared_file;
 use crate::shared_file::text_or;
 use crate::{HasFiles, SharedFile, profile_session};
 use aws_credentials::{HasVariables, SessionCredential, polled_session};
@@ -49,42 +50,9 @@ pub(crate) fn poll_file<X: HasVariables + HasFiles>(
         → ProfileFileGives (X.variables ctx.now) (X.home ctx.now) (X.reads ctx.now)
         (option_map string_bytes chosen.now) file result }
 {
-    let mut read = match open_read.take() {
-        Some(read) => read,
-        None => match begin(alloc, ctx, file) {
-            Ok(Some(read)) => read,
-            Ok(None) => return Polled::Ready(None),
-            Err(_) => return Polled::OutOfMemory,
-        },
-    };
-    let bytes = ctx.poll_file_read(alloc, &mut read);
-    *open_read = still_open(read, &bytes);
-    answer(alloc, ctx, chosen, file, bytes)
-}
-
-/// Begins to read a file, or None where its path is not known.
-fn begin<X: HasVariables + HasFiles>(
-    alloc: Global,
-    ctx: &X,
-    file: SharedFile,
-) -> Result<Option<X::Read>, NoMemory<()>>
-    ensures { IfOk result (λ read. MatchOption read
-        (path_of file (X.variables ctx.now) (X.home ctx.now) ≡ None)
-        (Begun (X.variables ctx.now) (X.home ctx.now) (X.begun ctx.now) file)) }
-{
-    match file.path(alloc, ctx)? {
-        Some(path) => Ok(Some(ctx.file_read(alloc, path.as_str())?)),
-        None => Ok(None),
-    }
-}
-
-/// The read, if it can be polled again after this answer.
-fn still_open<R: Drop, T>(read: R, answer: &Polled<T>) -> Option<R>
-    ensures { IfSome result (λ r. (r ≡ read) × CanBePolledAgain answer.now) }
-{
-    match answer {
-        Polled::Pending | Polled::OutOfMemory => Some(read),
-        Polled::Ready(_) | Polled::Failed(_) => None,
+    match poll_shared_file(alloc, ctx, file, open_read) {
+        Some(bytes) => answer(alloc, ctx, chosen, file, bytes),
+        None => Polled::Ready(None),
     }
 }
 
@@ -127,7 +95,7 @@ fn session_in_bytes<X: HasVariables>(
 }
 
 /// The name of the profile: the chosen one, else that of `AWS_PROFILE`, else `default`.
-fn profile_name<X: HasVariables>(
+pub(crate) fn profile_name<X: HasVariables>(
     alloc: Global,
     ctx: &X,
     chosen: &Option<String>,

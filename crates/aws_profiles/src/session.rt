@@ -1,8 +1,8 @@
-//! The credential of a profile in the bytes of a shared file.
-ghost use Rattle.std.specs.Prelude.{◌≡◌, IfOk, option_map, string_bytes};
+//! What a profile has in the bytes of a shared file: its credential, or the process that prints one.
+ghost use Rattle.std.specs.Prelude.{◌≡◌, Ok, IfOk, IfErr, option_map, string_bytes};
 ghost use Rattle.aws_credentials.specs.Found.{IsFound};
 ghost use Rattle.aws_profiles.specs.Settings.{settings_texts};
-ghost use Rattle.aws_profiles.specs.Profiles.{found_in_file, found_in_settings};
+ghost use Rattle.aws_profiles.specs.Profiles.{found_in_file, found_in_settings, process_in_file, IsRefusalOf};
 
 use crate::{Setting, SharedFile, read_settings, value_of};
 use aws_credentials::{KeyTexts, SessionCredential, session_in};
@@ -51,6 +51,30 @@ fn session_of(
         )?,
     };
     session_in(alloc, file.place(), texts, None)
+}
+
+/// The profile's setting `credential_process` in the bytes of this file, or None where it has none there: the
+/// line of a process that prints its credential.
+///
+/// `CredentialInvalid`, with the file's place in its message and nothing of its bytes, where the file cannot
+/// be read as settings.
+pub fn profile_process(
+    alloc: Global,
+    file: SharedFile,
+    profile: &str,
+    bytes: &[u8],
+) -> Result<Option<String>, Error>
+    ensures ok { IfOk result
+        (λ line. process_in_file file profile.now bytes.now ≡ Ok (option_map string_bytes line)) }
+    ensures err { IfErr result (IsRefusalOf (process_in_file file profile.now bytes.now)) }
+{
+    match read_settings(alloc, bytes) {
+        Ok(settings) => Ok(copied(
+            alloc,
+            value_of(settings.as_slice(), file, profile, "credential_process"),
+        )?),
+        Err(fault) => Err(fault.error_in(alloc, file.place())?),
+    }
 }
 
 fn copied(alloc: Global, text: Option<&str>) -> Result<Option<String>, NoMemory<()>>

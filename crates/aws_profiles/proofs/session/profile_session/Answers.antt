@@ -11,4 +11,4 @@ returns-in-Ok c =
 pub returns-in_ok-error_in-in-Err : goal.returns-in_ok-error_in-in-Err
 returns-in_ok-error_in-in-Err c =
     found-fault c.args.file c.args.profile.now c.args.bytes.now c.in-Err.fault c.place.result.now c.in_ok-error_in-in-Err.field-0
-    c.place.ensures c.in-Err.ensures.err c.in_ok-error_in-in-Err.ensures.memory c.in_ok-error_in-in-Err.ensures.invalid
+    c.place.ensures c.in-Err.ensures.err (c.in_ok-error_in-in-Err.ensures.memory, c.in_ok-error_in-in-Err.ensures.invalid)
