@@ -1,3 +1,5 @@
 pub mod Process
 pub mod Words
+pub mod CommandLine
+pub mod ProfileProcess
 pub use Rattle.credentials.specs.Polled

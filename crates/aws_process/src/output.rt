@@ -73,7 +73,7 @@ fn refused_status(alloc: Global, status: i32) -> Error
 }
 
 /// The bytes as text, with U+FFFD for what is not UTF-8.
-fn text_of(alloc: Global, bytes: &[u8]) -> Result<String, NoMemory<()>>
+pub(crate) fn text_of(alloc: Global, bytes: &[u8]) -> Result<String, NoMemory<()>>
     ensures { IfOk result (λ text. string_bytes text ≡ utf8_lossy bytes.now) }
 {
     Ok(String::from_utf8_lossy(alloc, bytes)?)
