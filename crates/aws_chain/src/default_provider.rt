@@ -5,7 +5,7 @@ ghost use Rattle.aws_chain.specs.Order.{ByProvider, ByLoad};
 use aws_credentials::{EnvironmentProvider, HasVariables, SessionCredential};
 use aws_endpoints::{ContainerLoad, ContainerProvider, HasSender};
 use aws_instance::{InstanceLoad, InstanceProvider};
-use aws_process::{HasCommands, ProcessLoad, ProcessProvider};
+use aws_process::{HasCommands, ProfileProcessLoad, ProfileProcessProvider};
 use aws_profiles::{HasFiles, ProfileLoad, ProfileProvider};
 use credentials::{Polled, ProvideCredential};
 use sign_base::NoMemory;
@@ -16,7 +16,7 @@ use std::alloc::Global;
 pub enum DefaultProvider<X> {
     Environment(EnvironmentProvider<X>),
     Profile(ProfileProvider<X>),
-    Process(ProcessProvider<X>),
+    Process(ProfileProcessProvider<X>),
     Container(ContainerProvider<X>),
     Instance(InstanceProvider<X>),
 }
@@ -26,7 +26,7 @@ pub enum DefaultProvider<X> {
 pub enum DefaultLoad<R, P, S> {
     Environment,
     Profile(ProfileLoad<R>),
-    Process(ProcessLoad<P>),
+    Process(ProfileProcessLoad<R, P>),
     Container(ContainerLoad<S>),
     Instance(InstanceLoad<S>),
 }
@@ -42,20 +42,20 @@ impl<X: HasVariables + HasFiles + HasCommands + HasSender> ProvideCredential
 
     ghost started = { λ provider ctx load. ByLoad provider load
         (λ of it. ⟦<ProfileProvider<X> as ProvideCredential>⟧.started of ctx it)
-        (λ of it. ⟦<ProcessProvider<X> as ProvideCredential>⟧.started of ctx it)
+        (λ of it. ⟦<ProfileProcessProvider<X> as ProvideCredential>⟧.started of ctx it)
         (λ of it. ⟦<ContainerProvider<X> as ProvideCredential>⟧.started of ctx it)
         (λ of it. ⟦<InstanceProvider<X> as ProvideCredential>⟧.started of ctx it) };
 
     ghost ready = { λ provider ctx load. ByLoad provider load
         (λ of it. ⟦<ProfileProvider<X> as ProvideCredential>⟧.ready of ctx it)
-        (λ of it. ⟦<ProcessProvider<X> as ProvideCredential>⟧.ready of ctx it)
+        (λ of it. ⟦<ProfileProcessProvider<X> as ProvideCredential>⟧.ready of ctx it)
         (λ of it. ⟦<ContainerProvider<X> as ProvideCredential>⟧.ready of ctx it)
         (λ of it. ⟦<InstanceProvider<X> as ProvideCredential>⟧.ready of ctx it) };
 
     ghost gives = { λ provider ctx answer. ByProvider provider
         (λ of. ⟦<EnvironmentProvider<X> as ProvideCredential>⟧.gives of ctx answer)
         (λ of. ⟦<ProfileProvider<X> as ProvideCredential>⟧.gives of ctx answer)
-        (λ of. ⟦<ProcessProvider<X> as ProvideCredential>⟧.gives of ctx answer)
+        (λ of. ⟦<ProfileProcessProvider<X> as ProvideCredential>⟧.gives of ctx answer)
         (λ of. ⟦<ContainerProvider<X> as ProvideCredential>⟧.gives of ctx answer)
         (λ of. ⟦<InstanceProvider<X> as ProvideCredential>⟧.gives of ctx answer) };
 
