@@ -239,7 +239,7 @@ fn instance_signer(
         LeftOut::agents(alloc)?,
     );
     let context = ClockedContext { objects, clock };
-    let providers = default_chain(alloc, None)?;
+    let providers = default_chain(alloc)?;
     Signer::new(alloc, context, providers, service).map_err(|_| Error::out_of_memory())
 }
 

@@ -31,6 +31,8 @@ mod other_readings;
 #[cfg(test)]
 mod processes;
 #[cfg(test)]
+mod profile_processes;
+#[cfg(test)]
 mod refusals;
 #[cfg(test)]
 mod refused_memory;

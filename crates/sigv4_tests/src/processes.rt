@@ -15,11 +15,11 @@ use std::process::Abort;
 
 /// Runs `/opt/bin/login`, which ends with the status of its first argument and prints the second.
 #[derive(Clone, Copy)]
-struct Login;
+pub(crate) struct Login;
 
 /// A run that is on its way, or here.
 #[derive(Drop)]
-struct Run {
+pub(crate) struct Run {
     is_here: bool,
     status: i32,
     printed: String,

@@ -255,11 +255,11 @@ fn secret(rt: &impl Abort, alloc: Global, file: SharedFile, profile: &str, bytes
 
 /// Files, by their paths. Each read is pending at its first poll.
 #[derive(Drop)]
-struct SomeFiles(&'static [(&'static str, &'static str)]);
+pub(crate) struct SomeFiles(pub(crate) Files);
 
 /// A read of the file at this place, if there is one.
 #[derive(Drop)]
-struct SomeRead {
+pub(crate) struct SomeRead {
     place: Option<usize>,
     was_polled: bool,
 }
@@ -311,10 +311,10 @@ fn no_file(alloc: Global) -> Polled<Vec<u8>> {
 }
 
 /// Paths and texts of files.
-type Files = &'static [(&'static str, &'static str)];
+pub(crate) type Files = &'static [(&'static str, &'static str)];
 
 /// The home folder, the variables, the files, the chosen profile, and what is told of its credential.
-type Program = (
+pub(crate) type Program = (
     Option<&'static str>,
     Variables,
     Files,
@@ -466,7 +466,7 @@ fn told_of(rt: &impl Abort, alloc: Global, answer: Polled<Option<SessionCredenti
 }
 
 /// An environment with this home folder and these variables.
-fn environment(rt: &impl Abort, alloc: Global, program: &Program) -> OsEnv {
+pub(crate) fn environment(rt: &impl Abort, alloc: Global, program: &Program) -> OsEnv {
     let list = variables(rt, alloc, program.1);
     let home = match program.0 {
         Some(home) => Some(text_of(rt, alloc, home.as_bytes())),
