@@ -1,7 +1,7 @@
 -- What the calls answer: a text, or the first cause why there is none.
 use Rattle.std.specs.Prelude.{◌≡◌, ◌⊎◌, ℕ, ℤ, List, Result, Ok, Err}
 use Rattle.sign_base.specs.declared.head.Head.{Head}
-use Rattle.sigv4_core.specs.SignedHead.{signing_of}
+use Rattle.sigv4_core.specs.SignedHead.{signing_of, signing_with}
 use Rattle.sigv4_core.specs.declared.sig_error.SigError.{SigError}
 use Rattle.sigv4_presign.specs.CheckedLink.{checked}
 use Rattle.sigv4_presign.specs.PresignedLink.{presigning_of}
@@ -11,6 +11,8 @@ use Rattle.sigv4_presign.specs.declared.presign_error.PresignError.{PresignError
 use Rattle.domreth_sign.specs.AddedLines.{added_lines}
 use Rattle.domreth_sign.specs.Asked.{◌>>=◌, payload_given, asked_of}
 use Rattle.domreth_sign.specs.Causes.{of_signing, of_presigning}
+use Rattle.domreth_sign.specs.DerivedKeys.{asked_under, key_given}
+use Rattle.domreth_sign.specs.declared.given.GivenDerived.{GivenDerived}
 use Rattle.domreth_sign.specs.declared.given.GivenHead.{GivenHead}
 use Rattle.domreth_sign.specs.declared.given.GivenKey.{GivenKey}
 use Rattle.domreth_sign.specs.declared.refusal.Refusal.{Refusal}
@@ -32,6 +34,14 @@ signed_lines head key word second = do
   payload ← payload_given word
   asked ← asked_of head key second
   by_signing asked.head (signing_of asked.credential asked.scope payload asked.moment asked.head)
+
+-- and the lines that sign it under a derived key
+abbrev pub signed_lines_with : GivenHead → GivenDerived → List ℕ → ℤ → Result (List ℕ) Refusal
+signed_lines_with head derived word second = do
+  payload ← payload_given word
+  asked ← asked_under head derived second
+  by_signing asked.head
+      (signing_with (key_given derived asked.scope asked.moment) payload asked.moment asked.head)
 
 -- a link, or why it is not made
 abbrev pub by_presigning : Result Head PresignError → Result (List ℕ) Refusal

@@ -42,10 +42,9 @@ credential_given key =
     (record { access = key.access.now; secret = key.secret.now; expires = None }) refusal.Key
 
 -- the region and the service
-abbrev pub scope_given : GivenKey → Result Scope Refusal
-scope_given key =
-    passing (is_scope key.region.now key.service.now)
-    (record { region = key.region.now; service = key.service.now }) refusal.Scope
+abbrev pub scope_given : List ℕ → List ℕ → Result Scope Refusal
+scope_given region service =
+    passing (is_scope region service) (record { region = region; service = service }) refusal.Scope
 
 -- the payload that a word names
 abbrev pub payload_given : List ℕ → Result (List ℕ) Refusal
@@ -57,5 +56,5 @@ asked_of head key second = do
   moment ← moment_given second
   version ← version_given head.version
   credential ← credential_given key
-  scope ← scope_given key
+  scope ← scope_given key.region.now key.service.now
   Ok (record { moment = moment; credential = credential; scope = scope; head = head_given head version })

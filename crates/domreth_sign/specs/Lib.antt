@@ -1,6 +1,9 @@
 pub mod Causes
 pub mod Given
 pub mod Asked
+pub mod DerivedKeys
 pub mod AddedLines
 pub mod Answers
+pub use Rattle.sign_base.specs.Moment
+pub use Rattle.sigv4_core.specs.Signature
 pub use Rattle.sigv4_presign.specs.CheckedLink

@@ -37,7 +37,7 @@ impl Asked {
         let moment = moment_given(second)?;
         let version = version_given(head.version)?;
         let credential = credential_given(alloc, key)?;
-        let scope = scope_given(alloc, key)?;
+        let scope = scope_given(alloc, key.region, key.service)?;
         Ok(Asked {
             moment,
             credential,
@@ -48,19 +48,21 @@ impl Asked {
 }
 
 /// The moment so many seconds after the start of 1970.
-fn moment_given(second: i64) -> Result<Timestamp, Refusal>
+pub(crate) fn moment_given(second: i64) -> Result<Timestamp, Refusal>
     ensures { result ≡ moment_given second }
 {
     Timestamp::from_nanos(i128::from(second) * NANOS_OF_SECOND).ok_or(Refusal::Second)
 }
 
-fn version_given(number: u8) -> Result<Version, Refusal>
+/// The version of HTTP with this number.
+pub(crate) fn version_given(number: u8) -> Result<Version, Refusal>
     ensures { result ≡ version_given number }
 {
     version_numbered(number).ok_or(Refusal::Version)
 }
 
-fn credential_given(alloc: Global, key: &GivenKey<'_>) -> Result<SigCredential, Refusal>
+/// The access key and its secret.
+pub(crate) fn credential_given(alloc: Global, key: &GivenKey<'_>) -> Result<SigCredential, Refusal>
     ensures { Answers (λ credential. credential) (credential_given key.now) result }
 {
     match SigCredential::new(alloc, key.access, key.secret, None) {
@@ -69,10 +71,11 @@ fn credential_given(alloc: Global, key: &GivenKey<'_>) -> Result<SigCredential, 
     }
 }
 
-fn scope_given(alloc: Global, key: &GivenKey<'_>) -> Result<SigScope, Refusal>
-    ensures { Answers (λ scope. scope) (scope_given key.now) result }
+/// The region and the service.
+pub(crate) fn scope_given(alloc: Global, region: &[u8], service: &[u8]) -> Result<SigScope, Refusal>
+    ensures { Answers (λ scope. scope) (scope_given region.now service.now) result }
 {
-    match SigScope::new(alloc, key.region, key.service) {
+    match SigScope::new(alloc, region, service) {
         Ok(scope) => Ok(scope),
         Err(error) => Err(refused(error, Refusal::Scope)),
     }

@@ -29,3 +29,14 @@ pub struct GivenKey<'a> {
     pub region: &'a [u8],
     pub service: &'a [u8],
 }
+
+/// A signing key that was derived before, with the access key, the region and the service that it is for.
+#[repr(C)]
+#[derive(Drop)]
+pub struct GivenDerived<'a> {
+    pub access: &'a [u8],
+    /// 32 bytes. Who has them can sign for that day, region and service.
+    pub key: &'a [u8],
+    pub region: &'a [u8],
+    pub service: &'a [u8],
+}
