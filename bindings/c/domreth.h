@@ -10,7 +10,8 @@
  * Threads. Calls may run side by side. No call from a signal handler, and none from the forked child of a process
  * with threads. malloc, realloc and free are of one allocator, and no call aborts.
  *
- * Secrets. What a call copies of a secret it frees, and does not wipe. */
+ * Secrets. What a call copies of a secret it frees, and does not wipe. A derived key that is handed over is the caller's,
+ * and a secret, too: keep it out of logs, and wipe it once its day is over. */
 #ifndef DOMRETH_H
 #define DOMRETH_H
 
@@ -37,7 +38,8 @@ enum {
     DOMRETH_PAYLOAD = 10, /* the payload is neither UNSIGNED-PAYLOAD nor 64 digits from 0-9a-f */
     DOMRETH_SECOND = 11,  /* no moment lies so many seconds after the start of 1970: the last is at the end of 9999 */
     DOMRETH_VERSION = 12, /* no version of HTTP has this number */
-    DOMRETH_KEY = 13,     /* the access key is empty or has a byte other than 0x21 to 0x7e, or the secret is empty */
+    DOMRETH_KEY = 13,     /* the access key is empty or has a byte other than 0x21 to 0x7e, or the secret is empty, or the
+                             derived key has not 32 bytes */
     DOMRETH_SCOPE = 14,   /* the region or the service is empty, or has a byte other than a-z, 0-9 and - */
 
     /* The head is not signed, or its link not made. */
@@ -96,6 +98,26 @@ struct domreth_key {
  * `x-amz-content-sha256` with the payload. */
 uint8_t domreth_sign(const struct domreth_head *head, const struct domreth_key *key, const uint8_t *payload,
                      size_t payload_len, int64_t second, uint8_t *output, size_t output_len, size_t *needed);
+
+/* The signing key that was derived of a secret for one day in UTC, one region and one service, with the access key that
+ * stands before that secret. */
+struct domreth_derived_key {
+    struct domreth_bytes access, key, region, service;
+};
+
+/* Derives that key for the day of the moment. The text is its DOMRETH_KEY_BYTES bytes, whichever these are: who has them
+ * can sign for that day, region and service, and for nothing else. The status is never DOMRETH_NO_ROOM where there is
+ * room for so many. */
+enum { DOMRETH_KEY_BYTES = 32 };
+uint8_t domreth_derive_key(const struct domreth_key *key, int64_t second, uint8_t *output, size_t output_len,
+                           size_t *needed);
+
+/* Does what domreth_sign does, under a derived key: the text is the same where the key was derived for the moment's day.
+ * Whether it was is not asked, and no server accepts what is signed on another day: derive a key a day. The order of
+ * causes is that of domreth_sign. */
+uint8_t domreth_sign_with(const struct domreth_head *head, const struct domreth_derived_key *derived,
+                          const uint8_t *payload, size_t payload_len, int64_t second, uint8_t *output,
+                          size_t output_len, size_t *needed);
 
 /* Makes a link, which is the text: by it whoever has it can send this request for so many seconds from the moment on.
  * Of the headers the host alone is signed. The token of a session is in the query before, as X-Amz-Security-Token. */

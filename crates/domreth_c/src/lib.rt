@@ -5,7 +5,8 @@
 #![tactic(auto)]
 
 ghost use Rattle.signctl_core.specs.Commands.{command_by_word};
-ghost use Rattle.domreth_sign.specs.Answers.{signed_lines, link_text, link_check};
+ghost use Rattle.domreth_sign.specs.Answers.{signed_lines, signed_lines_with, link_text, link_check};
+ghost use Rattle.domreth_sign.specs.DerivedKeys.{derived_bytes};
 ghost use Rattle.domreth_c.specs.Call.{IsCall, IsTextCall, IsCheck};
 
 mod desk;
@@ -13,7 +14,10 @@ mod refusal_status;
 mod room;
 
 use domreth_run::{Answer, HeaderSeeds, NoAnswer};
-use domreth_sign::{GivenHead, GivenKey, check_link, make_link, sign_lines};
+use domreth_sign::{
+    GivenDerived, GivenHead, GivenKey, check_link, derive_key, make_link, sign_lines,
+    sign_lines_with,
+};
 use refusal_status::refusal_status;
 use room::{hand_over, status_of};
 use std::alloc::Global;
@@ -87,6 +91,54 @@ pub extern "C" fn domreth_sign(
         (record { old = output.old; new = output.new; needed = needed.new }) }
 {
     match sign_lines(alloc, head, key, payload, second) {
+        Ok(lines) => hand_over(lines.as_slice(), 0, output, needed),
+        Err(why) => {
+            *needed = 0;
+            refusal_status(why)
+        }
+    }
+}
+
+/// Derives the signing key of the access key's secret for the moment's day, the region and the service, and
+/// hands its 32 bytes over, as `domreth_sign` hands its lines over.
+///
+/// Who has them can sign as who has the secret, for that day, region and service.
+#[unsafe(no_mangle)]
+pub extern "C" fn domreth_derive_key(
+    alloc: Global,
+    key: &GivenKey<'_>,
+    second: i64,
+    output: &mut [u8],
+    needed: &mut usize,
+) -> u8
+    ensures { IsTextCall (derived_bytes key.now second) result
+        (record { old = output.old; new = output.new; needed = needed.new }) }
+{
+    match derive_key(alloc, key, second) {
+        Ok(bytes) => hand_over(bytes.as_slice(), 0, output, needed),
+        Err(why) => {
+            *needed = 0;
+            refusal_status(why)
+        }
+    }
+}
+
+/// Does what `domreth_sign` does, under a key that was derived for the moment's day. Whether it was is not
+/// asked.
+#[unsafe(no_mangle)]
+pub extern "C" fn domreth_sign_with(
+    alloc: Global,
+    head: &GivenHead<'_>,
+    derived: &GivenDerived<'_>,
+    payload: &[u8],
+    second: i64,
+    output: &mut [u8],
+    needed: &mut usize,
+) -> u8
+    ensures { IsTextCall (signed_lines_with head.now derived.now payload.now second) result
+        (record { old = output.old; new = output.new; needed = needed.new }) }
+{
+    match sign_lines_with(alloc, head, derived, payload, second) {
         Ok(lines) => hand_over(lines.as_slice(), 0, output, needed),
         Err(why) => {
             *needed = 0;
