@@ -9,6 +9,14 @@
 >>> link = presign("GET", url, keys, "us-east-1", "s3", expires=3600)
 >>> verify("GET", link, keys, "us-east-1", "s3")
 
+Who signs many requests derives a key once a day, and hands the secret to no other call:
+
+>>> from domreth import derive_key
+>>> key = derive_key(keys, "us-east-1", "s3", now=1369353600)
+>>> added = key.sign("GET", url, {"range": "bytes=0-9"}, now=1369353601)
+>>> added == sign("GET", url, {"range": "bytes=0-9"}, keys, "us-east-1", "s3", now=1369353601)
+True
+
 A `Desk` says who asks for a credential that expires, who waits, and who is next:
 
 >>> from domreth import Desk, Moment, Ticket
@@ -41,8 +49,8 @@ from typing import NamedTuple, Optional, Union
 from urllib.parse import quote, unquote
 
 __all__ = [
-    "BadLine", "Cause", "Credentials", "Desk", "DeskError", "DomrethError", "Kind", "Moment", "Reply", "SignError", "Status",
-    "Ticket", "presign", "run", "sign", "verify",
+    "BadLine", "Cause", "Credentials", "DerivedKey", "Desk", "DeskError", "DomrethError", "Kind", "Moment", "Reply", "SignError",
+    "Status", "Ticket", "derive_key", "presign", "run", "sign", "verify",
 ]
 
 Headers = Union[Mapping[str, Union[str, bytes]], Iterable[tuple[str, Union[str, bytes]]]]
@@ -70,6 +78,10 @@ class _Key(ctypes.Structure):
     _fields_ = [("access", _Bytes), ("secret", _Bytes), ("region", _Bytes), ("service", _Bytes)]
 
 
+class _DerivedKey(ctypes.Structure):
+    _fields_ = [("access", _Bytes), ("key", _Bytes), ("region", _Bytes), ("service", _Bytes)]
+
+
 class _Moment(ctypes.Structure):
     _fields_ = [("second", ctypes.c_int64), ("nanos", ctypes.c_int32)]
 
@@ -94,6 +106,8 @@ _room = [ctypes.c_char_p, ctypes.c_size_t, ctypes.POINTER(ctypes.c_size_t)]
 _asked = [ctypes.POINTER(_Head), ctypes.POINTER(_Key)]
 _lib.domreth_run.argtypes = [*_text, *_text, *_room]
 _lib.domreth_sign.argtypes = [*_asked, *_text, ctypes.c_int64, *_room]
+_lib.domreth_derive_key.argtypes = [ctypes.POINTER(_Key), ctypes.c_int64, *_room]
+_lib.domreth_sign_with.argtypes = [ctypes.POINTER(_Head), ctypes.POINTER(_DerivedKey), *_text, ctypes.c_int64, *_room]
 _lib.domreth_presign.argtypes = [*_asked, ctypes.c_uint32, ctypes.c_int64, *_room]
 _lib.domreth_verify.argtypes = [*_asked, ctypes.c_int64]
 _desk = ctypes.POINTER(_Desk)
@@ -115,8 +129,9 @@ _lib.domreth_desk_cached.argtypes = [_desk, ctypes.c_uint32, ctypes.POINTER(_Tic
 _lib.domreth_desk_close.argtypes = [_desk]
 _lib.domreth_desk_close.restype = None
 for _name in (
-    "run", "sign", "presign", "verify", "desk_open", "desk_add_cache", "desk_add_rule", "desk_add_handle", "desk_begin", "desk_poll",
-    "desk_found", "desk_missing", "desk_failed", "desk_accept", "desk_reject", "desk_cancel", "desk_cached",
+    "run", "sign", "derive_key", "sign_with", "presign", "verify", "desk_open", "desk_add_cache", "desk_add_rule",
+    "desk_add_handle", "desk_begin", "desk_poll", "desk_found", "desk_missing", "desk_failed", "desk_accept", "desk_reject",
+    "desk_cancel", "desk_cached",
 ):
     getattr(_lib, f"domreth_{_name}").restype = ctypes.c_uint8
 
@@ -200,6 +215,55 @@ class Credentials(NamedTuple):
     __str__ = __repr__
 
 
+class DerivedKey(NamedTuple):
+    """The signing key of an access key for one day in UTC, one region and one service, and the token of its session where it
+    has one. Its text shows nothing of them.
+
+    `key` is 32 bytes, which may cross to a machine that has no secret: who has them can sign for that day, region and
+    service, and for nothing else. `day` is the moment at which it was derived, or any other one of that day, in seconds since
+    1970.
+    """
+
+    access_key: str
+    key: bytes
+    region: str
+    service: str
+    day: float
+    token: Optional[str] = None
+
+    def __repr__(self) -> str:
+        return "DerivedKey(***)"
+
+    __str__ = __repr__
+
+    def is_for_day_of(self, now: float) -> bool:
+        """Whether the moment is of the key's day. Where it is not, derive another key."""
+        return _second(self.day) // 86400 == _second(now) // 86400
+
+    def sign(
+        self,
+        method: str,
+        url: str,
+        headers: Headers,
+        *,
+        payload: Optional[str] = None,
+        now: Optional[float] = None,
+    ) -> dict[str, str]:
+        """The headers that the function `sign` adds to a request under the secret.
+
+        Raises SignError, for MOMENT where the moment is of another day than the key, and else with the first cause that
+        holds; and MemoryError where an allocation fails.
+        """
+        second = _second(now)
+        if not self.is_for_day_of(second):
+            raise SignError(Status.MOMENT)
+        key = _DerivedKey(_bytes(self.access_key), _bytes(self.key), _bytes(self.region), _bytes(self.service))
+        return _added(
+            method, url, headers, self.token, self.service, payload,
+            lambda head, word, *room: _lib.domreth_sign_with(head, key, word, len(word), second, *room),
+        )
+
+
 def run(command: str, lines: bytes) -> bytes:
     """What `signctl` writes to these lines under the command `script`, `hmac`, `view`, `grant`, `sigv4` or `audit`.
 
@@ -239,14 +303,28 @@ def sign(
 
     Raises SignError with the first cause that holds, and MemoryError where an allocation fails.
     """
-    word = "UNSIGNED-PAYLOAD" if payload is None else payload
-    added = {"x-amz-content-sha256": word} if service == "s3" else {}
-    if credentials.token is not None:
-        added["x-amz-security-token"] = credentials.token
-    head = _head(method, url, [*(pair for pair in _pairs(headers) if pair[0].lower() not in added), *added.items()])
-    key, second, word = _key(credentials, region, service), _second(now), word.encode()
-    lines = _signed(lambda *room: _lib.domreth_sign(head, key, word, len(word), second, *room))
-    return {**added, **dict(line.split(": ", 1) for line in lines.split("\r\n") if line)}
+    key, second = _key(credentials, region, service), _second(now)
+    return _added(
+        method, url, headers, credentials.token, service, payload,
+        lambda head, word, *room: _lib.domreth_sign(head, key, word, len(word), second, *room),
+    )
+
+
+def derive_key(credentials: Credentials, region: str, service: str, *, now: Optional[float] = None) -> DerivedKey:
+    """The signing key of these credentials for the day of the moment in UTC, which is by default the clock's.
+
+    Raises SignError with the first cause that holds of SECOND, KEY, SCOPE and MOMENT, and MemoryError where an allocation
+    fails.
+
+    >>> keys = Credentials("AKIDEXAMPLE", "wJalrXUtnFEMI/K7MDENG+bPxRfiCYEXAMPLEKEY")
+    >>> derive_key(keys, "us-east-1", "iam", now=1440938160).key.hex()
+    'c4afb1cc5771d871763a393e44b703571b55cc28424d1a5e86da6ed3c154a4b9'
+    """
+    key, second = _key(credentials, region, service), _second(now)
+    status, bytes_of_key = _answer(32, lambda *room: _lib.domreth_derive_key(key, second, *room))
+    if status != Status.DONE:
+        _refuse(status)
+    return DerivedKey(credentials.access_key, bytes_of_key, region, service, second, credentials.token)
 
 
 def presign(
@@ -461,6 +539,25 @@ def _signed(call: Callable[..., int]) -> str:
     if status != Status.DONE:
         _refuse(status)
     return text.decode()
+
+
+def _added(
+    method: str,
+    url: str,
+    headers: Headers,
+    token: Optional[str],
+    service: str,
+    payload: Optional[str],
+    call: Callable[..., int],
+) -> dict[str, str]:
+    """The headers that a call adds to a head, which has the token of a session, and for S3 the word of its content."""
+    word = "UNSIGNED-PAYLOAD" if payload is None else payload
+    added = {"x-amz-content-sha256": word} if service == "s3" else {}
+    if token is not None:
+        added["x-amz-security-token"] = token
+    head = _head(method, url, [*(pair for pair in _pairs(headers) if pair[0].lower() not in added), *added.items()])
+    lines = _signed(lambda *room: call(head, word.encode(), *room))
+    return {**added, **dict(line.split(": ", 1) for line in lines.split("\r\n") if line)}
 
 
 def _refuse(status: int) -> None:

@@ -9,7 +9,7 @@ import unittest
 import domreth
 import second_sigv4
 from domreth import BadLine, Cause, Credentials, Desk, DeskError, DomrethError, Kind, Moment, Reply, SignError, Status, Ticket
-from domreth import presign, run, sign, verify
+from domreth import DerivedKey, derive_key, presign, run, sign, verify
 
 ABC = b"ba7816bf8f01cfea414140de5dae2223b00361a396177a9cb410ff61f20015ad\n"
 EMPTY = "e3b0c44298fc1c149afbf4c8996fb92427ae41e4649b934ca495991b7852b855"
@@ -79,6 +79,8 @@ class Signing(unittest.TestCase):
             expected = second_sigv4.added_headers("GET", url, [*headers, *own.items()], keys[0], keys[1], "us-east-1", service, word, date)
             added = sign("GET", url, headers, keys, "us-east-1", service, payload=payload, now=now)
             self.assertEqual(added, {**own, **dict(expected)}, place)
+            key = derive_key(keys, "us-east-1", service, now=now // 86400 * 86400 + source.randrange(86400))
+            self.assertEqual(key.sign("GET", url, headers, payload=payload, now=now), added, place)
             expires = source.randint(1, 604800)
             bare = keys._replace(token=None)
             link = presign("PUT", url, bare, "us-east-1", service, expires=expires, now=now)
@@ -96,6 +98,31 @@ class Signing(unittest.TestCase):
             presign("GET", tokened, keys, "us-east-1", "s3")
         self.assertIs(refused.exception.status, Status.ALREADY)
 
+    def test_derived_key(self):
+        # "Deriving a signing key".
+        example = Credentials("AKIDEXAMPLE", "wJalrXUtnFEMI/K7MDENG+bPxRfiCYEXAMPLEKEY")
+        for now in 1440892800, 1440979199.9:
+            key = derive_key(example, "us-east-1", "iam", now=now)
+            self.assertEqual(key.key.hex(), "c4afb1cc5771d871763a393e44b703571b55cc28424d1a5e86da6ed3c154a4b9")
+        key = derive_key(KEYS, "us-east-1", "s3", now=DATE + 5)
+        self.assertEqual(key, DerivedKey(KEYS.access_key, key.key, "us-east-1", "s3", DATE + 5))
+        for status, changed, asked in (
+            (Status.MOMENT, key, {"now": DATE - 0.1}), (Status.MOMENT, key, {"now": DATE + 86400}),
+            (Status.KEY, key._replace(key=key.key[:-1]), {}), (Status.KEY, key._replace(key=key.key + b"0"), {}),
+            (Status.KEY, key._replace(access_key=""), {}), (Status.SCOPE, key._replace(region="US"), {}),
+            (Status.PAYLOAD, key, {"payload": "0"}), (Status.AUTHORITY, key, {"url": "/a"}),
+        ):
+            with self.assertRaises(SignError) as refused:
+                changed.sign(**{"method": "GET", "url": URL, "headers": {}, "now": DATE, **asked})
+            self.assertIs(refused.exception.status, status)
+        for status, keys, region, now in (
+            (Status.SECOND, KEYS, "us-east-1", 2**62), (Status.KEY, KEYS._replace(secret_key=""), "us-east-1", DATE),
+            (Status.SCOPE, KEYS, "US", DATE), (Status.MOMENT, KEYS, "us-east-1", -62167219201),
+        ):
+            with self.assertRaises(SignError) as refused:
+                derive_key(keys, region, "s3", now=now)
+            self.assertIs(refused.exception.status, status)
+
     def test_causes(self):
         for status, change in (
             (Status.PAYLOAD, {"payload": "0"}), (Status.SECOND, {"now": 2**62}), (Status.KEY, {"credentials": KEYS._replace(secret_key="")}),
@@ -112,8 +139,10 @@ class Signing(unittest.TestCase):
             self.assertIs(refused.exception.status, Status.EXPIRES)
 
     def test_no_secret_is_shown(self):
-        for text in repr(KEYS), str(KEYS), f"{KEYS}", repr([KEYS]):
+        key = derive_key(KEYS, "us-east-1", "s3", now=DATE)
+        for text in repr(KEYS), str(KEYS), f"{KEYS}", repr([KEYS]), repr(key), str(key), f"{key}", repr([key]):
             self.assertNotIn("EXAMPLE", text)
+            self.assertNotIn("us-east-1", text)
 
 
 NOW = Moment(100)

@@ -66,6 +66,15 @@ pub(crate) struct Key<'a> {
     pub(crate) service: Bytes<'a>,
 }
 
+/// A signing key that was derived before, and what it is for.
+#[repr(C)]
+pub(crate) struct DerivedKey<'a> {
+    pub(crate) access: Bytes<'a>,
+    pub(crate) key: Bytes<'a>,
+    pub(crate) region: Bytes<'a>,
+    pub(crate) service: Bytes<'a>,
+}
+
 // No pointer is null. Each is to as many bytes, or headers, as the length behind it, which are lent for the call; `output`
 // is to so many bytes that nothing else reads or writes meanwhile, and so is `needed`.
 unsafe extern "C" {
@@ -82,6 +91,25 @@ unsafe extern "C" {
     pub(crate) fn domreth_sign(
         head: *const Head<'_>,
         key: *const Key<'_>,
+        payload: *const u8,
+        payload_len: usize,
+        second: i64,
+        output: *mut u8,
+        output_len: usize,
+        needed: *mut usize,
+    ) -> u8;
+
+    pub(crate) fn domreth_derive_key(
+        key: *const Key<'_>,
+        second: i64,
+        output: *mut u8,
+        output_len: usize,
+        needed: *mut usize,
+    ) -> u8;
+
+    pub(crate) fn domreth_sign_with(
+        head: *const Head<'_>,
+        derived: *const DerivedKey<'_>,
         payload: *const u8,
         payload_len: usize,
         second: i64,

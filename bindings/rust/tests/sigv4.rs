@@ -83,6 +83,45 @@ fn the_published_link_is_made_and_valid_for_its_time() {
 }
 
 #[test]
+fn a_derived_key_signs_for_its_day() {
+    // AWS: "Deriving a signing key"
+    let iam = RequestSigner::new("iam", "us-east-1");
+    let example = Credential::new("AKIDEXAMPLE", "wJalrXUtnFEMI/K7MDENG+bPxRfiCYEXAMPLEKEY");
+    let midnight = UNIX_EPOCH + Duration::from_secs(1_440_892_800);
+    let nanosecond = Duration::from_nanos(1);
+    for now in [midnight, midnight + DAY - nanosecond] {
+        let key = iam.derive_key(&example, now).unwrap();
+        let digits: String = key.as_bytes().iter().map(|byte| format!("{byte:02x}")).collect();
+        assert_eq!(digits, "c4afb1cc5771d871763a393e44b703571b55cc28424d1a5e86da6ed3c154a4b9");
+    }
+
+    let headers: [(&str, &[u8]); 1] = [("range", b"bytes=0-9")];
+    let (head, unsigned) = (get(URI, &headers), Payload::Unsigned);
+    for credential in [credential(), credential().with_session_token("a/b=")] {
+        let key = s3().derive_key(&credential, date()).unwrap();
+        for now in [date(), date() + DAY - nanosecond] {
+            assert!(key.is_for_day_of(now));
+            assert_eq!(key.sign(&head, unsigned, now), s3().sign(&head, &credential, unsigned, now));
+        }
+        for now in [date() - nanosecond, date() + DAY] {
+            assert!(!key.is_for_day_of(now));
+            assert_eq!(key.sign(&head, unsigned, now), Err(SignError::Moment));
+        }
+        assert_eq!(key.sign(&get("/a", &[]), unsigned, date()), Err(SignError::Authority));
+        assert_eq!(key.sign(&head, Payload::Sha256(""), date()), Err(SignError::Payload));
+    }
+
+    let derived = |signer: RequestSigner, credential: &Credential, now| signer.derive_key(credential, now).map(|_| ());
+    let year_0 = UNIX_EPOCH - Duration::from_secs(62_167_219_200);
+    assert_eq!(derived(s3(), &credential(), year_0), Ok(()));
+    assert_eq!(derived(s3(), &credential(), year_0 - nanosecond), Err(SignError::Moment));
+    assert_eq!(derived(s3(), &Credential::new("a", ""), date()), Err(SignError::Key));
+    assert_eq!(derived(RequestSigner::new("S3", "us-east-1"), &credential(), date()), Err(SignError::Scope));
+    let late = UNIX_EPOCH + Duration::from_secs(253_402_207_201);
+    assert_eq!(derived(s3(), &credential(), late), Err(SignError::Second));
+}
+
+#[test]
 fn each_cause_is_named() {
     let signed = |signer: RequestSigner, head: &Head<'_>, credential: &Credential, payload, now| {
         signer.sign(head, credential, payload, now).map(|_| ())
@@ -123,4 +162,5 @@ fn each_cause_is_named() {
 fn no_secret_is_shown() {
     assert_eq!(format!("{:#?}", credential().with_session_token("t")), "Credential(***)");
     assert_eq!(format!("{:?}", get(URI, &[])), "Head(***)");
+    assert_eq!(format!("{:#?}", s3().derive_key(&credential(), date()).unwrap()), "DerivedKey(***)");
 }

@@ -22,7 +22,7 @@ pub enum SignError {
     Authority,
     /// The path has a `%`, and the service is not `s3`.
     Path,
-    /// The moment lies before the year 0.
+    /// The moment lies before the year 0, or on another day than the derived key's.
     Moment,
     /// The query has a key of a link already, or the token of a session.
     Already,

@@ -1,5 +1,5 @@
-//! AWS Signature Version 4: heads that are signed in their headers, and links by which whoever has one can send a
-//! request for a while.
+//! AWS Signature Version 4: heads that are signed in their headers, under a secret or a key that is derived of it once a
+//! day, and links by which whoever has one can send a request for a while.
 //!
 //! ```
 //! use domreth::sigv4::{Credential, Head, RequestSigner, SignError, Version};
@@ -17,12 +17,14 @@
 //! # Ok::<(), SignError>(())
 //! ```
 mod credential;
+mod derived_key;
 mod error;
 mod head;
 mod signer;
 mod token;
 
 pub use credential::Credential;
+pub use derived_key::DerivedKey;
 pub use error::SignError;
 pub use head::{Head, Payload, Version};
 pub use signer::RequestSigner;

@@ -1,5 +1,5 @@
 //! The calls.
-use super::{Credential, Head, Payload, SignError, token};
+use super::{Credential, DerivedKey, Head, Payload, SignError, token};
 use crate::ffi;
 use crate::room::text_of;
 use std::fmt;
@@ -58,32 +58,49 @@ impl RequestSigner {
         payload: Payload<'_>,
         now: SystemTime,
     ) -> Result<Vec<(String, String)>, SignError> {
-        let Some(token) = credential.session_token.as_deref() else {
-            return self.signed(head, credential, payload, now);
-        };
-        let headers = token::with_header(head.headers, token);
-        let mut added = vec![(token::HEADER.to_owned(), token.to_owned())];
-        added.extend(self.signed(&Head { headers: &headers, ..*head }, credential, payload, now)?);
-        Ok(added)
+        let (key, payload, second) = (self.key(credential), payload.as_str(), seconds_of(now));
+        // SAFETY: the declaration fits the export; what the pointers are to is lent for the call, the output and
+        // `needed` to it alone; and the export asks nothing of its values.
+        added(head, credential.session_token.as_deref(), |head, output, needed| unsafe {
+            let (at, room) = (output.as_mut_ptr(), output.len());
+            ffi::domreth_sign(head, &key, payload.as_ptr(), payload.len(), second, at, room, needed)
+        })
     }
 
-    fn signed(
-        &self,
-        head: &Head<'_>,
-        credential: &Credential,
-        payload: Payload<'_>,
-        now: SystemTime,
-    ) -> Result<Vec<(String, String)>, SignError> {
-        let (key, payload, second) = (self.key(credential), payload.as_str(), seconds_of(now));
-        let lines = head.lend(|head| {
-            // SAFETY: the declaration fits the export; what the pointers are to is lent for the call, the output and
-            // `needed` to it alone; and the export asks nothing of its values.
-            text(|output, needed| unsafe {
-                let (at, room) = (output.as_mut_ptr(), output.len());
-                ffi::domreth_sign(head, &key, payload.as_ptr(), payload.len(), second, at, room, needed)
-            })
-        })?;
-        Ok(lines.split("\r\n").filter_map(|line| line.split_once(": ")).map(owned).collect())
+    /// The signing key of this credential for the day of the moment in UTC. Who signs many requests derives it once a
+    /// day, and hands the secret to no other call.
+    ///
+    /// # Errors
+    ///
+    /// The first cause that holds of `Second`, `Key`, `Scope` and `Moment`, or that memory ran out.
+    ///
+    /// ```
+    /// use domreth::sigv4::{Credential, Head, Payload, RequestSigner, SignError, Version};
+    /// use std::time::{Duration, UNIX_EPOCH};
+    ///
+    /// let signer = RequestSigner::new("service", "us-east-1");
+    /// let credential = Credential::new("AKIDEXAMPLE", "wJalrXUtnFEMI/K7MDENG+bPxRfiCYEXAMPLEKEY");
+    /// let now = UNIX_EPOCH + Duration::from_secs(1_440_938_160);
+    /// let key = signer.derive_key(&credential, now)?;
+    /// let head = Head { method: "GET", uri: "https://example.amazonaws.com/", version: Version::V11, headers: &[] };
+    /// let added = key.sign(&head, Payload::Unsigned, now)?;
+    /// assert_eq!(added, signer.sign(&head, &credential, Payload::Unsigned, now)?);
+    /// # Ok::<(), SignError>(())
+    /// ```
+    pub fn derive_key(&self, credential: &Credential, now: SystemTime) -> Result<DerivedKey, SignError> {
+        let (mut bytes, mut needed) = ([0; DerivedKey::LEN], 0);
+        let key = self.key(credential);
+        // SAFETY: as in `sign`.
+        let status =
+            unsafe { ffi::domreth_derive_key(&key, seconds_of(now), bytes.as_mut_ptr(), bytes.len(), &mut needed) };
+        if status != ffi::DONE {
+            return Err(SignError::of_status(status));
+        }
+        let key = DerivedKey::from_bytes(self.clone(), credential.access_key_id.as_str(), bytes, now);
+        Ok(match &credential.session_token {
+            Some(token) => key.with_session_token(token.as_str()),
+            None => key,
+        })
     }
 
     /// The link by which whoever has it can send this request from the whole second at or before `now` on, for the whole
@@ -107,7 +124,7 @@ impl RequestSigner {
         // More than a number of the library's has room for is more than seven days.
         let expires = u32::try_from(expires_in.as_secs()).unwrap_or(u32::MAX);
         head.lend(|head| {
-            // SAFETY: as in `signed`.
+            // SAFETY: as in `sign`.
             text(|output, needed| unsafe {
                 ffi::domreth_presign(head, &key, expires, second, output.as_mut_ptr(), output.len(), needed)
             })
@@ -130,6 +147,11 @@ impl RequestSigner {
         }
     }
 
+    /// The region and the service.
+    pub(super) fn scope(&self) -> (&str, &str) {
+        (&self.region, &self.service)
+    }
+
     fn key<'a>(&'a self, credential: &'a Credential) -> ffi::Key<'a> {
         ffi::Key {
             access: credential.access_key_id.as_str().into(),
@@ -146,6 +168,30 @@ impl fmt::Display for RequestSigner {
     }
 }
 
+/// The headers that a call adds to the head, which has the token of a session first, where there is one.
+pub(super) fn added(
+    head: &Head<'_>,
+    token: Option<&str>,
+    call: impl FnMut(&ffi::Head<'_>, &mut [u8], &mut usize) -> u8,
+) -> Result<Vec<(String, String)>, SignError> {
+    let Some(token) = token else {
+        return headers(head, call);
+    };
+    let with_token = token::with_header(head.headers, token);
+    let mut added = vec![(token::HEADER.to_owned(), token.to_owned())];
+    added.extend(headers(&Head { headers: &with_token, ..*head }, call)?);
+    Ok(added)
+}
+
+/// The headers in the lines that a call answers.
+fn headers(
+    head: &Head<'_>,
+    mut call: impl FnMut(&ffi::Head<'_>, &mut [u8], &mut usize) -> u8,
+) -> Result<Vec<(String, String)>, SignError> {
+    let lines = head.lend(|head| text(|output, needed| call(head, output, needed)))?;
+    Ok(lines.split("\r\n").filter_map(|line| line.split_once(": ")).map(owned).collect())
+}
+
 fn owned((name, value): (&str, &str)) -> (String, String) {
     (name.to_owned(), value.to_owned())
 }
@@ -159,7 +205,7 @@ fn text(call: impl FnMut(&mut [u8], &mut usize) -> u8) -> Result<String, SignErr
 }
 
 /// The whole seconds from 1970 to the moment, at or before it.
-fn seconds_of(now: SystemTime) -> i64 {
+pub(super) fn seconds_of(now: SystemTime) -> i64 {
     match now.duration_since(UNIX_EPOCH) {
         Ok(since) => i64::try_from(since.as_secs()).unwrap_or(i64::MAX),
         Err(before) => {
