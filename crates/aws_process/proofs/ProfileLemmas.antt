@@ -1,11 +1,11 @@
 -- What follows for a load of a profile's process at each of its steps.
-use Rattle.std.proofs.Common.{◌≡◌, ◌⊎◌, ℕ, List, [], inl, inr, Option, Some, None, Ok, Err, refl, sym, subst, ap, ◌∙◌}
+use Rattle.std.proofs.Common.{◌≡◌, ◌⊎◌, ℕ, List, [], inl, inr, Option, Some, None, Ok, Err, sym, subst, ap, ◌∙◌}
 use Rattle.std.specs.Prelude.{IfSome, MatchOption}
 use Rattle.sign_base.specs.Error.{ErrorParts, new_error}
 use Rattle.sign_base.specs.declared.error_kind.ErrorKind.TheVariants as kind
 use Rattle.credentials.specs.declared.command_execute.CommandOutput.{CommandOutput}
 use Rattle.credentials.specs.declared.polled.Polled.{Polled}
-use Rattle.credentials.specs.declared.polled.Polled.TheVariants.{Pending, Ready, Failed, OutOfMemory}
+use Rattle.credentials.specs.declared.polled.Polled.TheVariants.{Ready, Failed, OutOfMemory}
 use Rattle.aws_credentials.specs.Session.{Session}
 use Rattle.aws_json.specs.Reading.{Reading}
 use Rattle.aws_profiles.specs.Sections.{place_of}

@@ -1,5 +1,5 @@
 //! The provider of what a profile's process prints.
-ghost use Rattle.std.specs.Prelude.{◌≡◌, ◌≢◌, ℕ, List, None, Some, string_bytes};
+ghost use Rattle.std.specs.Prelude.{◌≡◌, ℕ, List, None, Some, string_bytes};
 ghost use Rattle.aws_process.specs.ProfileProcess.{OfOpenCall, ProfileProcessGives, ProfileProcessStarted};
 
 use crate::profile_steps::{at_start, poll_stage};

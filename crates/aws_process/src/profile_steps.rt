@@ -1,7 +1,6 @@
 //! The steps of a load of what a profile's process prints: each goes on with what is open.
-ghost use Rattle.std.specs.Prelude.{◌≡◌, ◌≢◌, ◌⊎◌, ℕ, List, Some, IfOk, IfSome, IfNone, MatchOption};
+ghost use Rattle.std.specs.Prelude.{◌≡◌, ◌≢◌, ◌⊎◌, ℕ, List, Some, IfOk, IfSome, IfNone};
 ghost use Rattle.std.specs.Prelude.{option_map, string_bytes};
-ghost use Rattle.sign_base.specs.Error.{ErrorParts};
 ghost use Rattle.aws_profiles.specs.Reads.{Begun};
 ghost use Rattle.aws_process.specs.CommandLine.{command_in, command_seen};
 ghost use Rattle.aws_process.specs.Process.{Command, ProcessGives};
