@@ -247,6 +247,7 @@ static void derived_keys(void) {
     each_failure_of("sign with", SIGN_WITH, &derived, DOMRETH_DONE);
     size_t whole;
     last.second += 86399;
+    left = -1;
     CHECK(ask(SIGN, &last, first, ROOM, &whole) == DOMRETH_DONE);
     derived.second = last.second;
     gives(SIGN_WITH, &derived, first, whole);
