@@ -49,6 +49,11 @@ fn heads() {
     }
     println!("sign, a head a call         {:>7.2} us", library / 1e3);
     println!("plain Rust that does it     {:>7.2} us, {:.2} of that", plain / 1e3, library / plain);
+    let key = signer.derive_key(&credential, now).expect("a key of that day");
+    let under_key = nanos(CALLS, || {
+        (0..CALLS).for_each(|_| drop(black_box(key.sign(black_box(&head), Payload::Sha256(empty), now))))
+    });
+    println!("sign under a derived key    {:>7.2} us", under_key / 1e3);
     let link = signer.presign(&head, &credential, Duration::from_secs(60), now).expect("it is made");
     let (link, unlinked) = (Head { uri: &link, ..head }, Head { headers: &[], ..head });
     let presign = nanos(CALLS, || {
