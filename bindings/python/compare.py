@@ -47,6 +47,18 @@ def compare(program, command, count, seed):
     return differ
 
 
+def under_derived_key(head, key, word, second):
+    """What is signed under the key that is derived of the secret."""
+    _, derived = domreth._answer(32, lambda *room: domreth._lib.domreth_derive_key(key, second, *room))
+    under = domreth._DerivedKey(key.access, domreth._bytes(derived), key.region, key.service)
+    return domreth._signed(lambda *room: domreth._lib.domreth_sign_with(head, under, word, len(word), second, *room))
+
+
+def field_word(line):
+    """The word of a header of HTTP/1.1, whose value is escaped as a line of `sigv4` has it."""
+    return line.replace(b": ", b":", 1).replace(b"%", b"%25").replace(b" ", b"%20")
+
+
 def without_a_line(words):
     """What the call of a line of `sigv4` answers, in the words of its answer."""
     form, access, secret, region, service, second, *rest = words
@@ -65,8 +77,10 @@ def without_a_line(words):
             return b" ".join([b"done", method, text.encode(), version, *headers])
         word = rest[0]
         text = domreth._signed(lambda *room: domreth._lib.domreth_sign(head, key, word, len(word), int(second), *room))
+        if under_derived_key(head, key, word, int(second)) != text:
+            return b"another text under the derived key"
         kept = [it for it in headers if it.partition(b":")[0].lower() not in (b"authorization", b"x-amz-date")]
-        added = [line.encode().replace(b": ", b":", 1).replace(b" ", b"%20") for line in text.split("\r\n") if line]
+        added = [field_word(line.encode()) for line in text.split("\r\n") if line]
         return b" ".join([b"done", method, uri, version, *kept, *added])
     except domreth.SignError as error:
         return b"refused " + error.status.name.lower().encode()
