@@ -37,7 +37,9 @@ is_mark b = is_single b || is_double_mark b
 -- that byte is escaped
 abbrev pub behind : Quoting → ℕ → Quoting
 behind Bare b =
-    if is_single b then Single else (if is_double b then Double else (if is_backslash b then Escaped else Bare))
+    if is_single b then Single
+    else (if is_double b then Double
+    else (if is_backslash b then Escaped else Bare))
 behind Escaped b = Bare
 behind Single b = if is_single b then Bare else Single
 behind Double b = if is_double b then Bare else (if is_backslash b then DoubleEscaped else Double)

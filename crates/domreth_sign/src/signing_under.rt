@@ -16,9 +16,8 @@ use sigv4_core::{
 };
 use std::alloc::Global;
 
-/// The lines that `sign_lines` adds to the head under the secret that the key was derived of, where it was
-/// derived for the moment's day: what else is so is said there, too. Whether the key is of that day is not
-/// asked.
+/// The lines that `sign_lines` adds to the head under the secret that the key was derived from, where it was
+/// derived for the moment's day; that is not asked. Payload, moment and lines are as there.
 ///
 /// Errors: the first that holds of `Payload`, `Second`, `Version`, `Key`, `Scope`, `Head`, `Authority`,
 /// `Path` and `Moment`; or `OutOfMemory`. `Key`: the access key is none, or the key has not 32 bytes.

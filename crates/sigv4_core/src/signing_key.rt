@@ -60,8 +60,8 @@ impl SigningKey {
         SigningKey::of_date(alloc, credential.access(), scope, now, date, key)
     }
 
-    /// The key for the day of this moment, by its bytes and the access key that it was derived for. Neither is
-    /// judged: a signed head names the access key, so check its form before.
+    /// The key for the day of this moment, by its bytes and the access key that it was derived for. Neither
+    /// is judged: a signed head names the access key, so check its form before.
     ///
     /// Requires a year of four digits.
     pub fn from_bytes(
