@@ -40,6 +40,6 @@ fn made(alloc: Global, asked: &Asked, expires: u32) -> Result<Octets, Refusal>
         scope,
         head,
     } = asked;
-    let Head { uri, .. } = presign(alloc, head, credential, scope, expires, *moment)?;
-    Ok(uri)
+    let link = presign(alloc, head, credential, scope, expires, *moment)?;
+    Ok(link.into_target().0)
 }

@@ -17,13 +17,28 @@ use std::marker::Model;
 /// An error.
 ///
 /// An empty message and an empty context keep no memory, so out of memory is reported without any.
-#[derive(Drop)]
 pub struct Error {
     kind: ErrorKind,
     message: Option<String>,
     context: Option<Vec<String>>,
     retryable: bool,
     source: Option<anyhow::Error>,
+}
+
+/// By one call: derived, each part is dropped wherever a value is.
+impl Drop for Error {
+    fn drop(self) {
+        let Error {
+            kind: _,
+            message,
+            context,
+            retryable: _,
+            source,
+        } = self;
+        drop(message);
+        drop(context);
+        drop(source);
+    }
 }
 
 impl Model for Error {
@@ -120,9 +135,20 @@ impl Error {
     pub fn with_source(self, source: anyhow::Error) -> Error
         ensures { result ≡ record self { source = Some source } }
     {
+        let Error {
+            kind,
+            message,
+            context,
+            retryable,
+            source: old,
+        } = self;
+        drop(old);
         Error {
+            kind,
+            message,
+            context,
+            retryable,
             source: Some(source),
-            ..self
         }
     }
 
@@ -139,10 +165,11 @@ impl Error {
     }
 
     /// The same error, retryable or not.
-    pub fn set_retryable(self, retryable: bool) -> Error
+    pub fn set_retryable(mut self, retryable: bool) -> Error
         ensures { result ≡ record self { retryable = retryable } }
     {
-        Error { retryable, ..self }
+        self.retryable = retryable;
+        self
     }
 
     pub fn kind(&self) -> ErrorKind

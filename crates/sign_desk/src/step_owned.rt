@@ -46,7 +46,7 @@ impl<K: SigningCredential, D: DeadlineRule<Credential = K>> State<K, D> {
         };
         match (view.stage, answer) {
             (Stage::Signing, Verdict::Accepted(candidate)) => {
-                let Head { uri, headers, .. } = candidate;
+                let (uri, headers) = candidate.into_target();
                 self.accept_with(call, uri, headers)
             }
             (Stage::Signing, Verdict::Failed(e)) => self.refuse(call, Why::Service(e), None),

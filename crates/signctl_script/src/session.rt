@@ -1,7 +1,10 @@
 //! `signctl script`, line by line: the desk that the cache and handle lines set up, and what is kept
 //! of the lines so far.
-ghost use Rattle.std.specs.Prelude.{◌≡◌, ◌++◌, ◌<◌, [], List, length, OnOk, IfOk, unwrap_or};
+ghost use Rattle.std.specs.Prelude.{◌≡◌, ◌++◌, ◌<◌, [], false, List, length, OnOk, IfOk, unwrap_or};
 ghost use Rattle.line_words.specs.declared.moment.ScriptVersion.TheVariants.{One};
+ghost use Rattle.line_words.specs.Words.{with_newline};
+ghost use Rattle.sequential_signer.specs.Transcript.{is_out_of_memory};
+ghost use Rattle.signctl_format.specs.Lines.{reply_line};
 ghost use Rattle.signctl_format.specs.declared.item.Item.TheVariants as item;
 ghost use Rattle.signctl_format.specs.ScriptEvents.{ScriptItem};
 ghost use Rattle.signctl_format.specs.ScriptSetup.{item_error};
@@ -10,7 +13,7 @@ ghost use Rattle.signctl_script.specs.SessionState.{RepresentsItems};
 ghost use Rattle.signctl_script.specs.Answering.{CanAnswer, AnswersItem};
 ghost use Rattle.signctl_script.specs.declared.session.ScriptLine.{ScriptLine};
 
-use sequential_signer::Loader;
+use sequential_signer::{Loader, Reply};
 use sign_base::NoMemory;
 use sign_desk::{AddError, Desk};
 use signctl_driver::{LineCommand, end_line};
@@ -131,12 +134,10 @@ impl Session {
         ensures version { self.new.version ≡ self.old.version }
     {
         let reply = self.desk.step_owned(event.into_event());
-        if reply.is_out_of_memory() {
-            return Err(NoMemory { back: () });
-        }
+        let said = push_answer(text, &reply);
+        drop(reply);
+        said?;
         self.had_event = true;
-        push_reply(text, &reply)?;
-        end_line(text)?;
         Ok(())
     }
 
@@ -249,4 +250,17 @@ fn out_of_memory(refusal: AddError) -> NoMemory<()>
 {
     let _ = refusal;
     NoMemory { back: () }
+}
+
+/// Adds the line of a reply, unless it says that an allocation failed.
+fn push_answer(text: &mut Vec<u8>, reply: &Reply<ScriptCredential>) -> Result<(), NoMemory<()>>
+    ensures counts { OnOk result (is_out_of_memory reply.now ≡ false) }
+    ensures line { OnOk result (text.new.items ≡ text.old.items ++ with_newline (reply_line reply.now)) }
+{
+    if reply.is_out_of_memory() {
+        return Err(NoMemory { back: () });
+    }
+    push_reply(text, reply)?;
+    end_line(text)?;
+    Ok(())
 }

@@ -1,6 +1,7 @@
 //! A request head whose URI is a presigned link.
 ghost use Rattle.std.specs.Prelude.{◌≡◌, ◌⊎◌, Ok, Err, IfOk, IfErr, is_some};
-ghost use Rattle.sign_request.specs.PlainTarget.{target_of};
+ghost use Rattle.sign_request.specs.PlainTarget.{plain_target, target_of};
+ghost use Rattle.sigv4_core.specs.SignedHead.{target_to_sign};
 ghost use Rattle.sigv4_presign.specs.LinkPairs.{has_link_name};
 ghost use Rattle.sigv4_presign.specs.PresignedLink.{presigning_of};
 
@@ -89,18 +90,41 @@ pub fn presign_kept(
         ⊎ (presigning_of credential.now scope.now expires now head.now ≡ Err why)) }
 {
     let uri = target_to_sign(alloc, head, scope, keys)?;
+    let made = presign_target(alloc, head, &uri, credential, scope, expires, now, kept);
+    drop(uri);
+    made
+}
+
+/// The head with a presigned link to its target.
+#[tactic(auto, unfolding(crate::specs::PresignedLink::presigning_of))]
+fn presign_target(
+    alloc: Global,
+    head: &Head,
+    uri: &Uri,
+    credential: &SigCredential,
+    scope: &SigScope,
+    expires: u32,
+    now: Timestamp,
+    kept: &mut KeptKey,
+) -> Result<Head, PresignError>
+    requires { target_to_sign scope.now head.now ≡ Ok (plain_target uri.now) }
+    ensures ok { IfOk result (λ h. presigning_of credential.now scope.now expires now head.now ≡ Ok h) }
+    ensures err { IfErr result (λ why. (why ≡ PresignError.OutOfMemory)
+        ⊎ (presigning_of credential.now scope.now expires now head.now ≡ Err why)) }
+{
     if is_before_year_0(now) {
         return Err(PresignError::Moment);
     }
-    if is_presigned(alloc, query_of(&uri))? {
+    if is_presigned(alloc, query_of(uri))? {
         return Err(PresignError::Already);
     }
     if !is_expiry(expires) {
         return Err(PresignError::Expires);
     }
     let key = kept.key_for(alloc, credential, scope, now)?;
-    let link = presigned_link(alloc, head, &uri, credential, scope, key, expires, now)?;
+    let link = presigned_link(alloc, head, uri, credential, scope, key, expires, now)?;
     if !is_target(alloc, link.as_slice())? {
+        drop(link);
         return Err(PresignError::Link);
     }
     Ok(with_uri(alloc, head, link)?)

@@ -12,13 +12,30 @@ static HIDDEN: [&str; 6] = ["wJal", "EKEY", "119", "938127b5", "147", "0x93"];
 
 #[test]
 fn debug_forms_show_no_secret(rt: HostRuntime) {
-    let by = request_to(&rt, rt.alloc(), PLAIN);
-    hides(&rt, forms(&rt, rt.alloc(), &by.credential));
-    hides(&rt, forms(&rt, rt.alloc(), &by.scope));
-    hides(&rt, forms(&rt, rt.alloc(), &derived(&rt, rt.alloc(), &by)));
-    // Whose access key is longer, as AWS's are.
-    let by = published(&rt, rt.alloc());
-    hides(&rt, forms(&rt, rt.alloc(), &by.credential));
+    suite_is_hidden(&rt, rt.alloc());
+    published_is_hidden(&rt, rt.alloc());
+}
+
+fn suite_is_hidden(rt: &impl Abort, alloc: Global) {
+    let by = request_to(rt, alloc, PLAIN);
+    is_hidden(rt, alloc, &by.credential);
+    is_hidden(rt, alloc, &by.scope);
+    let key = derived(rt, alloc, &by);
+    is_hidden(rt, alloc, &key);
+    drop(key);
+    drop(by);
+}
+
+/// Whose access key is longer, as AWS's are.
+fn published_is_hidden(rt: &impl Abort, alloc: Global) {
+    let by = published(rt, alloc);
+    is_hidden(rt, alloc, &by.credential);
+    drop(by);
+}
+
+/// No form of a value shows a secret.
+fn is_hidden<T: fmt::Debug>(rt: &impl Abort, alloc: Global, value: &T) {
+    hides(rt, forms(rt, alloc, value));
 }
 
 /// In one line and in several, under a width, a precision and a sign, and inside another.
@@ -56,14 +73,23 @@ impl Write for Cut {
 #[test]
 fn a_debug_form_that_fails_shows_no_secret(rt: HostRuntime) {
     for pieces in 0..3 {
-        let by = published(&rt, rt.alloc());
-        hides(&rt, written_to(rt.alloc(), &by.credential, pieces));
-        let by = request_to(&rt, rt.alloc(), PLAIN);
-        hides(
-            &rt,
-            written_to(rt.alloc(), &derived(&rt, rt.alloc(), &by), pieces),
-        );
+        cut_key_is_hidden(&rt, rt.alloc(), pieces);
+        cut_credential_is_hidden(&rt, rt.alloc(), pieces);
     }
+}
+
+fn cut_credential_is_hidden(rt: &impl Abort, alloc: Global, pieces: usize) {
+    let by = published(rt, alloc);
+    hides(rt, written_to(alloc, &by.credential, pieces));
+    drop(by);
+}
+
+fn cut_key_is_hidden(rt: &impl Abort, alloc: Global, pieces: usize) {
+    let by = request_to(rt, alloc, PLAIN);
+    let key = derived(rt, alloc, &by);
+    hides(rt, written_to(alloc, &key, pieces));
+    drop(key);
+    drop(by);
 }
 
 /// What was written before the writer failed.

@@ -3,7 +3,7 @@
 //! year 0 those of Python's `hmac`.
 use crate::suite::{NOW, PLAIN, Suite, moment, request_to};
 use crate::told::{is_text, text_of, word};
-use sign_base::Head;
+use sign_base::{Head, Timestamp};
 use sign_request::HeaderSeeds;
 use sigv4_core::{
     SigError, SigningKey, is_before_year_0, sign_head, sign_head_with_key, signature,
@@ -28,37 +28,77 @@ const OF_YEAR_0: &str =
 /// The last moment before the year 0.
 pub(crate) const BEFORE_YEAR_0: i128 = -62_167_219_200_000_000_001;
 
-/// URIs, nanoseconds since 1970, and what is told of the request that is signed then. The moment is its
-/// last cause.
-static MOMENTS: [(&str, i128, &str); 10] = [
-    (PLAIN, NOW, SIGNED),
-    (PLAIN, NOW + 999_999_999, SIGNED),
-    (PLAIN, -1, LAST_OF_1969),
-    (PLAIN, -1_000_000_001, OF_1969),
-    (PLAIN, -2_000_000_000, OF_1969),
-    (PLAIN, BEFORE_YEAR_0 + 1, OF_YEAR_0),
-    (PLAIN, BEFORE_YEAR_0, "Moment"),
-    ("https://e.x/%20", BEFORE_YEAR_0, "Path"),
-    ("/%20", BEFORE_YEAR_0, "Authority"),
-    ("e.x/a", BEFORE_YEAR_0, "Head"),
+/// The values of botocore at the first and the last second of the day.
+const FIRST: &str =
+    "20150830T000000Z AWS4-HMAC-SHA256 Credential=AKIDEXAMPLE/20150830/us-east-1/service/aws4_request, SignedHeaders=host;x-amz-date, Signature=bd697a1893671c85052c41fcc14a60ce07d8ff41cf0a1c1913ad8d8466523c29";
+
+const LAST: &str =
+    "20150830T235959Z AWS4-HMAC-SHA256 Credential=AKIDEXAMPLE/20150830/us-east-1/service/aws4_request, SignedHeaders=host;x-amz-date, Signature=f1e56d41656220792b3e2fff083515f2c4b7550ef6f82dfbfb6179174236566e";
+
+/// The suite's canonical request, and its signature.
+const REQUEST: &str =
+    "GET\n/\n\nhost:example.amazonaws.com\nx-amz-date:20150830T123600Z\n\nhost;x-amz-date\ne3b0c44298fc1c149afbf4c8996fb92427ae41e4649b934ca495991b7852b855";
+
+const SIGNATURE: &str = "5fa00fa31553b73ebf1942676e86291e8372ff2a2260956d9b8aae1d763fbf31";
+
+/// By what a request is signed.
+#[derive(Clone, Copy)]
+enum By {
+    Credential,
+    Key,
+    Text,
+}
+
+/// How, the URI, nanoseconds since 1970, and what is told of the request that is signed then.
+static ROWS: [(By, &str, i128, &str); 14] = [
+    (By::Credential, PLAIN, NOW, SIGNED),
+    (By::Credential, PLAIN, NOW + 999_999_999, SIGNED),
+    (By::Credential, PLAIN, -1, LAST_OF_1969),
+    (By::Credential, PLAIN, -1_000_000_001, OF_1969),
+    (By::Credential, PLAIN, -2_000_000_000, OF_1969),
+    (By::Credential, PLAIN, BEFORE_YEAR_0 + 1, OF_YEAR_0),
+    (By::Credential, PLAIN, BEFORE_YEAR_0, "Moment"),
+    (By::Credential, "https://e.x/%20", BEFORE_YEAR_0, "Path"),
+    (By::Credential, "/%20", BEFORE_YEAR_0, "Authority"),
+    (By::Credential, "e.x/a", BEFORE_YEAR_0, "Head"),
+    (By::Key, PLAIN, 1_440_892_800_000_000_000, FIRST),
+    (By::Key, PLAIN, NOW, SIGNED),
+    (By::Key, PLAIN, 1_440_979_199_999_999_999, LAST),
+    (By::Text, PLAIN, NOW, SIGNATURE),
 ];
 
 #[test]
-fn fractions_of_a_second_go_down(rt: HostRuntime) {
-    for (uri, nanos, wanted) in &MOMENTS {
-        is_text(&rt, signed_at(&rt, rt.alloc(), *uri, *nanos), *wanted);
+fn heads_are_signed_as_published(rt: HostRuntime) {
+    for (how, uri, nanos, wanted) in &ROWS {
+        is_text(&rt, signed_at(&rt, rt.alloc(), *how, *uri, *nanos), *wanted);
     }
 }
 
 /// What is told of the suite's request to this URI, signed at this moment.
-fn signed_at(rt: &impl Abort, alloc: Global, uri: &str, nanos: i128) -> String {
+fn signed_at(rt: &impl Abort, alloc: Global, how: By, uri: &str, nanos: i128) -> String {
     let by = request_to(rt, alloc, uri);
-    let now = moment(rt, nanos);
-    told(
-        rt,
-        alloc,
-        sign_head(alloc, &by.head, &by.credential, &by.scope, &by.payload, now),
-    )
+    let told = signed_by(rt, alloc, how, &by, moment(rt, nanos));
+    drop(by);
+    told
+}
+
+fn signed_by(rt: &impl Abort, alloc: Global, how: By, by: &Suite, now: Timestamp) -> String {
+    match how {
+        By::Credential => told(
+            rt,
+            alloc,
+            sign_head(alloc, &by.head, &by.credential, &by.scope, &by.payload, now),
+        ),
+        By::Key => signed_with(rt, alloc, by, now),
+        By::Text => text_signed(rt, alloc, by, now),
+    }
+}
+
+fn text_signed(rt: &impl Abort, alloc: Global, by: &Suite, now: Timestamp) -> String {
+    assert!(rt; !is_before_year_0(now));
+    let text = signature(alloc, &by.credential, &by.scope, now, REQUEST.as_bytes());
+    let text = text.expect(rt, "memory");
+    text_of(rt, alloc, text.as_slice())
 }
 
 /// The values of the last two headers of a signed head, or the cause.
@@ -78,30 +118,6 @@ pub(crate) fn last_values(rt: &impl Abort, alloc: Global, head: &Head) -> String
     format!(in alloc; "{moment} {authorization}").expect(rt, "memory")
 }
 
-/// The values of botocore at the first and the last second of the day.
-const FIRST: &str =
-    "20150830T000000Z AWS4-HMAC-SHA256 Credential=AKIDEXAMPLE/20150830/us-east-1/service/aws4_request, SignedHeaders=host;x-amz-date, Signature=bd697a1893671c85052c41fcc14a60ce07d8ff41cf0a1c1913ad8d8466523c29";
-
-const LAST: &str =
-    "20150830T235959Z AWS4-HMAC-SHA256 Credential=AKIDEXAMPLE/20150830/us-east-1/service/aws4_request, SignedHeaders=host;x-amz-date, Signature=f1e56d41656220792b3e2fff083515f2c4b7550ef6f82dfbfb6179174236566e";
-
-/// Moments of the day, and what is told of the request that is signed then with its key.
-static DAY: [(i128, &str); 3] = [
-    (1_440_892_800_000_000_000, FIRST),
-    (NOW, SIGNED),
-    (1_440_979_199_999_999_999, LAST),
-];
-
-#[test]
-fn a_key_is_derived_once_a_day(rt: HostRuntime) {
-    let by = request_to(&rt, rt.alloc(), PLAIN);
-    let key = derived(&rt, rt.alloc(), &by);
-    for (nanos, wanted) in &DAY {
-        let told = signed_with(&rt, rt.alloc(), &by, &key, *nanos);
-        is_text(&rt, told, *wanted);
-    }
-}
-
 /// The suite's key of the day.
 pub(crate) fn derived(rt: &impl Abort, alloc: Global, by: &Suite) -> SigningKey {
     let now = moment(rt, NOW);
@@ -109,14 +125,20 @@ pub(crate) fn derived(rt: &impl Abort, alloc: Global, by: &Suite) -> SigningKey 
     SigningKey::derive(alloc, &by.credential, &by.scope, now).expect(rt, "memory")
 }
 
-fn signed_with(
+fn signed_with(rt: &impl Abort, alloc: Global, by: &Suite, now: Timestamp) -> String {
+    let key = derived(rt, alloc, by);
+    let signed = signed_by_key(rt, alloc, by, &key, now);
+    drop(key);
+    signed
+}
+
+fn signed_by_key(
     rt: &impl Abort,
     alloc: Global,
     by: &Suite,
     key: &SigningKey,
-    nanos: i128,
+    now: Timestamp,
 ) -> String {
-    let now = moment(rt, nanos);
     assert!(rt; !is_before_year_0(now));
     assert!(rt; key.is_for_day_of(alloc, now).expect(rt, "memory"));
     let keys = HeaderSeeds::default();
@@ -125,26 +147,4 @@ fn signed_with(
         alloc,
         sign_head_with_key(alloc, &by.head, key, &by.payload, now, keys),
     )
-}
-
-/// The suite's canonical request, and its signature.
-const REQUEST: &str =
-    "GET\n/\n\nhost:example.amazonaws.com\nx-amz-date:20150830T123600Z\n\nhost;x-amz-date\ne3b0c44298fc1c149afbf4c8996fb92427ae41e4649b934ca495991b7852b855";
-
-const SIGNATURE: &str = "5fa00fa31553b73ebf1942676e86291e8372ff2a2260956d9b8aae1d763fbf31";
-
-#[test]
-fn a_canonical_request_is_signed_alone(rt: HostRuntime) {
-    let by = request_to(&rt, rt.alloc(), PLAIN);
-    let now = moment(&rt, NOW);
-    assert!(rt; !is_before_year_0(now));
-    let text = signature(
-        rt.alloc(),
-        &by.credential,
-        &by.scope,
-        now,
-        REQUEST.as_bytes(),
-    );
-    let text = text.expect(&rt, "memory");
-    assert!(rt; text.as_slice() == SIGNATURE.as_bytes());
 }
