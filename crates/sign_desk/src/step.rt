@@ -131,12 +131,9 @@ impl<K: SigningCredential, D: DeadlineRule<Credential = K>> State<K, D> {
         ensures memory { result ≢ OutOfMemory }
     {
         let live = self.tables.take_record(call).unwrap();
-        let begun = live.head.into_head();
-        let head = Head {
-            uri,
-            headers,
-            ..begun
-        };
+        let mut head = live.head.into_head();
+        head.uri = uri;
+        head.headers = headers;
         Reply::Done { head }
     }
 
