@@ -11,6 +11,7 @@ use aws_credentials::SessionCredential;
 use sign_base::{Field, Fields, Head, NoMemory, Timestamp};
 use sigv4_core::{Payload, sign_head_seeded};
 use std::alloc::Global;
+use std::mem::replace;
 
 impl<X> AwsService<X> {
     /// The head with its signature in the header `authorization`, as `sign_head` of `sigv4_core` answers it
@@ -38,7 +39,7 @@ impl<X> AwsService<X> {
         let behind = self.left_out.headers_of(alloc, &head.headers)?;
         let rest = self.without_left_out(alloc, head)?;
         let signed = self.sign_whole(alloc, rest, session, now)?;
-        Ok(with_behind(signed, behind)?)
+        Ok(with_behind(alloc, signed, behind)?)
     }
 
     /// The head without the headers that are left out.
@@ -91,13 +92,13 @@ impl<X> AwsService<X> {
     fn head_to_sign(
         &self,
         alloc: Global,
-        head: Head,
+        mut head: Head,
         session: &SessionCredential,
         payload: &Payload,
     ) -> Result<Head, NoMemory<()>>
         ensures { IfOk result (λ h. h ≡ head_to_sign self.now session.now payload.now head) }
     {
-        let mut headers = head.headers.into_vec();
+        let mut headers = replace(&mut head.headers, Fields::new(alloc)).into_vec();
         state_content(
             alloc,
             self.content,
@@ -105,21 +106,21 @@ impl<X> AwsService<X> {
             &mut headers,
         )?;
         replace_token(alloc, session.token(), &mut headers)?;
-        Ok(Head {
-            headers: Fields::from_vec(headers),
-            ..head
-        })
+        head.headers = Fields::from_vec(headers);
+        Ok(head)
     }
 }
 
 /// The head with these headers behind its own.
-fn with_behind(head: Head, mut behind: Vec<Field>) -> Result<Head, NoMemory<()>>
+fn with_behind(
+    alloc: Global,
+    mut head: Head,
+    mut behind: Vec<Field>,
+) -> Result<Head, NoMemory<()>>
     ensures { IfOk result (λ h. h ≡ with_behind behind.items head) }
 {
-    let mut headers = head.headers.into_vec();
+    let mut headers = replace(&mut head.headers, Fields::new(alloc)).into_vec();
     headers.append(&mut behind)?;
-    Ok(Head {
-        headers: Fields::from_vec(headers),
-        ..head
-    })
+    head.headers = Fields::from_vec(headers);
+    Ok(head)
 }

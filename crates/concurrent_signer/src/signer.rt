@@ -374,8 +374,9 @@ where
         match reply {
             Reply::Done { .. } => {
                 if let Some(accepted) = accepted_in(event) {
-                    head.uri = accepted.uri;
-                    head.headers = accepted.headers;
+                    let (uri, headers) = accepted.into_target();
+                    head.uri = uri;
+                    head.headers = headers;
                 }
                 Ok(())
             }

@@ -40,12 +40,10 @@ pub fn made_and_checked(
     Ok(verify(alloc, &request, credential, scope, arrived)?)
 }
 
-fn bare_request(alloc: Global, link: Head) -> Head
+fn bare_request(alloc: Global, mut link: Head) -> Head
     ensures { result ≡ bare_request link }
 {
-    Head {
-        version: Version::V11,
-        headers: Fields::new(alloc),
-        ..link
-    }
+    link.version = Version::V11;
+    link.headers = Fields::new(alloc);
+    link
 }
