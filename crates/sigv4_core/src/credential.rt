@@ -15,12 +15,23 @@ use std::fmt;
 use std::marker::Model;
 
 /// An access key and its secret, which can be used until they expire. `Debug` shows neither.
-#[derive(Drop)]
 pub struct SigCredential {
     access: Octets,
     secret: Octets,
     /// None where they do not expire.
     expires: Option<Timestamp>,
+}
+
+impl Drop for SigCredential {
+    fn drop(self) {
+        let SigCredential {
+            access,
+            secret,
+            expires: _,
+        } = self;
+        drop(access);
+        drop(secret);
+    }
 }
 
 impl Model for SigCredential {

@@ -13,9 +13,15 @@ use std::marker::Model;
 /// debug form.
 ///
 /// Both stay in memory until another key is asked for, or it is dropped.
-#[derive(Drop)]
 pub struct KeptKey {
     kept: Option<KeyOfSecret>,
+}
+
+impl Drop for KeptKey {
+    fn drop(self) {
+        let KeptKey { kept } = self;
+        drop(kept);
+    }
 }
 
 /// Contracts see the key.

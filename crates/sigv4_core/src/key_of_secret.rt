@@ -9,10 +9,17 @@ use std::alloc::Global;
 use std::marker::Model;
 
 /// A signing key beside the secret that it was derived of. It has no debug form.
-#[derive(Drop)]
 pub(crate) struct KeyOfSecret {
     secret: Octets,
     key: SigningKey,
+}
+
+impl Drop for KeyOfSecret {
+    fn drop(self) {
+        let KeyOfSecret { secret, key } = self;
+        drop(secret);
+        drop(key);
+    }
 }
 
 /// Contracts see the key.

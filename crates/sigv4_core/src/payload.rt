@@ -16,9 +16,16 @@ use std::marker::Model;
 const DIGEST_LEN: usize = 64;
 
 /// The word that a canonical request has for its payload. Contracts see it as that word.
-#[derive(Debug, Drop)]
+#[derive(Debug)]
 pub struct Payload {
     word: Octets,
+}
+
+impl Drop for Payload {
+    fn drop(self) {
+        let Payload { word } = self;
+        drop(word);
+    }
 }
 
 impl Model for Payload {

@@ -10,10 +10,18 @@ use std::alloc::Global;
 use std::marker::Model;
 
 /// A region and a service, as `us-east-1` and `s3`.
-#[derive(Debug, Drop)]
+#[derive(Debug)]
 pub struct SigScope {
     region: Octets,
     service: Octets,
+}
+
+impl Drop for SigScope {
+    fn drop(self) {
+        let SigScope { region, service } = self;
+        drop(region);
+        drop(service);
+    }
 }
 
 impl Model for SigScope {

@@ -20,7 +20,6 @@ use std::marker::Model;
 /// The signing key of a credential for a day, a region and a service. `Debug` shows nothing of it.
 ///
 /// Who has the key can sign for its day, region and service, and for no other.
-#[derive(Drop)]
 pub struct SigningKey {
     access: Octets,
     scope: SigScope,
@@ -29,6 +28,24 @@ pub struct SigningKey {
     date: Octets,
     credential_scope: Vec<u8>,
     key: Sha256Key,
+}
+
+impl Drop for SigningKey {
+    fn drop(self) {
+        let SigningKey {
+            access,
+            scope,
+            date,
+            credential_scope,
+            key,
+            day: _,
+        } = self;
+        drop(access);
+        drop(scope);
+        drop(date);
+        drop(credential_scope);
+        drop(key);
+    }
 }
 
 impl Model for SigningKey {
