@@ -112,11 +112,7 @@ impl<X> AwsService<X> {
 }
 
 /// The head with these headers behind its own.
-fn with_behind(
-    alloc: Global,
-    mut head: Head,
-    mut behind: Vec<Field>,
-) -> Result<Head, NoMemory<()>>
+fn with_behind(alloc: Global, mut head: Head, mut behind: Vec<Field>) -> Result<Head, NoMemory<()>>
     ensures { IfOk result (λ h. h ≡ with_behind behind.items head) }
 {
     let mut headers = replace(&mut head.headers, Fields::new(alloc)).into_vec();
