@@ -3,6 +3,18 @@ use std::alloc::Global;
 use std::fmt::{self, Write};
 use std::process::Abort;
 
+/// What a row of a table asks. `None` says that memory was lacking.
+pub(crate) trait Question {
+    fn answer(&self, alloc: Global) -> Option<String>;
+}
+
+/// Whether each question of a table has the answer that stands beside it.
+pub(crate) fn are_answered<Q: Question>(rt: &impl Abort, alloc: Global, rows: &[(Q, &str)]) {
+    for (question, wanted) in rows {
+        is_told(rt, question.answer(alloc), *wanted);
+    }
+}
+
 /// Whether this was told. None says that memory was lacking.
 pub(crate) fn is_told(rt: &impl Abort, told: Option<String>, wanted: &str) {
     let told = told.expect(rt, "memory");

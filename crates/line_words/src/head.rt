@@ -12,7 +12,7 @@ ghost use Rattle.line_words.specs.Readers.{words_after, Reads, Gives};
 
 use crate::byte_class::{ByteClass, hex_digit, is_plain, prefix_len, split_prefix};
 use crate::read_error::{NotUnderstood, ReadError};
-use crate::word::{next_word, split_word, word_at};
+use crate::word::{next_word, split_word, word_at, word_is};
 use sign_base::{Field, Fields, Head, Octets, Version};
 use std::alloc::Global;
 
@@ -79,15 +79,15 @@ fn all_visible(word: &[u8]) -> bool
 fn parse_version(word: &[u8]) -> Result<Version, NotUnderstood>
     ensures { Reads (λ v. v) result (version_of word.now) }
 {
-    if word == b"0.9".as_slice() {
+    if word_is(word, b"0.9") {
         Ok(Version::V09)
-    } else if word == b"1.0".as_slice() {
+    } else if word_is(word, b"1.0") {
         Ok(Version::V10)
-    } else if word == b"1.1".as_slice() {
+    } else if word_is(word, b"1.1") {
         Ok(Version::V11)
-    } else if word == b"2".as_slice() {
+    } else if word_is(word, b"2") {
         Ok(Version::V2)
-    } else if word == b"3".as_slice() {
+    } else if word_is(word, b"3") {
         Ok(Version::V3)
     } else {
         Err(NotUnderstood)

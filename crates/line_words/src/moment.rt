@@ -10,7 +10,7 @@ ghost use Rattle.line_words.specs.Readers.{Reads};
 
 use crate::byte_class::is_digit;
 use crate::read_error::NotUnderstood;
-use crate::word::parse_number;
+use crate::word::{parse_number, word_is};
 use sign_base::Timestamp;
 use std::time::Duration;
 
@@ -54,7 +54,7 @@ pub fn parse_duration(
 ) -> Result<Option<Duration>, NotUnderstood>
     ensures { Reads (option_map plain_duration) result (duration_of version word.now) }
 {
-    if word == b"-".as_slice() {
+    if word_is(word, b"-") {
         return Ok(None);
     }
     let time = parse_time(version, u64::MAX, word)?;

@@ -5,6 +5,7 @@ ghost use Rattle.std.specs.Prelude.{◌≡◌, ◌≤◌, ◌<◌, [], ◌∷◌
 ghost use Rattle.std.specs.Prelude.{MatchOption, MatchResult, IfSome, decimal};
 ghost use Rattle.std.specs.List.{position_or_len};
 ghost use Rattle.std.specs.Char.{digit_value};
+ghost use Rattle.std.specs.Str.{bytes_eq};
 ghost use Rattle.std.specs.Str.Parse.{AllDigits, digits_value};
 ghost use Rattle.line_words.specs.Words.{is_silent, is_space, words, begins_a_number, number_of};
 ghost use Rattle.line_words.specs.Words.{greatest_u32};
@@ -13,6 +14,14 @@ ghost use Rattle.line_words.specs.Readers.{words_after, Reads};
 
 use crate::byte_class::{ByteClass, is_digit, prefix_len};
 use crate::read_error::NotUnderstood;
+
+/// Whether a word is this text.
+#[inline(always)]
+pub fn word_is(word: &[u8], text: &[u8]) -> bool
+    ensures { result ≡ bytes_eq word.now text.now }
+{
+    word == text
+}
 
 /// Whether a line says nothing: it is empty, or begins with `#`.
 #[inline(always)]

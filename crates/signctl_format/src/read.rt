@@ -18,7 +18,9 @@ ghost use Rattle.signctl_format.specs.Carrying.{names_head, CarriesHead};
 use crate::{ScriptCredential, ScriptEvent, ScriptRule};
 use line_words::head::parse_head;
 use line_words::moment::{parse_duration, parse_moment};
-use line_words::word::{at_end_of_line, is_silent, number_at, split_word, u32_at, word_at};
+use line_words::word::{
+    at_end_of_line, is_silent, number_at, split_word, u32_at, word_at, word_is,
+};
 use line_words::{NotUnderstood, ReadError, ScriptVersion};
 use sequential_signer::{Answer, Event, Loader, Verdict};
 use sign_base::CallId;
@@ -31,7 +33,7 @@ type Item = crate::Item<ScriptEvent>;
 pub fn is_version_line(line: &[u8]) -> bool
     ensures { result ≡ is_version_line line.now }
 {
-    line == b"signctl 2".as_slice()
+    word_is(line, b"signctl 2")
 }
 
 /// The item that a line without its newline spells in a script of this version.
@@ -77,9 +79,9 @@ fn parse_form(
     ensures item { Gives (λ i. i) result (item_form version name.now (words_after rest.now)) }
     ensures memory { NeedsMemory result (IsTrue (names_head name.now)) }
 {
-    if name == b"begin".as_slice() {
+    if word_is(name, b"begin") {
         parse_begin(alloc, version, rest)
-    } else if name == b"accept".as_slice() {
+    } else if word_is(name, b"accept") {
         parse_accept(alloc, rest)
     } else {
         Ok(parse_form_with_no_head(version, name, rest)?)
@@ -97,21 +99,21 @@ fn parse_form_with_no_head(
     requires { names_head name.now ≡ false }
     ensures { Reads (λ i. i) result (item_form version name.now (words_after rest.now)) }
 {
-    if name == b"poll".as_slice() {
+    if word_is(name, b"poll") {
         parse_poll(version, rest)
-    } else if name == b"found".as_slice() {
+    } else if word_is(name, b"found") {
         parse_found(version, rest)
-    } else if name == b"missing".as_slice() {
+    } else if word_is(name, b"missing") {
         parse_missing(version, rest)
-    } else if name == b"failed".as_slice() {
+    } else if word_is(name, b"failed") {
         parse_failed(version, rest)
-    } else if name == b"reject".as_slice() {
+    } else if word_is(name, b"reject") {
         parse_reject(rest)
-    } else if name == b"cancel".as_slice() {
+    } else if word_is(name, b"cancel") {
         parse_cancel(rest)
-    } else if name == b"cache".as_slice() {
+    } else if word_is(name, b"cache") {
         parse_cache(rest)
-    } else if name == b"handle".as_slice() {
+    } else if word_is(name, b"handle") {
         parse_handle(rest)
     } else {
         Err(NotUnderstood)
@@ -123,9 +125,9 @@ fn parse_cache(rest: &[u8]) -> Result<Item, NotUnderstood>
     ensures { Reads (λ i. i) result (cache_form (words_after rest.now)) }
 {
     let (kind, rest) = word_at(rest)?;
-    if kind == b"single".as_slice() {
+    if word_is(kind, b"single") {
         at_end_of_line(Item::Cache(Loader::Single), rest)
-    } else if kind == b"chain".as_slice() {
+    } else if word_is(kind, b"chain") {
         parse_chain(rest)
     } else {
         Err(NotUnderstood)
@@ -251,9 +253,9 @@ fn event_item(event: Event<ScriptCredential>) -> Item
 fn parse_rule(word: &[u8]) -> Result<ScriptRule, NotUnderstood>
     ensures { Reads (λ r. r) result (rule_in word.now) }
 {
-    if word == b"now".as_slice() {
+    if word_is(word, b"now") {
         Ok(ScriptRule::Now)
-    } else if word == b"cred".as_slice() {
+    } else if word_is(word, b"cred") {
         Ok(ScriptRule::Cred)
     } else {
         Err(NotUnderstood)

@@ -1,8 +1,8 @@
 //! What links name of themselves, AWS's published one among them; and how far a tolerance goes.
-use crate::suite::{OBJECT, PUBLISHED, Suite, moment, published, request_to};
-use crate::told::{is_text, text_of, word};
+use crate::suite::{OBJECT, PUBLISHED, Suite, link_for_ten_minutes, moment, published, request_to};
+use crate::told::{is_text, str_of, word};
 use sign_base::Head;
-use sigv4_presign::{Checked, LinkClaims, LinkUnread, presign, read_link, verify_within};
+use sigv4_presign::{Checked, LinkClaims, LinkUnread, read_link, verify_within};
 use std::alloc::Global;
 use std::process::Abort;
 use std::time::Duration;
@@ -55,9 +55,22 @@ static LINKS: [(&str, &str, &str, &str); 16] = [
 #[test]
 fn a_link_names_who_signed_it(rt: HostRuntime) {
     for (credential, date, expires, wanted) in &LINKS {
-        let uri = link_of(&rt, rt.alloc(), *credential, *date, *expires);
-        is_text(&rt, read_of(&rt, rt.alloc(), uri.as_str()), *wanted);
+        let told = link_told(&rt, rt.alloc(), *credential, *date, *expires);
+        is_text(&rt, told, *wanted);
     }
+}
+
+fn link_told(
+    rt: &impl Abort,
+    alloc: Global,
+    credential: &str,
+    date: &str,
+    expires: &str,
+) -> String {
+    let uri = link_of(rt, alloc, credential, date, expires);
+    let told = read_of(rt, alloc, uri.as_str());
+    drop(uri);
+    told
 }
 
 /// The published link but for these values.
@@ -87,20 +100,26 @@ fn other_requests_name_nobody(rt: HostRuntime) {
 /// What is read of a request to this URI.
 fn read_of(rt: &impl Abort, alloc: Global, uri: &str) -> String {
     let by = request_to(rt, alloc, uri);
-    told(rt, alloc, read_link(alloc, &by.head))
+    let read = read_link(alloc, &by.head);
+    drop(by);
+    told(rt, alloc, read)
 }
 
 fn told(rt: &impl Abort, alloc: Global, read: Result<LinkClaims, LinkUnread>) -> String {
     match read {
-        Ok(claims) => names_of(rt, alloc, &claims),
+        Ok(claims) => {
+            let told = names_of(rt, alloc, &claims);
+            drop(claims);
+            told
+        }
         Err(why) => word(rt, alloc, why),
     }
 }
 
 fn names_of(rt: &impl Abort, alloc: Global, claims: &LinkClaims) -> String {
-    let access = text_of(rt, alloc, claims.access.as_slice());
-    let region = text_of(rt, alloc, claims.scope.region());
-    let service = text_of(rt, alloc, claims.scope.service());
+    let access = str_of(rt, claims.access.as_slice());
+    let region = str_of(rt, claims.scope.region());
+    let service = str_of(rt, claims.scope.service());
     let date = claims.date.as_nanos();
     let expires = claims.expires;
     format!(in alloc; "{access} {region} {service} {date} {expires}").expect(rt, "memory")
@@ -122,12 +141,16 @@ static FOUND: [(i128, u64, Checked); 7] = [
 #[test]
 fn a_tolerance_goes_both_ways(rt: HostRuntime) {
     let by = published(&rt, rt.alloc());
-    let now = moment(&rt, PUBLISHED);
-    let link = presign(rt.alloc(), &by.head, &by.credential, &by.scope, 600, now);
-    let link = link.expect(&rt, "a link");
+    let link = link_for_ten_minutes(&rt, rt.alloc(), &by);
+    are_found(&rt, rt.alloc(), &by, &link);
+    drop(link);
+    drop(by);
+}
+
+fn are_found(rt: &impl Abort, alloc: Global, by: &Suite, link: &Head) {
     for (nanos, tolerance, wanted) in &FOUND {
         let tolerance = Duration::from_secs(*tolerance);
-        is_found(&rt, rt.alloc(), &by, &link, *nanos, tolerance, *wanted);
+        is_found(rt, alloc, by, link, *nanos, tolerance, *wanted);
     }
 }
 

@@ -1,7 +1,7 @@
 //! What users ask for every day, once each, since a clause lets any call answer that memory ran out:
 //! methods, a content, a region, a session token of 2 KB, a link for an hour, a key that expires. The
 //! values are published where the line says so, and Python's `hmac` otherwise.
-use crate::links::last_of;
+use crate::links::{last_of, last_part};
 use crate::signed_heads::last_values;
 use crate::suite::{
     Asked, NOW, OBJECT, PLAIN, PUBLISHED, Suite, moment, object, plain, request_of,
@@ -9,7 +9,7 @@ use crate::suite::{
 use crate::told::{is_text, text_of, word};
 use fixtures::push_header;
 use sequential_signer::SigningCredential;
-use sign_base::Fields;
+use sign_base::{Fields, Head, Timestamp};
 use sigv4_core::{Payload, SigCredential, canonical, is_before_year_0, sign_head, signature};
 use sigv4_presign::{presign, verify};
 use std::alloc::Global;
@@ -100,7 +100,10 @@ fn signed_row(rt: &impl Abort, alloc: Global, row: &Signed) -> String {
         ..plain(uri.as_str())
     };
     let by = request_of(rt, alloc, &asked);
-    signed(rt, alloc, &by)
+    drop(uri);
+    let told = signed(rt, alloc, &by);
+    drop(by);
+    told
 }
 
 fn with_token(rt: &impl Abort, alloc: Global, uri: &str, bytes: usize) -> String {
@@ -108,16 +111,29 @@ fn with_token(rt: &impl Abort, alloc: Global, uri: &str, bytes: usize) -> String
         return text_of(rt, alloc, uri.as_bytes());
     }
     let token = "t".repeat(alloc, bytes).expect(rt, "memory");
-    format!(in alloc; "{uri}?X-Amz-Security-Token={token}").expect(rt, "memory")
+    let told = format!(in alloc; "{uri}?X-Amz-Security-Token={token}").expect(rt, "memory");
+    drop(token);
+    told
 }
 
 /// The signature in the head, or the cause why there is none.
 pub(crate) fn signed(rt: &impl Abort, alloc: Global, by: &Suite) -> String {
     let now = moment(rt, NOW);
     match sign_head(alloc, &by.head, &by.credential, &by.scope, &by.payload, now) {
-        Ok(head) => last_of(rt, alloc, last_values(rt, alloc, &head).as_bytes()),
+        Ok(head) => {
+            let told = signature_of(rt, alloc, &head);
+            drop(head);
+            told
+        }
         Err(why) => word(rt, alloc, why),
     }
+}
+
+fn signature_of(rt: &impl Abort, alloc: Global, head: &Head) -> String {
+    let values = last_values(rt, alloc, head);
+    let told = last_of(rt, alloc, values.as_bytes());
+    drop(values);
+    told
 }
 
 /// Method, region, the bytes of a session token, seconds, and the link's signature with what its check finds.
@@ -198,7 +214,10 @@ fn linked_row(rt: &impl Abort, alloc: Global, row: &Linked) -> String {
         ..object(uri.as_str())
     };
     let by = request_of(rt, alloc, &asked);
-    linked(rt, alloc, &by, row.3)
+    drop(uri);
+    let told = linked(rt, alloc, &by, row.3);
+    drop(by);
+    told
 }
 
 /// The signature of the link, and what its check finds.
@@ -206,12 +225,18 @@ pub(crate) fn linked(rt: &impl Abort, alloc: Global, by: &Suite, expires: u32) -
     let now = moment(rt, PUBLISHED);
     match presign(alloc, &by.head, &by.credential, &by.scope, expires, now) {
         Ok(link) => {
-            let found = verify(alloc, &link, &by.credential, &by.scope, now).expect(rt, "memory");
-            let signature = last_of(rt, alloc, link.uri.as_slice());
-            format!(in alloc; "{signature} {found:?}").expect(rt, "memory")
+            let told = checked(rt, alloc, by, &link, now);
+            drop(link);
+            told
         }
         Err(why) => word(rt, alloc, why),
     }
+}
+
+fn checked(rt: &impl Abort, alloc: Global, by: &Suite, link: &Head, now: Timestamp) -> String {
+    let found = verify(alloc, link, &by.credential, &by.scope, now).expect(rt, "memory");
+    let signature = last_part(rt, link.uri.as_slice());
+    format!(in alloc; "{signature} {found:?}").expect(rt, "memory")
 }
 
 /// Moments, and whether a key that expires then is good.
@@ -219,12 +244,20 @@ static LASTS: [(i128, bool); 3] = [(NOW - 1, true), (NOW, false), (NOW + 1, fals
 
 #[test]
 fn a_key_lasts_until_it_expires(rt: HostRuntime) {
-    let end = Some(moment(&rt, NOW));
-    let key = SigCredential::new(rt.alloc(), b"AKIDEXAMPLE", b"secret", end).expect(&rt, "a key");
-    let key = key.try_clone(rt.alloc()).expect(&rt, "memory");
+    let key = cloned_key(&rt, rt.alloc());
     for (nanos, wanted) in &LASTS {
         lasts(&rt, &key, *nanos, *wanted);
     }
+    drop(key);
+}
+
+/// A clone of a key that expires then. In a box it is one value to whoever proves where it is dropped.
+fn cloned_key(rt: &impl Abort, alloc: Global) -> Box<SigCredential> {
+    let end = Some(moment(rt, NOW));
+    let key = SigCredential::new(alloc, b"AKIDEXAMPLE", b"secret", end).expect(rt, "a key");
+    let clone = key.try_clone(alloc).expect(rt, "memory");
+    drop(key);
+    Box::new(alloc, clone).expect(rt, "memory")
 }
 
 fn lasts(rt: &impl Abort, key: &SigCredential, nanos: i128, wanted: bool) {
@@ -282,7 +315,9 @@ fn list_users(rt: &impl Abort, alloc: Global) -> String {
         push_header(alloc, &mut by.head, *name, *value).expect(rt, "memory");
     }
     let word = by.payload.hash_or_unsigned();
-    digest_and_signature(rt, alloc, &by, (b"/", LIST_USERS, word), NOW)
+    let told = digest_and_signature(rt, alloc, &by, (b"/", LIST_USERS, word), NOW);
+    drop(by);
+    told
 }
 
 fn link(rt: &impl Abort, alloc: Global) -> String {
@@ -291,7 +326,9 @@ fn link(rt: &impl Abort, alloc: Global) -> String {
     push_header(alloc, &mut by.head, b"host", host).expect(rt, "memory");
     let path = b"/test.txt".as_slice();
     let word = b"UNSIGNED-PAYLOAD".as_slice();
-    digest_and_signature(rt, alloc, &by, (path, LINK, word), PUBLISHED)
+    let told = digest_and_signature(rt, alloc, &by, (path, LINK, word), PUBLISHED);
+    drop(by);
+    told
 }
 
 /// The digest of the canonical request of this path, query and payload's word, and its signature.
@@ -302,17 +339,36 @@ fn digest_and_signature(
     (path, query, word): (&[u8], &[u8], &[u8]),
     nanos: i128,
 ) -> String {
-    let now = moment(rt, nanos);
-    assert!(rt; !is_before_year_0(now));
     let request = canonical(alloc, b"GET", path, query, &by.head.headers, word);
     let request = request.expect(rt, "memory");
-    let text = signature(alloc, &by.credential, &by.scope, now, request.as_slice());
-    let text = text_of(rt, alloc, text.expect(rt, "memory").as_slice());
+    let text = text_signed(rt, alloc, by, request.as_slice(), moment(rt, nanos));
     let digest = digest_of(rt, alloc, request.as_slice());
-    format!(in alloc; "{digest} {text}").expect(rt, "memory")
+    drop(request);
+    joined(rt, alloc, digest, text)
+}
+
+fn text_signed(
+    rt: &impl Abort,
+    alloc: Global,
+    by: &Suite,
+    request: &[u8],
+    now: Timestamp,
+) -> String {
+    assert!(rt; !is_before_year_0(now));
+    let text = signature(alloc, &by.credential, &by.scope, now, request);
+    text_of(rt, alloc, text.expect(rt, "memory").as_slice())
+}
+
+fn joined(rt: &impl Abort, alloc: Global, digest: String, text: String) -> String {
+    let told = format!(in alloc; "{digest} {text}").expect(rt, "memory");
+    drop(digest);
+    drop(text);
+    told
 }
 
 fn digest_of(rt: &impl Abort, alloc: Global, content: &[u8]) -> String {
     let payload = Payload::of(alloc, content).expect(rt, "memory");
-    text_of(rt, alloc, payload.hash_or_unsigned())
+    let told = text_of(rt, alloc, payload.hash_or_unsigned());
+    drop(payload);
+    told
 }

@@ -1,9 +1,9 @@
 //! A link that is given out, and a gateway that lets in who holds it: the example of docs/GUIDE.md.
-use crate::suite::{PUBLISHED, Suite, moment, published};
+use crate::suite::{PUBLISHED, Suite, link_for_ten_minutes, moment, published};
 use sign_base::{Head, NoMemory, Timestamp};
 use sigv4_core::{SigCredential, SigScope};
 use sigv4_presign::round_trip::made_and_checked;
-use sigv4_presign::{Checked, presign, verify};
+use sigv4_presign::{Checked, verify};
 use std::alloc::Global;
 use std::process::Abort;
 
@@ -41,13 +41,17 @@ static ANSWERS: [(i128, u16); 5] = [
 #[test]
 fn a_gateway_lets_in_who_holds_a_link(rt: HostRuntime) {
     let by = published(&rt, rt.alloc());
-    let now = moment(&rt, PUBLISHED);
-    let link = presign(rt.alloc(), &by.head, &by.credential, &by.scope, 600, now);
-    let link = link.expect(&rt, "a link");
+    let link = link_for_ten_minutes(&rt, rt.alloc(), &by);
+    are_answered(&rt, rt.alloc(), &by, &link);
+    drop(link);
+    drop(by);
+}
+
+fn are_answered(rt: &impl Abort, alloc: Global, by: &Suite, link: &Head) {
     for (nanos, wanted) in &ANSWERS {
-        is_answered(&rt, rt.alloc(), &by, &link, *nanos, *wanted);
+        is_answered(rt, alloc, by, link, *nanos, *wanted);
     }
-    is_answered(&rt, rt.alloc(), &by, &by.head, PUBLISHED, 400);
+    is_answered(rt, alloc, by, &by.head, PUBLISHED, 400);
 }
 
 /// The gateway answers this status to a request at this moment.
@@ -76,12 +80,15 @@ static FOUND: [(i128, Checked); 4] = [
 #[test]
 fn a_link_that_is_made_and_comes_back_is_valid_for_its_time(rt: HostRuntime) {
     let by = published(&rt, rt.alloc());
-    let made = moment(&rt, PUBLISHED);
     for (nanos, wanted) in &FOUND {
-        let arrived = moment(&rt, *nanos);
-        let found = found_at(rt.alloc(), &by, made, arrived);
-        assert!(rt; found == Some(*wanted), "{nanos}");
+        is_found(&rt, rt.alloc(), &by, *nanos, *wanted);
     }
+    drop(by);
+}
+
+fn is_found(rt: &impl Abort, alloc: Global, by: &Suite, nanos: i128, wanted: Checked) {
+    let found = found_at(alloc, by, moment(rt, PUBLISHED), moment(rt, nanos));
+    assert!(rt; found == Some(wanted), "{nanos}");
 }
 
 fn found_at(alloc: Global, by: &Suite, made: Timestamp, arrived: Timestamp) -> Option<Checked> {

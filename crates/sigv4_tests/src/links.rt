@@ -1,7 +1,7 @@
 //! Links at moments that no line has, with fractions and before 1970, and the longest link. The values are
 //! published, or those of Python's `hmac`.
 use crate::suite::{PUBLISHED, Suite, moment, published, request_to};
-use crate::told::{is_text, text_of, word};
+use crate::told::{is_text, str_of, text_of, word};
 use sigv4_presign::presign;
 use std::alloc::Global;
 use std::process::Abort;
@@ -30,22 +30,30 @@ fn a_link_is_made_for_the_whole_second_before(rt: HostRuntime) {
     for (nanos, wanted) in &MADE {
         is_text(&rt, made_at(&rt, rt.alloc(), &by, *nanos), *wanted);
     }
+    drop(by);
 }
 
 /// The signature at the end of a link for a day that is made at this moment, or why there is none.
 fn made_at(rt: &impl Abort, alloc: Global, by: &Suite, nanos: i128) -> String {
     let now = moment(rt, nanos);
     match presign(alloc, &by.head, &by.credential, &by.scope, 86_400, now) {
-        Ok(link) => last_of(rt, alloc, link.uri.as_slice()),
+        Ok(link) => {
+            let told = last_of(rt, alloc, link.uri.as_slice());
+            drop(link);
+            told
+        }
         Err(why) => word(rt, alloc, why),
     }
 }
 
 /// What stands behind the last `=`.
 pub(crate) fn last_of(rt: &impl Abort, alloc: Global, text: &[u8]) -> String {
-    let text = str::from_utf8(text).expect(rt, "a text");
-    let (_, signature) = text.rsplit_once('=').expect(rt, "a pair");
-    text_of(rt, alloc, signature.as_bytes())
+    text_of(rt, alloc, last_part(rt, text).as_bytes())
+}
+
+pub(crate) fn last_part<'a>(rt: &impl Abort, text: &'a [u8]) -> &'a str {
+    let (_, signature) = str_of(rt, text).rsplit_once('=').expect(rt, "a pair");
+    signature
 }
 
 /// The longest path whose link `http` takes: with the link's other parts it has 65,534 bytes.
@@ -62,8 +70,17 @@ fn a_link_has_at_most_65534_bytes(rt: HostRuntime) {
 
 /// What is told of the link to a path of so many bytes.
 fn long_link(rt: &impl Abort, alloc: Global, bytes: usize) -> String {
+    let uri = long_uri(rt, alloc, bytes);
+    let by = request_to(rt, alloc, uri.as_str());
+    drop(uri);
+    let told = made_at(rt, alloc, &by, PUBLISHED);
+    drop(by);
+    told
+}
+
+fn long_uri(rt: &impl Abort, alloc: Global, bytes: usize) -> String {
     let path = "a".repeat(alloc, bytes).expect(rt, "memory");
     let uri = format!(in alloc; "https://h.example/{path}").expect(rt, "memory");
-    let by = request_to(rt, alloc, uri.as_str());
-    made_at(rt, alloc, &by, PUBLISHED)
+    drop(path);
+    uri
 }

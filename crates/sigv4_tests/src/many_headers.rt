@@ -29,19 +29,17 @@ fn signed(rt: &impl Abort, alloc: Global, keys: HeaderSeeds, alike: bool) -> Str
     let mut by = request_to(rt, alloc, PLAIN);
     push_headers(rt, alloc, &mut by.head, alike);
     let now = moment(rt, NOW);
-    told(
-        rt,
+    let answer = sign_head_seeded(
         alloc,
-        sign_head_seeded(
-            alloc,
-            &by.head,
-            &by.credential,
-            &by.scope,
-            &by.payload,
-            now,
-            keys,
-        ),
-    )
+        &by.head,
+        &by.credential,
+        &by.scope,
+        &by.payload,
+        now,
+        keys,
+    );
+    drop(by);
+    told(rt, alloc, answer)
 }
 
 fn push_headers(rt: &impl Abort, alloc: Global, head: &mut Head, alike: bool) {
@@ -53,4 +51,5 @@ fn push_headers(rt: &impl Abort, alloc: Global, head: &mut Head, alike: bool) {
 fn push_one(rt: &impl Abort, alloc: Global, head: &mut Head, number: u32) {
     let name = format!(in alloc; "h{number}").expect(rt, "memory");
     push_header(alloc, head, name.as_bytes(), b"v").expect(rt, "memory");
+    drop(name);
 }

@@ -4,6 +4,7 @@
 use crate::everyday::{linked, signed};
 use crate::suite::{Asked, object, plain, request_of};
 use crate::told::is_text;
+use std::alloc::Global;
 use std::process::Abort;
 
 /// URI, service, the signature in the head or the cause why there is none, and botocore's signature, or that
@@ -97,13 +98,20 @@ static HEADS: [(&str, &[u8], &str, &str); 13] = [
 #[test]
 fn heads_are_read_otherwise_or_alike(rt: HostRuntime) {
     for (uri, service, wanted, botocore) in &HEADS {
-        let asked = Asked {
-            service: *service,
-            ..plain(*uri)
-        };
-        let by = request_of(&rt, rt.alloc(), &asked);
-        is_other(&rt, signed(&rt, rt.alloc(), &by), *wanted, *botocore);
+        let told = head_told(&rt, rt.alloc(), *uri, *service);
+        is_other(&rt, told, *wanted, *botocore);
     }
+}
+
+fn head_told(rt: &impl Abort, alloc: Global, uri: &str, service: &[u8]) -> String {
+    let asked = Asked {
+        service,
+        ..plain(uri)
+    };
+    let by = request_of(rt, alloc, &asked);
+    let told = signed(rt, alloc, &by);
+    drop(by);
+    told
 }
 
 /// URI, the link's signature with what its check finds, and botocore's signature, or that it is alike.
@@ -150,10 +158,15 @@ static LINKS: [(&str, &str, &str); 7] = [
 #[test]
 fn links_are_read_otherwise_or_alike(rt: HostRuntime) {
     for (uri, wanted, botocore) in &LINKS {
-        let by = request_of(&rt, rt.alloc(), &object(*uri));
-        let told = linked(&rt, rt.alloc(), &by, 86_400);
-        is_other(&rt, told, *wanted, *botocore);
+        is_other(&rt, link_told(&rt, rt.alloc(), *uri), *wanted, *botocore);
     }
+}
+
+fn link_told(rt: &impl Abort, alloc: Global, uri: &str) -> String {
+    let by = request_of(rt, alloc, &object(uri));
+    let told = linked(rt, alloc, &by, 86_400);
+    drop(by);
+    told
 }
 
 /// This was told, and nothing that botocore has otherwise.

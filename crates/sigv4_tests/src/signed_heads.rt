@@ -2,7 +2,7 @@
 //! the whole second at or before its moment. The values are published, or those of botocore, and for the
 //! year 0 those of Python's `hmac`.
 use crate::suite::{NOW, PLAIN, Suite, moment, request_to};
-use crate::told::{is_text, text_of, word};
+use crate::told::{is_text, str_of, text_of, word};
 use sign_base::{Head, Timestamp};
 use sign_request::HeaderSeeds;
 use sigv4_core::{
@@ -104,7 +104,11 @@ fn text_signed(rt: &impl Abort, alloc: Global, by: &Suite, now: Timestamp) -> St
 /// The values of the last two headers of a signed head, or the cause.
 pub(crate) fn told(rt: &impl Abort, alloc: Global, answer: Result<Head, SigError>) -> String {
     match answer {
-        Ok(head) => last_values(rt, alloc, &head),
+        Ok(head) => {
+            let told = last_values(rt, alloc, &head);
+            drop(head);
+            told
+        }
         Err(why) => word(rt, alloc, why),
     }
 }
@@ -113,8 +117,8 @@ pub(crate) fn last_values(rt: &impl Abort, alloc: Global, head: &Head) -> String
     let [.., moment, authorization] = head.headers.as_slice() else {
         return text_of(rt, alloc, b"two headers are missing");
     };
-    let moment = text_of(rt, alloc, moment.value.as_slice());
-    let authorization = text_of(rt, alloc, authorization.value.as_slice());
+    let moment = str_of(rt, moment.value.as_slice());
+    let authorization = str_of(rt, authorization.value.as_slice());
     format!(in alloc; "{moment} {authorization}").expect(rt, "memory")
 }
 

@@ -3,6 +3,7 @@
 use fixtures::plain_head;
 use sign_base::{Head, Timestamp};
 use sigv4_core::{Payload, SigCredential, SigScope};
+use sigv4_presign::presign;
 use std::alloc::Global;
 use std::process::Abort;
 
@@ -68,6 +69,12 @@ pub(crate) fn object(uri: &str) -> Asked<'_> {
         service: b"s3",
         ..plain(uri)
     }
+}
+
+/// Its link for ten minutes from the published moment on.
+pub(crate) fn link_for_ten_minutes(rt: &impl Abort, alloc: Global, by: &Suite) -> Head {
+    let now = moment(rt, PUBLISHED);
+    presign(alloc, &by.head, &by.credential, &by.scope, 600, now).expect(rt, "a link")
 }
 
 /// In a box it is one value to whoever proves where it is dropped, and not some fifty.

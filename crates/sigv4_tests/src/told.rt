@@ -1,8 +1,5 @@
 //! How the tests compare: what a call told, as a text, with the text that is wanted.
-use fixtures::{Headers, head_with_headers};
-use http::request::Parts;
 use sign_base::Error;
-use sign_request::parts_of;
 use std::alloc::Global;
 use std::fmt;
 use std::process::Abort;
@@ -17,36 +14,27 @@ pub(crate) fn word<T: fmt::Debug + Drop>(rt: &impl Abort, alloc: Global, value: 
     format!(in alloc; "{value:?}").expect(rt, "memory")
 }
 
-/// These bytes as a text.
+/// These bytes, which are a text.
+pub(crate) fn str_of<'a>(rt: &impl Abort, bytes: &'a [u8]) -> &'a str {
+    str::from_utf8(bytes).expect(rt, "a text")
+}
+
+/// These bytes as a text of its own.
 pub(crate) fn text_of(rt: &impl Abort, alloc: Global, bytes: &[u8]) -> String {
-    let text = str::from_utf8(bytes).expect(rt, "a text");
-    String::from_str(alloc, text).expect(rt, "memory")
-}
-
-/// A request for this URI. In a box it is one value to whoever proves where it is dropped.
-pub(crate) fn request(
-    rt: &impl Abort,
-    alloc: Global,
-    uri: &str,
-    headers: Headers<'_>,
-) -> Box<Parts> {
-    let head = head_with_headers(alloc, "GET", uri, headers).expect(rt, "memory");
-    let parts = parts_of(alloc, &head).expect(rt, "a request");
-    drop(head);
-    Box::new(alloc, parts).expect(rt, "memory")
-}
-
-/// The value of this header.
-pub(crate) fn header_of(rt: &impl Abort, alloc: Global, req: &Parts, name: &str) -> String {
-    let value = req.headers.get(name).expect(rt, "a header");
-    text_of(rt, alloc, value.as_bytes())
+    String::from_str(alloc, str_of(rt, bytes)).expect(rt, "memory")
 }
 
 /// The kind and the message of an error, or `made`.
 pub(crate) fn refusal(rt: &impl Abort, alloc: Global, error: Option<Error>) -> String {
-    let Some(error) = error else {
-        return text_of(rt, alloc, b"made");
-    };
+    match error {
+        Some(error) => error_text(rt, alloc, error),
+        None => text_of(rt, alloc, b"made"),
+    }
+}
+
+fn error_text(rt: &impl Abort, alloc: Global, error: Error) -> String {
     let kind = error.kind();
-    format!(in alloc; "{kind:?}: {error}").expect(rt, "memory")
+    let told = format!(in alloc; "{kind:?}: {error}").expect(rt, "memory");
+    drop(error);
+    told
 }

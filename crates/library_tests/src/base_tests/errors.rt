@@ -1,6 +1,6 @@
 //! Errors: that each call that makes one succeeds, how they print, and what is kept of the errors of
 //! libraries and of the system.
-use crate::told::{is_told, shown};
+use crate::told::{Question, are_answered, shown};
 use http_header::{HeaderNameError, HeaderValue, HeaderValueError};
 use http_uri::{Authority, Parts, PathAndQuery, Uri};
 use sign_base::{Error, ErrorKind};
@@ -164,10 +164,14 @@ fn denied(alloc: Global) -> Option<Error> {
     denied.with_context(alloc, "region: eu").ok()
 }
 
+impl Question for Of {
+    fn answer(&self, alloc: Global) -> Option<String> {
+        let error = made(alloc, *self)?;
+        shown(alloc, &error)
+    }
+}
+
 #[test]
 fn errors_keep_their_parts_and_print(rt: HostRuntime) {
-    for (of, wanted) in &MADE {
-        let error = made(rt.alloc(), *of).expect(&rt, "memory");
-        is_told(&rt, shown(rt.alloc(), &error), *wanted);
-    }
+    are_answered(&rt, rt.alloc(), &MADE);
 }

@@ -2,6 +2,7 @@
 use crate::told::is_told;
 use sign_io::{Failed, FaultySource, LineReader, Source};
 use std::alloc::Global;
+use std::process::Abort;
 
 /// Two short lines, a byte at a time, whose fifth read fails, and then the seventh.
 fn with_two_faults(alloc: Global) -> Option<FaultySource> {
@@ -31,8 +32,12 @@ fn gives_d_and_fails(source: &mut FaultySource) -> bool {
 #[test]
 fn nothing_is_read_after_a_fault(rt: HostRuntime) {
     let mut source = with_two_faults(rt.alloc()).expect(&rt, "memory");
-    let mut reader = LineReader::new(rt.alloc()).expect(&rt, "memory");
-    let answers = answers(rt.alloc(), &mut reader, &mut source);
-    is_told(&rt, answers, "Line(***), Fault, Fault, 4 bytes");
+    stops_at_the_first(&rt, rt.alloc(), &mut source);
     assert!(rt; gives_d_and_fails(&mut source));
+}
+
+fn stops_at_the_first(rt: &impl Abort, alloc: Global, source: &mut FaultySource) {
+    let mut reader = LineReader::new(alloc).expect(rt, "memory");
+    let answers = answers(alloc, &mut reader, source);
+    is_told(rt, answers, "Line(***), Fault, Fault, 4 bytes");
 }

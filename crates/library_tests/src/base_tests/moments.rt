@@ -1,5 +1,5 @@
 //! Moments: printed in four formats, read, and refused.
-use crate::told::{is_told, shown};
+use crate::told::{Question, are_answered, is_told, shown};
 use sign_base::{Error, Timestamp};
 use sign_time::{FormatMoment, ReadMoment};
 use std::alloc::Global;
@@ -129,17 +129,17 @@ fn formatted(alloc: Global, moment: Timestamp, format: usize) -> Option<String> 
 }
 
 /// Whether these are the four texts of a moment.
-fn prints_as(rt: &impl Abort, alloc: Global, second: i64, texts: &[&str; 4]) {
-    let moment = Timestamp::from_second(alloc, second).expect(rt, "a moment");
-    for (format, text) in texts.iter().enumerate() {
-        is_told(rt, formatted(alloc, moment, format), *text);
+fn prints_as(rt: &impl Abort, alloc: Global, row: &(i64, [&str; 4])) {
+    let moment = Timestamp::from_second(alloc, row.0).expect(rt, "a moment");
+    for format in 0..4 {
+        is_told(rt, formatted(alloc, moment, format), row.1[format]);
     }
 }
 
 #[test]
 fn moments_print_in_four_formats(rt: HostRuntime) {
-    for (second, texts) in &MOMENTS {
-        prints_as(&rt, rt.alloc(), *second, texts);
+    for row in &MOMENTS {
+        prints_as(&rt, rt.alloc(), row);
     }
 }
 
@@ -259,10 +259,13 @@ static READ: [(From, &str); 23] = [
     ),
 ];
 
+impl Question for From {
+    fn answer(&self, alloc: Global) -> Option<String> {
+        shown(alloc, &read(alloc, *self))
+    }
+}
+
 #[test]
 fn moments_are_read_or_refused(rt: HostRuntime) {
-    for (from, wanted) in &READ {
-        let answer = read(rt.alloc(), *from);
-        is_told(&rt, shown(rt.alloc(), &answer), *wanted);
-    }
+    are_answered(&rt, rt.alloc(), &READ);
 }

@@ -30,12 +30,18 @@ fn polled(alloc: Global, chain: &Chain, ctx: &Asked, load: &mut Load) -> Option<
     format!(in alloc; "{answer:?}, asked {asked}").ok()
 }
 
-/// Whether the polls of a load of this chain answer so.
-fn answers(rt: &impl Abort, alloc: Global, chain: &Chain, polls: &[&str]) {
+/// Whether the polls of a load of a row's chain answer so.
+fn answers(rt: &impl Abort, alloc: Global, row: &(&[Says], &[&str])) {
+    let chain = chain_of(alloc, row.0).expect(rt, "memory");
     let ctx = Asked::new();
-    let mut load = chain.provide_credential(alloc, &ctx).expect(rt, "memory");
+    are_polled(rt, alloc, &chain, &ctx, row.1);
+    drop(chain);
+}
+
+fn are_polled(rt: &impl Abort, alloc: Global, chain: &Chain, ctx: &Asked, polls: &[&str]) {
+    let mut load = chain.provide_credential(alloc, ctx).expect(rt, "memory");
     for wanted in polls {
-        is_told(rt, polled(alloc, chain, &ctx, &mut load), *wanted);
+        is_told(rt, polled(alloc, chain, ctx, &mut load), *wanted);
     }
 }
 
@@ -61,9 +67,8 @@ static ANSWERS: [(&[Says], &[&str]); 6] = [
 
 #[test]
 fn chains_answer_their_first_found(rt: HostRuntime) {
-    for (says, polls) in &ANSWERS {
-        let chain = chain_of(rt.alloc(), *says).expect(&rt, "memory");
-        answers(&rt, rt.alloc(), &chain, *polls);
+    for row in &ANSWERS {
+        answers(&rt, rt.alloc(), row);
     }
 }
 

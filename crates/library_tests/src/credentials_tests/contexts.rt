@@ -1,7 +1,7 @@
 //! What a context answers of its objects: what they answer, as text where it is asked for text, and a
 //! refusal where an object is not there.
 use super::objects::AlwaysA;
-use crate::told::{is_told, shown};
+use crate::told::{Question, are_answered, shown};
 use bytes::Bytes;
 use credentials::{CommandExecute, Context, FileRead, HttpSend, NoopEnv};
 use http::Request;
@@ -76,31 +76,38 @@ fn output<F: FileRead, H: HttpSend, C: CommandExecute>(
     shown(alloc, &ctx.poll_command(alloc, &mut run))
 }
 
-/// What objects answer that answer `a`, but for the file `/empty`.
-static ANSWERS: [(Ask, &str); 6] = [
-    (Ask::File, "Ready([97])"),
-    (Ask::FileAsString("/a"), "Ready(\"a\")"),
-    (Ask::FileAsString("/empty"), "Ready(\"\")"),
+/// What is asked of objects that answer `a`, but for the file `/empty`.
+#[derive(Clone, Copy)]
+struct OfObjects(Ask);
+
+impl Question for OfObjects {
+    fn answer(&self, alloc: Global) -> Option<String> {
+        let ctx = Context::new()
+            .with_file_read(AlwaysA)
+            .with_http_send(AlwaysA)
+            .with_command_execute(AlwaysA);
+        answer(alloc, &ctx, self.0)
+    }
+}
+
+static ANSWERS: [(OfObjects, &str); 6] = [
+    (OfObjects(Ask::File), "Ready([97])"),
+    (OfObjects(Ask::FileAsString("/a")), "Ready(\"a\")"),
+    (OfObjects(Ask::FileAsString("/empty")), "Ready(\"\")"),
     (
-        Ask::Response,
+        OfObjects(Ask::Response),
         r#"Ready(Response { status: 200, version: HTTP/1.1, headers: {}, body: b"a" })"#,
     ),
     (
-        Ask::ResponseAsString,
+        OfObjects(Ask::ResponseAsString),
         r#"Ready(Response { status: 200, version: HTTP/1.1, headers: {}, body: "a" })"#,
     ),
-    (Ask::Command, "Ready(CommandOutput(***))"),
+    (OfObjects(Ask::Command), "Ready(CommandOutput(***))"),
 ];
 
 #[test]
 fn objects_answer(rt: HostRuntime) {
-    let ctx = Context::new()
-        .with_file_read(AlwaysA)
-        .with_http_send(AlwaysA)
-        .with_command_execute(AlwaysA);
-    for (ask, wanted) in &ANSWERS {
-        is_told(&rt, answer(rt.alloc(), &ctx, *ask), *wanted);
-    }
+    are_answered(&rt, rt.alloc(), &ANSWERS);
 }
 
 const NO_FILE: &str =
@@ -112,18 +119,25 @@ const NO_RESPONSE: &str =
 const NO_OUTPUT: &str =
     r#"Failed(Error { kind: Unexpected, message: "command execution not supported: no command executor configured", retryable: false })"#;
 
-/// What a context answers that has no objects.
-static REFUSED: [(Ask, &str); 5] = [
-    (Ask::File, NO_FILE),
-    (Ask::FileAsString("/a"), NO_FILE),
-    (Ask::Response, NO_RESPONSE),
-    (Ask::ResponseAsString, NO_RESPONSE),
-    (Ask::Command, NO_OUTPUT),
+/// What is asked of a context that has no objects.
+#[derive(Clone, Copy)]
+struct OfNone(Ask);
+
+impl Question for OfNone {
+    fn answer(&self, alloc: Global) -> Option<String> {
+        answer(alloc, &Context::new(), self.0)
+    }
+}
+
+static REFUSED: [(OfNone, &str); 5] = [
+    (OfNone(Ask::File), NO_FILE),
+    (OfNone(Ask::FileAsString("/a")), NO_FILE),
+    (OfNone(Ask::Response), NO_RESPONSE),
+    (OfNone(Ask::ResponseAsString), NO_RESPONSE),
+    (OfNone(Ask::Command), NO_OUTPUT),
 ];
 
 #[test]
 fn objects_that_are_not_there_fail(rt: HostRuntime) {
-    for (ask, wanted) in &REFUSED {
-        is_told(&rt, answer(rt.alloc(), &Context::new(), *ask), *wanted);
-    }
+    are_answered(&rt, rt.alloc(), &REFUSED);
 }

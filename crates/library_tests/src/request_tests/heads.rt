@@ -1,6 +1,6 @@
 //! Heads of `http` and plain ones, in both directions, and what is refused.
 use super::parts;
-use crate::told::{is_told, shown};
+use crate::told::{Question, are_answered, shown};
 use fixtures::{head_with_headers, plain_head, push_header};
 use http::request::Parts;
 use sign_base::Head;
@@ -12,10 +12,15 @@ fn answer(alloc: Global, head: &Head) -> Option<String> {
     shown(alloc, &parts_of(alloc, head))
 }
 
-/// What it answers to a head with one header.
-fn crossed(alloc: Global, method: &str, uri: &str, name: &str, value: &[u8]) -> Option<String> {
-    let head = head_with_headers(alloc, method, uri, &[(name, value)]).ok()?;
-    answer(alloc, &head)
+/// A head with one header: its method, its URI, and the header's name and value.
+#[derive(Clone, Copy)]
+struct Of(&'static str, &'static str, &'static str, &'static [u8]);
+
+impl Question for Of {
+    fn answer(&self, alloc: Global) -> Option<String> {
+        let head = head_with_headers(alloc, self.0, self.1, &[(self.2, self.3)]).ok()?;
+        answer(alloc, &head)
+    }
 }
 
 const METHOD: &str =
@@ -36,31 +41,25 @@ const NAME: &str =
 const VALUE: &str =
     r#"Err(Error { kind: RequestInvalid, message: "failed to parse header value", retryable: false })"#;
 
-/// The method, the URI, the name and the value of a header, and what `parts_of` answers.
-static CROSSED: [(&str, &str, &str, &[u8], &str); 9] = [
+/// What `parts_of` answers to heads.
+static CROSSED: [(Of, &str); 9] = [
     (
-        "PUT",
-        "https://e.x/a",
-        "X",
-        b"v",
+        Of("PUT", "https://e.x/a", "X", b"v"),
         r#"Ok(Parts { method: PUT, uri: https://e.x/a, version: HTTP/1.1, headers: {"x": "v"} })"#,
     ),
-    ("no token", "/", "x", b"v", METHOD),
-    ("", "/", "x", b"v", METHOD),
-    ("GET", "e.x/a", "x", b"v", FORMAT),
-    ("GET", ": ", "x", b"v", CHARACTER),
-    ("GET", "", "x", b"v", EMPTY),
-    ("GET", "/", "no token", b"v", NAME),
-    ("GET", "/", "", b"v", NAME),
-    ("GET", "/", "x", b"\n", VALUE),
+    (Of("no token", "/", "x", b"v"), METHOD),
+    (Of("", "/", "x", b"v"), METHOD),
+    (Of("GET", "e.x/a", "x", b"v"), FORMAT),
+    (Of("GET", ": ", "x", b"v"), CHARACTER),
+    (Of("GET", "", "x", b"v"), EMPTY),
+    (Of("GET", "/", "no token", b"v"), NAME),
+    (Of("GET", "/", "", b"v"), NAME),
+    (Of("GET", "/", "x", b"\n"), VALUE),
 ];
 
 #[test]
 fn heads_cross_or_are_refused(rt: HostRuntime) {
-    for (method, uri, name, value, wanted) in &CROSSED {
-        let answer = crossed(rt.alloc(), *method, *uri, *name, *value);
-        is_told(&rt, answer, *wanted);
-    }
+    are_answered(&rt, rt.alloc(), &CROSSED);
 }
 
 /// What `commit` answers to a plain head, and the head after it, which crosses twice to be shown.
@@ -71,28 +70,49 @@ fn commit_told(alloc: Global, head: &mut Parts, plain: &Head) -> Option<String> 
     format!(in alloc; "{answer:?} {after:?}").ok()
 }
 
-fn committed(alloc: Global, name: &str) -> Option<String> {
-    let plain = head_with_headers(alloc, "PUT", "/b", &[("y", b"w"), (name, b"z")]).ok()?;
-    let mut head = parts(alloc, "https://e.x/a", &[("x", b"v")])?;
-    commit_told(alloc, &mut *head, &plain)
+/// The name of a header of the plain head.
+#[derive(Clone, Copy)]
+struct Named(&'static str);
+
+impl Question for Named {
+    fn answer(&self, alloc: Global) -> Option<String> {
+        let plain = head_with_headers(alloc, "PUT", "/b", &[("y", b"w"), (self.0, b"z")]).ok()?;
+        let mut head = parts(alloc, "https://e.x/a", &[("x", b"v")])?;
+        commit_told(alloc, &mut *head, &plain)
+    }
 }
 
-/// The name of a header, and what `commit` answers: all or nothing.
-static COMMITTED: [(&str, &str); 2] = [
+/// What `commit` answers: all or nothing.
+static COMMITTED: [(Named, &str); 2] = [
     (
-        "Y",
+        Named("Y"),
         r#"Ok(()) Parts { method: GET, uri: /b, version: HTTP/1.1, headers: {"y": "w", "y": "z"} }"#,
     ),
     (
-        "no token",
+        Named("no token"),
         r#"Err(Error { kind: RequestInvalid, message: "invalid HTTP header name", retryable: false }) Parts { method: GET, uri: https://e.x/a, version: HTTP/1.1, headers: {"x": "v"} }"#,
     ),
 ];
 
 #[test]
 fn a_commit_is_whole_or_nothing(rt: HostRuntime) {
-    for (name, wanted) in &COMMITTED {
-        is_told(&rt, committed(rt.alloc(), *name), *wanted);
+    are_answered(&rt, rt.alloc(), &COMMITTED);
+}
+
+/// A head past a limit: a URI has at most 65,534 bytes, and a head 24,576 names.
+#[derive(Clone, Copy)]
+enum Past {
+    Bytes,
+    Names,
+}
+
+impl Question for Past {
+    fn answer(&self, alloc: Global) -> Option<String> {
+        let head = match self {
+            Past::Bytes => far(alloc)?,
+            Past::Names => crowded(alloc)?,
+        };
+        answer(alloc, &head)
     }
 }
 
@@ -119,12 +139,9 @@ const TOO_LONG: &str =
 const TOO_MANY: &str =
     r#"Err(Error { kind: RequestInvalid, message: "max size reached", retryable: false })"#;
 
-/// A URI has at most 65,534 bytes, and a head 24,576 names.
+static PAST: [(Past, &str); 2] = [(Past::Bytes, TOO_LONG), (Past::Names, TOO_MANY)];
+
 #[test]
 fn heads_past_a_limit_are_refused(rt: HostRuntime) {
-    let head = far(rt.alloc()).expect(&rt, "memory");
-    is_told(&rt, answer(rt.alloc(), &head), TOO_LONG);
-    drop(head);
-    let head = crowded(rt.alloc()).expect(&rt, "memory");
-    is_told(&rt, answer(rt.alloc(), &head), TOO_MANY);
+    are_answered(&rt, rt.alloc(), &PAST);
 }

@@ -28,7 +28,7 @@ use std::process::Abort;
 use std::time::Duration;
 
 /// Answers the request of its row of `ASKED` with its row of `ANSWERS`, and all others with status 400.
-#[derive(Drop)]
+#[derive(Clone, Copy)]
 struct Sts {
     asked: usize,
     answer: usize,
@@ -110,7 +110,9 @@ fn answer_at(row: Option<usize>) -> (u16, usize, &'static str) {
 fn text_with(alloc: Global, spaces: usize, text: &str) -> Option<String> {
     let (before, behind) = text.split_once('@').unwrap_or(("", text));
     let gap = " ".repeat(alloc, spaces).ok()?;
-    format!(in alloc; "{before}{gap}{behind}").ok()
+    let text = format!(in alloc; "{before}{gap}{behind}");
+    drop(gap);
+    text.ok()
 }
 
 type Surroundings = ClockedContext<NoopFileRead, Sts, OsEnv, NoopCommandExecute, PollClock>;
@@ -124,22 +126,23 @@ const END: i128 = 1_573_306_481_000_000_000;
 
 /// A broker of the published role. In a box it is one value to whoever proves where it is dropped.
 fn broker(rt: &impl Abort, alloc: Global, set: Variables, sts: Sts) -> Box<Broker> {
-    let clock = PollClock::new(alloc, moment(rt, ASKED_AT)).expect(rt, "memory");
-    let context = ClockedContext {
-        objects: Context::new()
-            .with_env(environment(rt, alloc, set))
-            .with_http_send(sts),
-        clock,
-    };
+    let context = surroundings(rt, alloc, set, sts);
     let service = AssumeRole::new(
         SigScope::new(alloc, b"us-east-1", b"sts").expect(rt, "a scope"),
         role(alloc).expect(rt, "memory"),
     );
     let provider = Providers::Single(EnvironmentProvider::new());
-    let broker = Granter::new(alloc, context, provider, service)
-        .ok()
-        .expect(rt, "memory");
-    Box::new(alloc, broker).expect(rt, "memory")
+    let broker = Granter::new(alloc, context, provider, service).ok();
+    Box::new(alloc, broker.expect(rt, "memory")).expect(rt, "memory")
+}
+
+fn surroundings(rt: &impl Abort, alloc: Global, set: Variables, sts: Sts) -> Surroundings {
+    let clock = PollClock::new(alloc, moment(rt, ASKED_AT)).expect(rt, "memory");
+    let env = environment(rt, alloc, set);
+    ClockedContext {
+        objects: Context::new().with_env(env).with_http_send(sts),
+        clock,
+    }
 }
 
 fn role(alloc: Global) -> Result<Role, NoMemory<()>> {
@@ -211,11 +214,12 @@ where
         }
         GrantPoll::Given(session) => {
             tell_session(rt, alloc, told, &session);
+            drop(session);
             None
         }
         GrantPoll::Refused(why) => {
             let error = why.into_error(alloc, SessionCredential::NAME).ok();
-            tell(rt, told, refusal(rt, alloc, error).as_str());
+            tell_text(rt, told, refusal(rt, alloc, error));
             None
         }
     }
@@ -225,9 +229,14 @@ fn tell(rt: &impl Abort, told: &mut String, words: &str) {
     told.push_str(words).expect(rt, "memory");
 }
 
+fn tell_text(rt: &impl Abort, told: &mut String, text: String) {
+    tell(rt, told, text.as_str());
+    drop(text);
+}
+
 /// Tells the key and the token, and that the session ends at the published moment, if it does.
 fn tell_session(rt: &impl Abort, alloc: Global, told: &mut String, session: &SessionCredential) {
-    tell(rt, told, key_and_token(rt, alloc, session).as_str());
+    tell_text(rt, told, key_and_token(rt, alloc, session));
     if session.is_valid(moment(rt, END - 1)) && !session.is_valid(moment(rt, END)) {
         tell(rt, told, " to the end");
     }

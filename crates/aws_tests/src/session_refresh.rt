@@ -115,11 +115,23 @@ fn each_session_signs_with_its_own_token(rt: HostRuntime) {
     let clock = PollClock::new(rt.alloc(), moment(&rt, NOW)).expect(&rt, "memory");
     let mut signer = short_signer(rt.alloc(), &clock).expect(&rt, "memory");
     let mut req = request(&rt, rt.alloc(), PLAIN, &[]);
+    are_signed(&rt, rt.alloc(), &clock, &mut signer, &mut req);
+    drop(req);
+    drop(signer);
+    drop(clock);
+}
+
+fn are_signed(
+    rt: &impl Abort,
+    alloc: Global,
+    clock: &PollClock,
+    signer: &mut ShortSigner,
+    req: &mut Parts,
+) {
     for (second, wanted) in &CALLS {
-        let now = moment(&rt, NOW + i128::from(*second) * 1_000_000_000);
+        let now = moment(rt, NOW + i128::from(*second) * 1_000_000_000);
         clock.set(now);
-        let told = signed(&rt, rt.alloc(), &mut signer, &mut req, now);
-        is_text(&rt, told, *wanted);
+        is_text(rt, signed(rt, alloc, signer, req, now), *wanted);
     }
 }
 
@@ -138,10 +150,9 @@ fn signed(
 
 /// The token and the signature of a request.
 fn told(rt: &impl Abort, alloc: Global, req: &Parts) -> String {
-    let token = header_of(rt, alloc, req, "x-amz-security-token");
-    let authorization = header_of(rt, alloc, req, "authorization");
+    let token = header_of(rt, req, "x-amz-security-token");
+    let authorization = header_of(rt, req, "authorization");
     let (_, signature) = authorization
-        .as_str()
         .split_once("Signature=")
         .expect(rt, "a signature");
     format!(in alloc; "{token} {signature}").expect(rt, "memory")

@@ -4,7 +4,7 @@ use crate::processes::{Login, answered};
 use crate::shared_files::{Program, SomeFiles, environment};
 use crate::told::{is_text, text_of};
 use aws_process::ProfileProcessProvider;
-use credentials::Context;
+use credentials::{Context, NoopHttpSend, OsEnv};
 use std::alloc::Global;
 use std::process::Abort;
 
@@ -97,9 +97,24 @@ fn told_by(rt: &impl Abort, alloc: Global, program: &Program) -> String {
         .with_file_read(SomeFiles(program.2))
         .with_env(environment(rt, alloc, program))
         .with_command_execute(Login);
-    let provider = match program.3 {
+    let told = told_in(rt, alloc, program.3, &context);
+    drop(context);
+    told
+}
+
+type Surroundings = Context<SomeFiles, NoopHttpSend, OsEnv, Login>;
+
+fn told_in(
+    rt: &impl Abort,
+    alloc: Global,
+    profile: Option<&str>,
+    context: &Surroundings,
+) -> String {
+    let provider = match profile {
         Some(name) => ProfileProcessProvider::of_profile(text_of(rt, alloc, name.as_bytes())),
         None => ProfileProcessProvider::new(),
     };
-    answered(rt, alloc, &provider, &context)
+    let told = answered(rt, alloc, &provider, context);
+    drop(provider);
+    told
 }

@@ -2,7 +2,7 @@
 ghost use Rattle.std.specs.Prelude.{⊤};
 
 use crate::documents::key_and_token;
-use crate::told::{is_text, text_of};
+use crate::told::{is_text, message_of, str_of, text_of};
 use aws_credentials::SessionCredential;
 use aws_process::{ProcessProvider, SplitFault, split_words};
 use credentials::{
@@ -79,7 +79,7 @@ fn output(alloc: Global, status: i32, printed: &str) -> Polled<CommandOutput> {
 }
 
 /// The status and what is printed, and what the provider answers.
-const RUNS: [(&str, &str, &str); 5] = [
+static RUNS: [(&str, &str, &str); 5] = [
     (
         "0",
         "{\"Version\":1,\"AccessKeyId\":\"AKIDEXAMPLE\",\"SecretAccessKey\":\"hidden\",\"SessionToken\":\"t\"}",
@@ -100,11 +100,11 @@ type Surroundings = Context<NoopFileRead, NoopHttpSend, NoopEnv, Login>;
 #[test]
 fn processes_print_credentials(rt: HostRuntime) {
     let ctx = Context::new().with_command_execute(Login);
-    for (status, printed, wanted) in RUNS {
+    for (status, printed, wanted) in &RUNS {
         is_text(
             &rt,
-            answer_of(&rt, rt.alloc(), status, printed, &ctx),
-            wanted,
+            answer_of(&rt, rt.alloc(), *status, *printed, &ctx),
+            *wanted,
         );
     }
 }
@@ -117,13 +117,23 @@ fn answer_of(
     printed: &str,
     ctx: &Surroundings,
 ) -> String {
+    let program = text_of(rt, alloc, b"/opt/bin/login");
+    let provider = ProcessProvider::new(program, args_of(rt, alloc, status, printed));
+    let told = answered(rt, alloc, &provider, ctx);
+    drop(provider);
+    told
+}
+
+fn args_of(rt: &impl Abort, alloc: Global, status: &str, printed: &str) -> Vec<String> {
     let mut args = Vec::new(alloc);
-    args.push(text_of(rt, alloc, status.as_bytes()))
+    push_arg(rt, alloc, &mut args, status);
+    push_arg(rt, alloc, &mut args, printed);
+    args
+}
+
+fn push_arg(rt: &impl Abort, alloc: Global, args: &mut Vec<String>, arg: &str) {
+    args.push(text_of(rt, alloc, arg.as_bytes()))
         .expect(rt, "memory");
-    args.push(text_of(rt, alloc, printed.as_bytes()))
-        .expect(rt, "memory");
-    let provider = ProcessProvider::new(text_of(rt, alloc, b"/opt/bin/login"), args);
-    answered(rt, alloc, &provider, ctx)
 }
 
 /// What a provider answers in the end, in words. It is polled eight times at most.
@@ -146,17 +156,25 @@ where
 
 fn words_of(rt: &impl Abort, alloc: Global, answer: Polled<Option<SessionCredential>>) -> String {
     match answer {
-        Polled::Ready(Some(session)) => key_and_token(rt, alloc, &session),
-        Polled::Ready(None) => text_of(rt, alloc, b"none"),
-        Polled::Failed(error) => format!(in alloc; "{error}").expect(rt, "memory"),
+        Polled::Ready(found) => session_told(rt, alloc, found),
+        Polled::Failed(error) => message_of(rt, alloc, error),
         Polled::Pending => text_of(rt, alloc, b"pending"),
         Polled::OutOfMemory => text_of(rt, alloc, b"out of memory"),
     }
 }
 
+fn session_told(rt: &impl Abort, alloc: Global, found: Option<SessionCredential>) -> String {
+    let told = match &found {
+        Some(session) => key_and_token(rt, alloc, session),
+        None => text_of(rt, alloc, b"none"),
+    };
+    drop(found);
+    told
+}
+
 /// Lines, and their words as Python 3.11's `shlex.split` has them, each between `<` and `>`, or the fault that
 /// it names: "No closing quotation" or "No escaped character".
-const LINES: [(&str, &str); 32] = [
+static LINES: [(&str, &str); 32] = [
     ("/opt/bin/login \"a b\" --x", "</opt/bin/login><a b><--x>"),
     ("", ""),
     (" \t\r\n ", ""),
@@ -193,14 +211,18 @@ const LINES: [(&str, &str); 32] = [
 
 #[test]
 fn a_line_has_the_words_that_shlex_splits(rt: HostRuntime) {
-    for (line, wanted) in LINES {
-        is_text(&rt, words_told(&rt, rt.alloc(), line), wanted);
+    for (line, wanted) in &LINES {
+        is_text(&rt, words_told(&rt, rt.alloc(), *line), *wanted);
     }
 }
 
 fn words_told(rt: &impl Abort, alloc: Global, line: &str) -> String {
     match split_words(alloc, line.as_bytes()) {
-        Ok(words) => between_marks(rt, alloc, words.as_slice()),
+        Ok(words) => {
+            let told = between_marks(rt, alloc, words.as_slice());
+            drop(words);
+            told
+        }
         Err(SplitFault::Quote) => text_of(rt, alloc, b"No closing quotation"),
         Err(SplitFault::Escape) => text_of(rt, alloc, b"No escaped character"),
         Err(SplitFault::OutOfMemory) => text_of(rt, alloc, b"out of memory"),
@@ -210,8 +232,13 @@ fn words_told(rt: &impl Abort, alloc: Global, line: &str) -> String {
 fn between_marks(rt: &impl Abort, alloc: Global, words: &[Vec<u8>]) -> String {
     let mut told = String::new(alloc);
     for word in words {
-        let word = text_of(rt, alloc, word.as_slice());
-        told = format!(in alloc; "{told}<{word}>").expect(rt, "memory");
+        push_marked(rt, &mut told, str_of(rt, word.as_slice()));
     }
     told
+}
+
+fn push_marked(rt: &impl Abort, told: &mut String, word: &str) {
+    told.push_str("<").expect(rt, "memory");
+    told.push_str(word).expect(rt, "memory");
+    told.push_str(">").expect(rt, "memory");
 }

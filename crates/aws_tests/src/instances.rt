@@ -13,7 +13,7 @@ use aws_credentials::{ClockedContext, PollClock};
 use aws_instance::InstanceProvider;
 use aws_service::{AwsService, ContentRule, LeftOut};
 use credentials::{Context, FileRead, NoopCommandExecute, OsEnv, Polled};
-use sign_base::{Error, NoMemory};
+use sign_base::NoMemory;
 use signer::Signer;
 use sigv4_core::{Payload, SigScope};
 use std::alloc::Global;
@@ -180,7 +180,9 @@ fn instances_ask_their_metadata_service(rt: HostRuntime) {
 /// What the provider answers in the end, in words.
 fn asked(rt: &impl Abort, alloc: Global, set: Variables, row: usize) -> String {
     let ctx = asking(rt, alloc, set, Table::Instances, row);
-    answered(rt, alloc, &InstanceProvider::new(), &ctx)
+    let told = answered(rt, alloc, &InstanceProvider::new(), &ctx);
+    drop(ctx);
+    told
 }
 
 /// Reads the text of `/etc/aws/config`, at once.
@@ -226,21 +228,22 @@ type Surroundings = ClockedContext<ConfigFile, Routes, OsEnv, NoopCommandExecute
 
 type InstanceSigner = Signer<DefaultProvider<Surroundings>, AwsService<Surroundings>>;
 
-/// A signer for a bucket in us-east-1, with the credential of the first provider that finds one.
-fn instance_signer(
-    alloc: Global,
-    objects: Context<ConfigFile, Routes, OsEnv, NoopCommandExecute>,
-    clock: PollClock,
-) -> Result<InstanceSigner, Error> {
-    let service = AwsService::new(
-        SigScope::new(alloc, b"us-east-1", b"s3")?,
-        Payload::unsigned(alloc)?,
+/// A signer for a bucket in us-east-1, with the credential of the first provider that finds one. In a box it is
+/// one value to whoever proves where it is dropped.
+fn instance_signer(rt: &impl Abort, alloc: Global, context: Surroundings) -> Box<InstanceSigner> {
+    let service = s3_service(rt, alloc);
+    let providers = default_chain(alloc).expect(rt, "memory");
+    let signer = Signer::new(alloc, context, providers, service).ok();
+    Box::new(alloc, signer.expect(rt, "memory")).expect(rt, "memory")
+}
+
+fn s3_service(rt: &impl Abort, alloc: Global) -> AwsService<Surroundings> {
+    AwsService::new(
+        SigScope::new(alloc, b"us-east-1", b"s3").expect(rt, "a scope"),
+        Payload::unsigned(alloc).expect(rt, "memory"),
         ContentRule::OfHead,
-        LeftOut::agents(alloc)?,
-    );
-    let context = ClockedContext { objects, clock };
-    let providers = default_chain(alloc)?;
-    Signer::new(alloc, context, providers, service).map_err(|_| Error::out_of_memory())
+        LeftOut::agents(alloc).expect(rt, "memory"),
+    )
 }
 
 const SIGNED: &str =
@@ -258,7 +261,15 @@ fn a_program_on_an_instance_signs_for_s3(rt: HostRuntime) {
 
 /// What is told of the request on the instance of this row: its last header, or the error.
 fn signed_on(rt: &impl Abort, alloc: Global, row: usize) -> String {
+    let mut signer = instance_signer(rt, alloc, surroundings(rt, alloc, row));
+    let told = signed_by(rt, alloc, &mut signer, moment(rt, PUBLISHED));
+    drop(signer);
+    told
+}
+
+fn surroundings(rt: &impl Abort, alloc: Global, row: usize) -> Surroundings {
     let set = INSTANCES.get(row).map(|it| it.0).expect(rt, "a row");
+    let clock = PollClock::new(alloc, moment(rt, PUBLISHED)).expect(rt, "memory");
     let objects = Context::new()
         .with_file_read(ConfigFile)
         .with_env(environment(rt, alloc, set))
@@ -267,10 +278,5 @@ fn signed_on(rt: &impl Abort, alloc: Global, row: usize) -> String {
             row,
             waits: false,
         });
-    let now = moment(rt, PUBLISHED);
-    let clock = PollClock::new(alloc, now).expect(rt, "memory");
-    let mut signer = instance_signer(alloc, objects, clock).expect(rt, "a signer");
-    let told = signed_by(rt, alloc, &mut signer, now);
-    drop(signer);
-    told
+    ClockedContext { objects, clock }
 }

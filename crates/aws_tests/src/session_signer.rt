@@ -1,7 +1,7 @@
 //! A signer of requests for S3 with the credentials of the environment, which docs/GUIDE.md walks through.
 //! Its signatures are those of Python's `hmac`.
 use crate::suite::{OBJECT, PUBLISHED, moment};
-use crate::told::{header_of, is_text, request, text_of};
+use crate::told::{header_of, is_text, message_of, request, text_of};
 use aws_credentials::{ClockedContext, EnvironmentProvider, PollClock};
 use aws_service::{AwsService, ContentRule, LeftOut, sign_now};
 use credentials::{
@@ -85,12 +85,19 @@ fn a_request_for_s3_is_signed_by_the_environment(rt: HostRuntime) {
 /// What is told of the request in this environment.
 fn signed_in(rt: &impl Abort, alloc: Global, set: Variables) -> String {
     let now = moment(rt, PUBLISHED);
-    let clock = PollClock::new(alloc, now).expect(rt, "memory");
-    let env = environment(rt, alloc, set);
-    let mut signer = s3_signer(alloc, env, &clock).expect(rt, "memory");
+    let mut signer = boxed_signer(rt, alloc, set, now);
     let told = signed_by(rt, alloc, &mut signer, now);
     drop(signer);
     told
+}
+
+fn boxed_signer(rt: &impl Abort, alloc: Global, set: Variables, now: Timestamp) -> Box<S3Signer> {
+    let clock = PollClock::new(alloc, now).expect(rt, "memory");
+    let env = environment(rt, alloc, set);
+    let signer = s3_signer(alloc, env, &clock).expect(rt, "memory");
+    drop(clock);
+    // In a box it is one value to whoever proves where it is dropped.
+    Box::new(alloc, signer).expect(rt, "memory")
 }
 
 /// What is told of a request for the published object, signed at this moment: its last header, or the error.
@@ -107,10 +114,12 @@ where
 {
     assert!(rt; signer.desk().handles() > 0);
     let mut req = request(rt, alloc, OBJECT, &[("user-agent", b"curl/8")]);
-    match sign_now(alloc, signer, 0, &mut req, None, now) {
-        Ok(()) => header_of(rt, alloc, &req, "authorization"),
-        Err(error) => format!(in alloc; "{error}").expect(rt, "memory"),
-    }
+    let told = match sign_now(alloc, signer, 0, &mut req, None, now) {
+        Ok(()) => text_of(rt, alloc, header_of(rt, &req, "authorization").as_bytes()),
+        Err(error) => message_of(rt, alloc, error),
+    };
+    drop(req);
+    told
 }
 
 /// An environment in which these variables are set.
@@ -121,9 +130,13 @@ pub(crate) fn environment(rt: &impl Abort, alloc: Global, set: Variables) -> OsE
 pub(crate) fn variables(rt: &impl Abort, alloc: Global, set: Variables) -> Vec<(String, String)> {
     let mut list = Vec::new(alloc);
     for (name, value) in set {
-        let name = text_of(rt, alloc, name.as_bytes());
-        let value = text_of(rt, alloc, value.as_bytes());
-        list.push((name, value)).expect(rt, "memory");
+        list.push(variable(rt, alloc, *name, *value))
+            .expect(rt, "memory");
     }
     list
+}
+
+fn variable(rt: &impl Abort, alloc: Global, name: &str, value: &str) -> (String, String) {
+    let name = text_of(rt, alloc, name.as_bytes());
+    (name, text_of(rt, alloc, value.as_bytes()))
 }

@@ -1,7 +1,7 @@
 //! Documents of credentials, good and bad, with what Python's `json` and `datetime` find in them. The first
 //! two are those of the pages of AWS on instance metadata and on roles of tasks.
 use crate::suite::moment;
-use crate::told::{is_text, refusal, text_of};
+use crate::told::{is_text, refusal, str_of, text_of};
 use aws_credentials::SessionCredential;
 use aws_json::DocumentForm::{self, Endpoint, Process};
 use aws_json::session_of_json;
@@ -89,16 +89,26 @@ fn has(
     wanted: &str,
     expires: Option<i128>,
 ) {
-    let found = session_of_json(alloc, form, "the test", text).expect(rt, "a document");
-    let session = found.expect(rt, "a credential");
+    let session = session_in(rt, alloc, form, text);
     is_text(rt, key_and_token(rt, alloc, &session), wanted);
     lasts_until(rt, &session, expires);
     drop(session);
 }
 
+/// In a box it is one value to whoever proves where it is dropped.
+fn session_in(
+    rt: &impl Abort,
+    alloc: Global,
+    form: DocumentForm,
+    text: &str,
+) -> Box<SessionCredential> {
+    let found = session_of_json(alloc, form, "the test", text).expect(rt, "a document");
+    Box::new(alloc, found.expect(rt, "a credential")).expect(rt, "memory")
+}
+
 pub(crate) fn key_and_token(rt: &impl Abort, alloc: Global, session: &SessionCredential) -> String {
-    let access = text_of(rt, alloc, session.key().access());
-    let token = text_of(rt, alloc, session.token().unwrap_or(b"none"));
+    let access = str_of(rt, session.key().access());
+    let token = str_of(rt, session.token().unwrap_or(b"none"));
     format!(in alloc; "{access} {token}").expect(rt, "memory")
 }
 
@@ -223,14 +233,19 @@ static REFUSED: [(DocumentForm, &str, &str); 27] = [
 #[test]
 fn documents_without_a_credential_are_refused(rt: HostRuntime) {
     for (form, text, wanted) in &REFUSED {
-        let found = session_of_json(rt.alloc(), *form, "the test", *text);
-        let told = refusal(&rt, rt.alloc(), found.err());
-        is_text(&rt, message_of(&rt, rt.alloc(), told), *wanted);
+        is_text(&rt, refused(&rt, rt.alloc(), *form, *text), *wanted);
     }
+}
+
+fn refused(rt: &impl Abort, alloc: Global, form: DocumentForm, text: &str) -> String {
+    let error = session_of_json(alloc, form, "the test", text).err();
+    message_of(rt, alloc, refusal(rt, alloc, error))
 }
 
 /// What is told of an invalid credential, behind that word.
 fn message_of(rt: &impl Abort, alloc: Global, told: String) -> String {
     let message = told.as_str().strip_prefix("CredentialInvalid: ");
-    text_of(rt, alloc, message.unwrap_or("another kind").as_bytes())
+    let message = text_of(rt, alloc, message.unwrap_or("another kind").as_bytes());
+    drop(told);
+    message
 }

@@ -2,7 +2,7 @@
 use crate::environment_key::{EnvironmentKey, Surroundings};
 use crate::session_signer::{Variables, environment};
 use crate::suite::{NOW, moment};
-use crate::told::{header_of, is_text, request};
+use crate::told::{header_of, is_text, message_of, request, text_of};
 use credentials::{OsEnv, Providers};
 use http::request::Parts;
 use sequential_signer::SigningCredential;
@@ -40,7 +40,7 @@ fn sign(
     let sign = signer.sign(0, req, None).expect(rt, "a call");
     let SignPoll { answer, .. } = signer.poll(sign, req, now);
     match answer {
-        SignAnswer::Done => header_of(rt, alloc, req, "authorization"),
+        SignAnswer::Done => text_of(rt, alloc, header_of(rt, req, "authorization").as_bytes()),
         SignAnswer::Refused(why) => error_text(rt, alloc, why),
         goes_on => {
             drop(goes_on);
@@ -51,8 +51,7 @@ fn sign(
 
 fn error_text(rt: &impl Abort, alloc: Global, why: Refusal) -> String {
     let error = why.into_error(alloc, SigCredential::NAME);
-    let error = error.expect(rt, "memory");
-    format!(in alloc; "{error}").expect(rt, "memory")
+    message_of(rt, alloc, error.expect(rt, "memory"))
 }
 
 /// What a signer in this environment makes of the published request, to this URI, at 2015-08-30T12:36:00Z.
@@ -60,10 +59,17 @@ fn signed_in(rt: &impl Abort, alloc: Global, set: Variables, uri: &str) -> Strin
     let now = moment(rt, NOW);
     let form = b"application/x-www-form-urlencoded; charset=utf-8".as_slice();
     let mut req = request(rt, alloc, uri, &[("content-type", form)]);
-    let mut signer = aws_signer(alloc, environment(rt, alloc, set), now).expect(rt, "memory");
+    let mut signer = boxed_signer(rt, alloc, set, now);
     let told = sign(rt, alloc, &mut signer, &mut req, now);
     drop(signer);
+    drop(req);
     told
+}
+
+/// In a box it is one value to whoever proves where it is dropped.
+fn boxed_signer(rt: &impl Abort, alloc: Global, set: Variables, now: Timestamp) -> Box<AwsSigner> {
+    let signer = aws_signer(alloc, environment(rt, alloc, set), now);
+    Box::new(alloc, signer.expect(rt, "memory")).expect(rt, "memory")
 }
 
 /// The URI as it is published.

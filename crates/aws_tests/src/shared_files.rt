@@ -5,7 +5,7 @@
 ghost use Rattle.std.specs.Prelude.{⊤};
 
 use crate::session_signer::{Variables, variables};
-use crate::told::{is_text, text_of};
+use crate::told::{is_text, message_of, str_of, text_of};
 use aws_credentials::SessionCredential;
 use aws_profiles::{
     ProfileProvider, SharedFile, aws_chain, profile_session, read_settings, value_of,
@@ -228,37 +228,47 @@ fn a_file_that_is_too_long_is_a_failure(rt: HostRuntime) {
 fn told_of_remark(rt: &impl Abort, alloc: Global, end: &[u8]) -> String {
     let mut bytes = vec![in alloc; b'#'; 1_048_576].expect(rt, "memory");
     bytes.extend_from_slice(end).expect(rt, "memory");
-    told(rt, alloc, SharedFile::Config, "default", bytes.as_slice())
+    let told = told(rt, alloc, SharedFile::Config, "default", bytes.as_slice());
+    drop(bytes);
+    told
 }
 
 /// The three texts of a profile's key in a file, or why there is none.
 fn told(rt: &impl Abort, alloc: Global, file: SharedFile, profile: &str, bytes: &[u8]) -> String {
     match profile_session(alloc, file, profile, bytes) {
-        Ok(Some(session)) => texts(rt, alloc, &session, secret(rt, alloc, file, profile, bytes)),
+        Ok(Some(session)) => {
+            let told = texts(rt, alloc, &session, secret(rt, alloc, file, profile, bytes));
+            drop(session);
+            told
+        }
         Ok(None) => text_of(rt, alloc, b"none"),
-        Err(error) => format!(in alloc; "{error}").expect(rt, "memory"),
+        Err(error) => message_of(rt, alloc, error),
     }
 }
 
 fn texts(rt: &impl Abort, alloc: Global, session: &SessionCredential, secret: String) -> String {
-    let access = text_of(rt, alloc, session.key().access());
-    let token = text_of(rt, alloc, session.token().unwrap_or(b"-"));
-    format!(in alloc; "{access} {secret} {token}").expect(rt, "memory")
+    let access = str_of(rt, session.key().access());
+    let token = str_of(rt, session.token().unwrap_or(b"-"));
+    let told = format!(in alloc; "{access} {secret} {token}").expect(rt, "memory");
+    drop(secret);
+    told
 }
 
 /// The secret, which no credential hands out.
 fn secret(rt: &impl Abort, alloc: Global, file: SharedFile, profile: &str, bytes: &[u8]) -> String {
     let settings = read_settings(alloc, bytes).expect(rt, "settings");
     let secret = value_of(settings.as_slice(), file, profile, "AWS_SECRET_ACCESS_KEY");
-    text_of(rt, alloc, secret.expect(rt, "a secret").as_bytes())
+    let secret = text_of(rt, alloc, secret.expect(rt, "a secret").as_bytes());
+    drop(settings);
+    secret
 }
 
 /// Files, by their paths. Each read is pending at its first poll.
-#[derive(Drop)]
+#[derive(Clone, Copy)]
 pub(crate) struct SomeFiles(pub(crate) Files);
 
 /// A read of the file at this place, if there is one.
-#[derive(Drop)]
+#[derive(Clone, Copy)]
 pub(crate) struct SomeRead {
     place: Option<usize>,
     was_polled: bool,
@@ -400,10 +410,12 @@ fn told_in(rt: &impl Abort, alloc: Global, program: &Program) -> String {
         Some(name) => ProfileProvider::of_profile(text_of(rt, alloc, name.as_bytes())),
         None => ProfileProvider::new(),
     };
-    told_by(rt, alloc, &provider, program)
+    let told = told_by(rt, alloc, &provider, program);
+    drop(provider);
+    told
 }
 
-/// The access key that a provider finds there, after at most three polls, or why it finds none.
+/// What is told of a provider there.
 fn told_by<P>(rt: &impl Abort, alloc: Global, provider: &P, program: &Program) -> String
 where
     P: ProvideCredential<Credential = SessionCredential, Ctx = Surroundings>,
@@ -411,11 +423,22 @@ where
     let context = Context::new()
         .with_file_read(SomeFiles(program.2))
         .with_env(environment(rt, alloc, program));
+    let told = told_with(rt, alloc, provider, &context);
+    drop(context);
+    told
+}
+
+/// The access key that a provider finds in this context, after at most three polls, or why it finds none.
+fn told_with<P>(rt: &impl Abort, alloc: Global, provider: &P, context: &Surroundings) -> String
+where
+    P: ProvideCredential<Credential = SessionCredential, Ctx = Surroundings>,
+{
     let mut load = provider
-        .provide_credential(alloc, &context)
+        .provide_credential(alloc, context)
+        .ok()
         .expect(rt, "memory");
     for _ in 0..3 {
-        match provider.poll_load(alloc, &context, &mut load) {
+        match provider.poll_load(alloc, context, &mut load) {
             Polled::Pending => {}
             answer => return told_of(rt, alloc, answer),
         }
@@ -451,18 +474,30 @@ fn the_environment_goes_before_the_files(rt: HostRuntime) {
 /// What is told of the chain of providers there.
 fn told_in_order(rt: &impl Abort, alloc: Global, program: &Program) -> String {
     match aws_chain(alloc).expect(rt, "memory") {
-        Providers::Chain(chain) => told_by(rt, alloc, &chain, program),
+        Providers::Chain(chain) => {
+            let told = told_by(rt, alloc, &chain, program);
+            drop(chain);
+            told
+        }
         Providers::Single(_) => text_of(rt, alloc, b"no chain"),
     }
 }
 
 fn told_of(rt: &impl Abort, alloc: Global, answer: Polled<Option<SessionCredential>>) -> String {
     match answer {
-        Polled::Ready(Some(session)) => text_of(rt, alloc, session.key().access()),
-        Polled::Ready(None) => text_of(rt, alloc, b"none"),
-        Polled::Failed(error) => format!(in alloc; "{error}").expect(rt, "memory"),
+        Polled::Ready(found) => access_of(rt, alloc, found),
+        Polled::Failed(error) => message_of(rt, alloc, error),
         Polled::Pending | Polled::OutOfMemory => text_of(rt, alloc, b"no answer"),
     }
+}
+
+fn access_of(rt: &impl Abort, alloc: Global, found: Option<SessionCredential>) -> String {
+    let told = match &found {
+        Some(session) => text_of(rt, alloc, session.key().access()),
+        None => text_of(rt, alloc, b"none"),
+    };
+    drop(found);
+    told
 }
 
 /// An environment with this home folder and these variables.

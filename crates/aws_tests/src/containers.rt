@@ -25,7 +25,7 @@ pub(crate) enum Table {
 }
 
 /// Answers the requests that its row of the table knows, and all others with status 400.
-#[derive(Drop)]
+#[derive(Clone, Copy)]
 pub(crate) struct Routes {
     pub(crate) table: Table,
     pub(crate) row: usize,
@@ -284,5 +284,7 @@ fn containers_ask_their_endpoint(rt: HostRuntime) {
 /// What the provider answers in the end, in words.
 fn asked(rt: &impl Abort, alloc: Global, set: Variables, row: usize) -> String {
     let ctx = asking(rt, alloc, set, Table::Containers, row);
-    answered(rt, alloc, &ContainerProvider::new(), &ctx)
+    let told = answered(rt, alloc, &ContainerProvider::new(), &ctx);
+    drop(ctx);
+    told
 }
