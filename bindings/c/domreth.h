@@ -1,14 +1,17 @@
 /* Requests signed for AWS, links made and checked, and the commands of `signctl` over lines, in this process. Link with
- * bindings/lib/libdomreth.a, or with libdomreth.so beside it; `scripts/build-domreth` makes both.
+ * bindings/lib/libdomreth.a, or with libdomreth.so beside it; `scripts/build-domreth` makes both, and
+ * `scripts/install-domreth` puts them where `pkg-config domreth` finds them.
  *
  * Who owns what. All that is handed to a call is the caller's, is lent to it until it returns, and is kept nowhere.
  * A call writes to `output` and `needed` alone, and holds nothing between calls: but a desk, which is below.
  *
- * Pointers. No pointer is null, also where its length is 0: it may be to anything there. `output` and `needed` lie
- * apart from all else that the call is handed. Bytes need not be UTF-8, and end by no zero.
+ * Pointers. A pointer to a row of bytes or of headers may be null where its length is 0, and be to anything there. No
+ * other pointer is null. `output` and `needed` lie apart from all else that the call is handed. Bytes need not be
+ * UTF-8, and end by no zero.
  *
  * Threads. Calls may run side by side. No call from a signal handler, and none from the forked child of a process
- * with threads. malloc, realloc and free are of one allocator, and no call aborts.
+ * with threads. malloc, realloc and free are of one allocator, and no call aborts: but in a library that is not proved,
+ * where a failed check of its own ends the process by a trap.
  *
  * Secrets. What a call copies of a secret it frees, and does not wipe. A derived key that is handed over is the caller's,
  * and a secret, too: keep it out of logs, and wipe it once its day is over. */
@@ -22,6 +25,23 @@
 #ifdef __cplusplus
 extern "C" {
 #endif
+
+/* ---- Which library this is */
+
+/* The ABI that this header declares: the calls, their structures and their numbers. It rises where a program that was
+ * compiled before would be wrong, and with it the name that the shared library is loaded by: libdomreth.so.1. Other
+ * languages, which do not read this header, compare the number that they know with domreth_abi(). */
+#define DOMRETH_ABI 1
+uint32_t domreth_abi(void);
+
+/* Three words: the version, a sum over the sources, and `proved` or `not-proved`. It stays where it is, and is not freed. */
+const char *domreth_version(void);
+
+/* 1 where each function of the library was proved before it was compiled, and 0 where it was compiled without a proof, by
+ * `scripts/build-domreth --unproved`. That it was so is the word of the script, and nothing that a program can check. */
+int domreth_is_proved(void);
+
+/* ---- Heads and lines */
 
 /* The status of a call. At DOMRETH_DONE and DOMRETH_BAD_LINE `output` begins with the text, `needed` is its length, and
  * behind it `output` is as before. At DOMRETH_NO_ROOM the text does not fit and `needed` is its length; at each other
