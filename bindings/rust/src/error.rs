@@ -3,6 +3,7 @@ use std::fmt;
 
 /// Why a command did not answer all of its input. Its debug text shows nothing of the input.
 #[derive(Clone, PartialEq, Eq)]
+#[non_exhaustive]
 pub enum RunError {
     /// A line is bad, or the input too long. This is the output, which ends by saying so.
     BadLine(Vec<u8>),

@@ -78,6 +78,12 @@ pub(crate) struct DerivedKey<'a> {
 // No pointer is null. Each is to as many bytes, or headers, as the length behind it, which are lent for the call; `output`
 // is to so many bytes that nothing else reads or writes meanwhile, and so is `needed`.
 unsafe extern "C" {
+    pub(crate) fn domreth_abi() -> u32;
+
+    pub(crate) fn domreth_is_proved() -> std::ffi::c_int;
+
+    pub(crate) fn domreth_version() -> *const std::ffi::c_char;
+
     pub(crate) fn domreth_run(
         command: *const u8,
         command_len: usize,

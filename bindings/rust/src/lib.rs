@@ -40,7 +40,10 @@ mod room;
 mod run;
 pub mod signer;
 pub mod sigv4;
+mod version;
+mod wiped;
 
 pub use command::Command;
 pub use error::RunError;
 pub use run::run;
+pub use version::{is_proved, version};

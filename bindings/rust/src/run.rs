@@ -1,6 +1,6 @@
 //! The commands of `signctl` over bytes.
 use crate::room::text_of;
-use crate::{Command, RunError, ffi};
+use crate::{Command, RunError, ffi, version};
 
 /// The output of the command to the input: what the program writes to it. It is a function of both.
 ///
@@ -18,6 +18,7 @@ use crate::{Command, RunError, ffi};
 /// # Ok::<(), RunError>(())
 /// ```
 pub fn run(command: Command, input: &[u8]) -> Result<Vec<u8>, RunError> {
+    version::look();
     let room = input.len().saturating_mul(2).saturating_add(1024);
     match text_of(room, |output, needed| call(command, input, output, needed)) {
         (ffi::DONE, text) => Ok(text),

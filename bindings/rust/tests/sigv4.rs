@@ -1,6 +1,11 @@
 //! Heads, links and checks: what AWS publishes, and each cause. Values with tokens are those of Python's hmac
 //! (`bindings/python/second_sigv4.py`).
-use domreth::sigv4::{Credential, Head, Payload, RequestSigner, SignError, Version};
+use domreth::signer::{BoxError, ProvideCredential, Refusal, Signer};
+use domreth::sigv4::{
+    Credential, Head, Payload, RequestSigner, SessionKey, SigV4, SignError, SignableRequest, Version,
+};
+use std::pin::pin;
+use std::task::{Context, Poll, Waker};
 use std::time::{Duration, SystemTime, UNIX_EPOCH};
 
 const EMPTY: &str = "e3b0c44298fc1c149afbf4c8996fb92427ae41e4649b934ca495991b7852b855";
@@ -163,4 +168,71 @@ fn no_secret_is_shown() {
     assert_eq!(format!("{:#?}", credential().with_session_token("t")), "Credential(***)");
     assert_eq!(format!("{:?}", get(URI, &[])), "Head(***)");
     assert_eq!(format!("{:#?}", s3().derive_key(&credential(), date()).unwrap()), "DerivedKey(***)");
+}
+
+/// A request as a client has it.
+#[derive(Clone)]
+struct Get {
+    uri: String,
+    headers: Vec<(String, String)>,
+}
+
+impl SignableRequest for Get {
+    fn method(&self) -> &str {
+        "GET"
+    }
+
+    fn uri(&self) -> String {
+        self.uri.clone()
+    }
+
+    fn headers(&self) -> Vec<(&str, &[u8])> {
+        self.headers.iter().map(|(name, value)| (name.as_str(), value.as_bytes())).collect()
+    }
+
+    fn set_header(&mut self, name: &str, value: String) -> Result<(), BoxError> {
+        self.headers.retain(|(its, _)| !its.eq_ignore_ascii_case(name));
+        self.headers.push((name.into(), value));
+        Ok(())
+    }
+}
+
+struct Published;
+
+impl ProvideCredential for Published {
+    type Credential = SessionKey;
+    type Context = ();
+
+    async fn provide_credential(&self, _ctx: &()) -> Result<Option<SessionKey>, BoxError> {
+        Ok(Some(SessionKey { credential: credential(), expires: date().checked_add(DAY) }))
+    }
+}
+
+/// What the ready service signs, by a clock that stands at the moment.
+fn signed(headers: &[(&str, &str)], now: SystemTime) -> Result<Get, Refusal> {
+    let signer = Signer::new((), Published, SigV4::new("s3", "us-east-1"))?.with_clock(move || now);
+    let headers = headers.iter().map(|(name, value)| pair(name, value)).collect();
+    let mut request = Get { uri: URI.into(), headers };
+    let signing = pin!(signer.sign(&mut request, None)).poll(&mut Context::from_waker(Waker::noop()));
+    let Poll::Ready(answer) = signing else { panic!("a provider that is ready was waited for") };
+    answer.map(|()| request)
+}
+
+#[test]
+fn the_ready_service_signs_the_published_request() {
+    let request = signed(&[("range", "bytes=0-9"), ("x-amz-content-sha256", EMPTY)], date()).unwrap();
+    let (name, value) = request.headers.last().unwrap();
+    assert_eq!(name, "authorization");
+    assert!(value.ends_with("Signature=f0e8bdb87c964420e857bd35b5d6ed310bd44f0170aba48dd91039c6036bdb41"));
+}
+
+#[test]
+fn the_ready_service_says_that_content_is_not_signed() {
+    let request = signed(&[], date()).unwrap();
+    assert!(request.headers.contains(&pair("x-amz-content-sha256", "UNSIGNED-PAYLOAD")));
+}
+
+#[test]
+fn the_ready_service_does_not_sign_with_a_key_that_ended() {
+    assert!(matches!(signed(&[], date() + DAY), Err(Refusal::Short { .. })));
 }

@@ -34,6 +34,7 @@ impl Desk {
     /// # Ok::<(), DeskError>(())
     /// ```
     pub fn open() -> Result<Desk, DeskError> {
+        crate::version::look();
         let mut desk = Desk { desk: Cell::new(ffi::Desk::CLOSED) };
         DeskError::check(ffi::domreth_desk_open(desk.desk.get_mut()))?;
         Ok(desk)

@@ -24,7 +24,14 @@
 //! case.
 //!
 //! Poll each future until it returns, or drop it: one that is kept and not polled keeps its turn, as one that keeps a
-//! lock does.
+//! lock does. So does a branch of `select!` that is not polled while another one is worked on.
+//!
+//! # Under tokio
+//!
+//! A call that finds a fresh credential is ready at its first poll, and counts nothing against tokio's budget. A loop of
+//! such calls never yields: put `tokio::task::yield_now().await` into it if other tasks of its thread have to run.
+//! A time limit round a call, as `tokio::time::timeout`, drops it, and with it the load that was under way. So a limit
+//! has to be longer than a load, or the provider spawns its load and keeps the handle.
 //!
 //! # What differs from reqsign-core
 //!

@@ -1,4 +1,5 @@
 //! Keys.
+use crate::wiped::wipe_text;
 use std::fmt;
 
 /// An access key with its secret, and the token of its session where it has one. Its debug text shows nothing of them.
@@ -31,8 +32,18 @@ impl Credential {
     }
 
     /// The same key, of the session with this token.
-    pub fn with_session_token(self, token: impl Into<String>) -> Self {
-        Credential { session_token: Some(token.into()), ..self }
+    #[must_use]
+    pub fn with_session_token(mut self, token: impl Into<String>) -> Self {
+        self.session_token = Some(token.into());
+        self
+    }
+}
+
+/// The secret and the token are wiped.
+impl Drop for Credential {
+    fn drop(&mut self) {
+        wipe_text(&mut self.secret_access_key);
+        self.session_token.iter_mut().for_each(wipe_text);
     }
 }
 

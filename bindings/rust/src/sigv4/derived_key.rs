@@ -2,6 +2,7 @@
 use super::signer::{added, seconds_of};
 use super::{Head, Payload, RequestSigner, SignError};
 use crate::ffi;
+use crate::wiped::{wipe, wipe_text};
 use std::fmt;
 use std::time::SystemTime;
 
@@ -52,8 +53,10 @@ impl DerivedKey {
     }
 
     /// The same key, of the session with this token.
-    pub fn with_session_token(self, token: impl Into<String>) -> Self {
-        DerivedKey { session_token: Some(token.into()), ..self }
+    #[must_use]
+    pub fn with_session_token(mut self, token: impl Into<String>) -> Self {
+        self.session_token = Some(token.into());
+        self
     }
 
     /// The bytes, which are a secret for the key's day, region and service.
@@ -62,6 +65,7 @@ impl DerivedKey {
     }
 
     /// Whether the moment is of the key's day. Where it is not, derive another key.
+    #[must_use]
     pub fn is_for_day_of(&self, now: SystemTime) -> bool {
         self.day == day_of(now)
     }
@@ -97,6 +101,14 @@ impl DerivedKey {
             region: region.into(),
             service: service.into(),
         }
+    }
+}
+
+/// The bytes and the token are wiped.
+impl Drop for DerivedKey {
+    fn drop(&mut self) {
+        wipe(&mut self.bytes);
+        self.session_token.iter_mut().for_each(wipe_text);
     }
 }
 

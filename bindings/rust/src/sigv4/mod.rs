@@ -20,6 +20,7 @@ mod credential;
 mod derived_key;
 mod error;
 mod head;
+mod service;
 mod signer;
 mod token;
 
@@ -27,4 +28,5 @@ pub use credential::Credential;
 pub use derived_key::DerivedKey;
 pub use error::SignError;
 pub use head::{Head, Payload, Version};
+pub use service::{SessionKey, SigV4, SignableRequest};
 pub use signer::RequestSigner;

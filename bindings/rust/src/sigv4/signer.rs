@@ -24,6 +24,7 @@ pub struct RequestSigner {
 impl RequestSigner {
     /// A signer for a service and a region, as `s3` and `us-east-1`. Whether they are a scope is known at the first call.
     pub fn new(service: impl Into<String>, region: impl Into<String>) -> Self {
+        crate::version::look();
         RequestSigner { service: service.into(), region: region.into() }
     }
 
