@@ -216,7 +216,7 @@ class Signer(_Base[Provider]):
 
     A provider is a function that returns `Credentials`, or None where it has none; several are asked in order. The thread that
     finds no fresh credentials loads them, and the others wait for it. Where its load fails, all that wait at it are told so; a
-    later call loads anew. Credentials are used to `early` seconds before they expire: those that live no longer are refused.
+    later call loads anew. From `early` seconds before they expire, others are loaded.
 
     `timeout` is how many seconds a call waits for others. It does not end a load: a provider has a time limit of its own.
     """
