@@ -14,6 +14,7 @@ import sys
 from urllib.parse import unquote_to_bytes
 
 import domreth
+from domreth import _library
 from random_lines import COMMANDS, lines
 
 VERSIONS = {b"0.9": 9, b"1.0": 10, b"1.1": 11, b"2": 20, b"3": 30}
@@ -49,9 +50,9 @@ def compare(program, command, count, seed):
 
 def under_derived_key(head, key, word, second):
     """What is signed under the key that is derived of the secret."""
-    _, derived = domreth._answer(32, lambda *room: domreth._lib.domreth_derive_key(key, second, *room))
-    under = domreth._DerivedKey(key.access, domreth._bytes(derived), key.region, key.service)
-    return domreth._signed(lambda *room: domreth._lib.domreth_sign_with(head, under, word, len(word), second, *room))
+    _, derived = _library.answer(32, lambda *room: _library._lib.domreth_derive_key(key, second, *room))
+    under = _library._DerivedKey(key.access, _library.lend(derived), key.region, key.service)
+    return _library.signed(lambda *room: _library._lib.domreth_sign_with(head, under, word, len(word), second, *room))
 
 
 def field_word(line):
@@ -65,18 +66,18 @@ def without_a_line(words):
     more = 0 if form == b"verify" else 1
     method, uri, version, *headers = rest[more:]
     pairs = [(name, unquote_to_bytes(value)) for name, _, value in (it.partition(b":") for it in headers)]
-    fields = (domreth._Field * max(len(pairs), 1))(*(domreth._Field(domreth._bytes(n), domreth._bytes(v)) for n, v in pairs))
-    head = domreth._Head(domreth._bytes(method), domreth._bytes(uri), fields, len(pairs), VERSIONS[version])
-    key = domreth._Key(*map(domreth._bytes, (access, unquote_to_bytes(secret), region, service)))
+    fields = (_library._Field * max(len(pairs), 1))(*(_library._Field(_library.lend(n), _library.lend(v)) for n, v in pairs))
+    head = _library._Head(_library.lend(method), _library.lend(uri), fields, len(pairs), VERSIONS[version])
+    key = _library._Key(*map(_library.lend, (access, unquote_to_bytes(secret), region, service)))
     try:
         if form == b"verify":
-            status = domreth._lib.domreth_verify(head, key, int(second))
+            status = _library._lib.domreth_verify(head, key, int(second))
             return b"valid" if status == 0 else domreth.Status(status).name.lower().encode()
         if form == b"presign":
-            text = domreth._signed(lambda *room: domreth._lib.domreth_presign(head, key, int(rest[0]), int(second), *room))
+            text = _library.signed(lambda *room: _library._lib.domreth_presign(head, key, int(rest[0]), int(second), *room))
             return b" ".join([b"done", method, text.encode(), version, *headers])
         word = rest[0]
-        text = domreth._signed(lambda *room: domreth._lib.domreth_sign(head, key, word, len(word), int(second), *room))
+        text = _library.signed(lambda *room: _library._lib.domreth_sign(head, key, word, len(word), int(second), *room))
         if under_derived_key(head, key, word, int(second)) != text:
             return b"another text under the derived key"
         kept = [it for it in headers if it.partition(b":")[0].lower() not in (b"authorization", b"x-amz-date")]

@@ -1,6 +1,7 @@
-"""Tests of domreth.py. The values are those of FIPS 180-4 and RFC 4648, what AWS publishes, and those of a second reading of
+"""Tests of domreth. The values are those of FIPS 180-4 and RFC 4648, what AWS publishes, and those of a second reading of
 Signature Version 4 over Python's hmac."""
 
+import dataclasses
 import doctest
 import random
 import time
@@ -56,7 +57,7 @@ class Signing(unittest.TestCase):
         verify("GET", link, KEYS, "us-east-1", "s3", now=DATE + 86399.9)
         for method, now, keys, status in (
             ("GET", DATE + 86400, KEYS, Status.LATE), ("GET", DATE - 0.1, KEYS, Status.EARLY),
-            ("PUT", DATE, KEYS, Status.SIGNATURE), ("GET", DATE, KEYS._replace(access_key="A"), Status.CREDENTIAL),
+            ("PUT", DATE, KEYS, Status.SIGNATURE), ("GET", DATE, dataclasses.replace(KEYS, access_key="A"), Status.CREDENTIAL),
         ):
             with self.assertRaises(SignError) as refused:
                 verify(method, link, keys, "us-east-1", "s3", now=now)
@@ -68,7 +69,7 @@ class Signing(unittest.TestCase):
             url = "https://" + source.choice(("e.x", "e.x:81")) + source.choice(("", "/", "/a%20b/ü", "/a/../b", "//"))
             url += source.choice(("", "?b=2&a=%20x&a=1", "?a", "?a=b=c&%7E=%2f"))
             headers = [(source.choice(("a", "X-B", "x-b", "Host")), source.choice(("1", " a  b ", "", "c,d"))) for _ in range(source.randrange(5))]
-            keys = KEYS._replace(token=source.choice((None, None, "a/b+c==")))
+            keys = dataclasses.replace(KEYS, token=source.choice((None, None, "a/b+c==")))
             service, payload = source.choice(("s3", "s3", "s3express")), source.choice((None, EMPTY))
             now = source.randrange(4 * 10**9)
             date = time.strftime("%Y%m%dT%H%M%SZ", time.gmtime(now))
@@ -76,24 +77,24 @@ class Signing(unittest.TestCase):
             word = payload or "UNSIGNED-PAYLOAD"
             own = {"x-amz-content-sha256": word} if service == "s3" else {}
             own |= {"x-amz-security-token": keys.token} if keys.token else {}
-            expected = second_sigv4.added_headers("GET", url, [*headers, *own.items()], keys[0], keys[1], "us-east-1", service, word, date)
+            expected = second_sigv4.added_headers("GET", url, [*headers, *own.items()], keys.access_key, keys.secret_key, "us-east-1", service, word, date)
             added = sign("GET", url, headers, keys, "us-east-1", service, payload=payload, now=now)
             self.assertEqual(added, {**own, **dict(expected)}, place)
             key = derive_key(keys, "us-east-1", service, now=now // 86400 * 86400 + source.randrange(86400))
             self.assertEqual(key.sign("GET", url, headers, payload=payload, now=now), added, place)
             expires = source.randint(1, 604800)
-            bare = keys._replace(token=None)
+            bare = dataclasses.replace(keys, token=None)
             link = presign("PUT", url, bare, "us-east-1", service, expires=expires, now=now)
-            self.assertEqual(link, second_sigv4.link("PUT", url, keys[0], keys[1], "us-east-1", service, expires, date), place)
+            self.assertEqual(link, second_sigv4.link("PUT", url, keys.access_key, keys.secret_key, "us-east-1", service, expires, date), place)
             verify("PUT", link, bare, "us-east-1", service, now=now + expires - 1)
 
     def test_token(self):
-        keys = KEYS._replace(token="a/b=")
+        keys = dataclasses.replace(KEYS, token="a/b=")
         added = sign("GET", URL, {"X-Amz-Security-Token": "old"}, keys, "us-east-1", "s3", now=DATE)
         self.assertEqual(added["x-amz-security-token"], "a/b=")
         link = presign("GET", URL, keys, "us-east-1", "s3", expires=86400, now=DATE)
         tokened = URL + "?X-Amz-Security-Token=a%2Fb%3D"
-        self.assertEqual(link, second_sigv4.link("GET", tokened, *KEYS[:2], "us-east-1", "s3", 86400, "20130524T000000Z"))
+        self.assertEqual(link, second_sigv4.link("GET", tokened, KEYS.access_key, KEYS.secret_key, "us-east-1", "s3", 86400, "20130524T000000Z"))
         with self.assertRaises(SignError) as refused:
             presign("GET", tokened, keys, "us-east-1", "s3")
         self.assertIs(refused.exception.status, Status.ALREADY)
@@ -108,15 +109,15 @@ class Signing(unittest.TestCase):
         self.assertEqual(key, DerivedKey(KEYS.access_key, key.key, "us-east-1", "s3", DATE + 5))
         for status, changed, asked in (
             (Status.MOMENT, key, {"now": DATE - 0.1}), (Status.MOMENT, key, {"now": DATE + 86400}),
-            (Status.KEY, key._replace(key=key.key[:-1]), {}), (Status.KEY, key._replace(key=key.key + b"0"), {}),
-            (Status.KEY, key._replace(access_key=""), {}), (Status.SCOPE, key._replace(region="US"), {}),
+            (Status.KEY, dataclasses.replace(key, key=key.key[:-1]), {}), (Status.KEY, dataclasses.replace(key, key=key.key + b"0"), {}),
+            (Status.KEY, dataclasses.replace(key, access_key=""), {}), (Status.SCOPE, dataclasses.replace(key, region="US"), {}),
             (Status.PAYLOAD, key, {"payload": "0"}), (Status.AUTHORITY, key, {"url": "/a"}),
         ):
             with self.assertRaises(SignError) as refused:
                 changed.sign(**{"method": "GET", "url": URL, "headers": {}, "now": DATE, **asked})
             self.assertIs(refused.exception.status, status)
         for status, keys, region, now in (
-            (Status.SECOND, KEYS, "us-east-1", 2**62), (Status.KEY, KEYS._replace(secret_key=""), "us-east-1", DATE),
+            (Status.SECOND, KEYS, "us-east-1", 2**62), (Status.KEY, dataclasses.replace(KEYS, secret_key=""), "us-east-1", DATE),
             (Status.SCOPE, KEYS, "US", DATE), (Status.MOMENT, KEYS, "us-east-1", -62167219201),
         ):
             with self.assertRaises(SignError) as refused:
@@ -125,7 +126,7 @@ class Signing(unittest.TestCase):
 
     def test_causes(self):
         for status, change in (
-            (Status.PAYLOAD, {"payload": "0"}), (Status.SECOND, {"now": 2**62}), (Status.KEY, {"credentials": KEYS._replace(secret_key="")}),
+            (Status.PAYLOAD, {"payload": "0"}), (Status.SECOND, {"now": 2**62}), (Status.KEY, {"credentials": dataclasses.replace(KEYS, secret_key="")}),
             (Status.SCOPE, {"region": "US"}), (Status.HEAD, {"headers": {"a": "\n"}}), (Status.HEAD, {"method": "GET "}),
             (Status.AUTHORITY, {"url": "/a"}), (Status.PATH, {"url": "https://e.x/%20", "service": "ec2"}), (Status.MOMENT, {"now": -62167219201}),
         ):
