@@ -374,6 +374,7 @@ class Tasks(unittest.IsolatedAsyncioTestCase):
                 ends.append(None)
         self.assertIsNone(ends[0])
         self.assertIsNotNone(ends[-1])
+        await asyncio.sleep(0.01)  # A call on cached keys does not yield: the end of the load is looked at now.
         self.empty(signer)
 
     async def test_a_load_that_is_cancelled(self):
